@@ -1,18 +1,20 @@
 -- What entries lead to, one after another.
-use Rattle.std.proofs.Common.{◌≡◌, ℕ, List, [], ◌∷◌, ◌++◌, Result, Ok, Err, refl, sym, ap, ◌∙◌, subst}
+use Rattle.std.proofs.Common.{◌≡◌, ℕ, List, [], ◌∷◌, ◌++◌, Result, Ok, Err, refl, sym, ap, ◌∙◌, subst, append_assoc}
 use Rattle.std.specs.Prelude.{flat_map}
+use Rattle.append_log.specs.Contents.{Contents, file_of, with_added}
 use Rattle.std.proofs.lemmas.Grind.{flat_map-append}
 use Rattle.ocpp_scalars.specs.ResultSteps.{◌>>=◌}
 use Rattle.site_core.specs.State.{MachineState}
 use Rattle.site_journal.specs.declared.restore_fault.RestoreFault.{RestoreFault}
-use Rattle.site_journal.specs.Entry.{entry_text, numbered}
+use Rattle.site_journal.specs.Entry.{EntryState, entry_text, numbered}
 use Rattle.site_journal.specs.Forgetting.{forget}
 use Rattle.site_journal.specs.Line.{LineState, line_text}
+use Rattle.site_journal.specs.MadeStep.{IsOfMadeStep}
 use Rattle.site_journal.specs.NotedRun.{begins, notes, NotedRunsAreRestored}
 use Rattle.site_journal.specs.RecordedStates.{EndsAt}
 use Rattle.site_journal.specs.Restore.{restored, restored_lines}
 use Rattle.journal_writer.specs.declared.numbered_entry.NumberedEntry.{NumberedEntry}
-use Rattle.journal_writer.specs.Account.{AccountsFor, nothing, more, AreRestored, EntriesAreRestored, LeadsOn, texts_of}
+use Rattle.journal_writer.specs.Account.{AccountsFor, nothing, more, EntriesAreRestored, HasLinesUpTo, IsNoted, NotedState, texts_of}
 
 -- ---- lists
 
@@ -62,11 +64,70 @@ goes_on first _ _ entries _ accounts (more middle states later others entry behi
     moved [] = refl
     moved (e ∷ es) = ap (λ (rest : List NumberedEntry). e ∷ rest) (moved es)
 
+-- none are noted
+pub none_noted : (first last : List MachineState) (entries : List NumberedEntry) → first ≡ last
+    → entries ≡ [] → AccountsFor first entries last
+none_noted first last entries same none =
+    subst (λ (states : List MachineState). AccountsFor first entries states) same
+    (subst (λ (es : List NumberedEntry). AccountsFor first es first) (sym none) (nothing first))
+
+-- a step is noted
+pub step_noted : (first last before after : List MachineState) (entries items : List NumberedEntry)
+    (entry : EntryState) (number : ℕ) → AccountsFor first entries last → last ≡ before
+    → IsOfMadeStep entry number (EndsAt before) (EndsAt after)
+    → items ≡ entries ++ (record { entry = entry; number = number }) ∷ []
+    → AccountsFor first items after
+step_noted first last before after entries items entry number accounts same made pushed =
+    subst (λ (es : List NumberedEntry). AccountsFor first es after) (sym pushed)
+    (more first last after entries (record { entry = entry; number = number }) accounts (record {
+      line = made.line;
+      entry_is = made.entry_is;
+      old = made.old.present;
+      new = made.new.present;
+      was = subst (λ (states : List MachineState). EndsAt states made.old.present) (sym same) made.was_before;
+      is = made.is_after;
+      leads = made.leads;
+    }))
+
 -- the texts of both
 pub texts_of_both : (entries others : List NumberedEntry)
     → texts_of (entries ++ others) ≡ texts_of entries ++ texts_of others
 texts_of_both entries others =
     flat_map-append (λ (e : NumberedEntry). entry_text e.entry e.number) entries others
+
+-- a file has its lines up to the states that it begins with
+pub begun_so : (states : List MachineState) (bytes : List ℕ) → HasLinesUpTo states bytes
+begun_so states bytes = record {
+  begun = bytes;
+  first = states;
+  entries = [];
+  bytes_are = sym (no_bytes bytes);
+  accounts = nothing states;
+}
+  where
+    no_bytes : (bs : List ℕ) → bs ++ [] ≡ bs
+    no_bytes [] = refl
+    no_bytes (b ∷ bs) = ap (λ (rest : List ℕ). b ∷ rest) (no_bytes bs)
+
+-- and with the lines of others, up to where these lead
+pub lines_added : (old new : Contents) (states : List MachineState) (taken : NotedState)
+    (lines : List ℕ) → HasLinesUpTo states (file_of old) → taken.first ≡ states → IsNoted taken
+    → lines ≡ texts_of taken.entries → new ≡ with_added old lines
+    → HasLinesUpTo taken.last (file_of new)
+lines_added old new states taken lines has next noted lines_are added = record {
+  begun = has.begun;
+  first = has.first;
+  entries = has.entries ++ taken.entries;
+  bytes_are =
+      ap (λ (c : Contents). file_of c) added
+      ∙ sym (append_assoc old.synced old.appended lines)
+      ∙ ap (λ t. t ++ lines) has.bytes_are
+      ∙ ap (λ t. (has.begun ++ texts_of has.entries) ++ t) lines_are
+      ∙ append_assoc has.begun (texts_of has.entries) (texts_of taken.entries)
+      ∙ ap (λ t. has.begun ++ t) (sym (texts_of_both has.entries taken.entries));
+  accounts = goes_on has.first states taken.last has.entries taken.entries has.accounts
+      (subst (λ (first : List MachineState). AccountsFor first taken.entries taken.last) next noted);
+}
 
 -- ---- lines
 

@@ -1,7 +1,7 @@
 //! Steps that were noted, and not written yet.
 
 ghost use Rattle.std.specs.Prelude.{◌≡◌, ◌∷◌, ◌++◌, [], false, true, string_bytes, IfOk, IsTrue, OnOk};
-ghost use Rattle.journal_writer.specs.Account.{NotedState, texts_of};
+ghost use Rattle.journal_writer.specs.Account.{IsNoted, NotedState, texts_of};
 ghost use Rattle.site_journal.specs.MadeStep.{IsOfMadeStep};
 ghost use Rattle.site_journal.specs.RecordedStates.{EndsAt};
 
@@ -99,6 +99,7 @@ impl<J: ChronicleName> NotedSteps<J> {
         requires { self.old.entries ≡ [] }
         ensures taken { result ≡ true → self.new ≡ noted.old }
         ensures next { result ≡ true → self.old.last ≡ noted.old.first }
+        ensures first { self.new.first ≡ self.old.first }
         ensures left { result ≡ true → noted.new ≡ record {
           first = noted.old.last;
           entries = [];
@@ -118,8 +119,9 @@ impl<J: ChronicleName> NotedSteps<J> {
 
     /// Appends the lines of all steps to a text. Where memory runs out, some may be missing.
     pub(crate) fn push_lines(&self, text: &mut String) -> Result<(), AllocError>
-        ensures { OnOk result
+        ensures lines { OnOk result
             (string_bytes text.new ≡ string_bytes text.old ++ texts_of self.now.entries) }
+        ensures noted { IsNoted self.now }
     {
         for numbered in &self.entries {
             numbered.entry.push(text, numbered.number)?;

@@ -2,11 +2,9 @@ pub mod LineWriting
 pub mod LineCodec
 pub mod LinePieces
 pub mod LineEnds
-pub mod StepLemmas
 pub mod RestoreLemmas
 pub mod NotedLemmas
 pub mod LostLemmas
 pub mod JournalLemmas
 pub mod ForgettingLemmas
 pub mod NotedRunLemmas
-pub mod RecordedLemmas

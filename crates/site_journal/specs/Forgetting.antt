@@ -1,12 +1,8 @@
 -- Requests for schedules change nothing else: a history leads where it leads without them.
-use Rattle.std.specs.Prelude.{not, List, [], filter}
+use Rattle.std.specs.Prelude.{not, List, filter}
 use Rattle.site_core.specs.State.{MachineState}
 use Rattle.site_core.specs.History.{Event, Legal}
-use Rattle.version_store.specs.Recording.{is_of_request}
-
--- a state without its requests, and without the number that was drawn last for one
-abbrev pub forget : MachineState → MachineState
-forget state = record state { requests = []; numbers = record state.numbers { request = 0 } }
+use Rattle.version_store.specs.Recording.{forget, is_of_request}
 
 abbrev pub without_requests : List Event → List Event
 without_requests events = filter (λ (event : Event). not (is_of_request event.step)) events

@@ -6,17 +6,18 @@ ghost use Rattle.site_journal.specs.ByCases.LostLinks.{GivesNoLink, HasNoLinkAt}
 ghost use Rattle.site_journal.specs.LostLinks.{HasNoLinks, LosesLinks};
 
 use crate::line::{Line, Noted, push_line};
+use chronicle::ChronicleName;
 use ocpp_scalars::{Instant, Refusal};
 use site_core::PointId;
 use std::alloc::Global;
 use std::sync::ledger::Ledger;
-use version_store::{Book, Recorder};
+use version_store::Book;
 
 /// Each point that has a link loses it, and the lines that say so at this moment are appended to a
 /// text, for the journal. Calls that were in flight wait again.
-pub fn lose_links<C: Ledger, A: Ledger, N: Recorder>(
+pub fn lose_links<C: Ledger, A: Ledger, K: ChronicleName>(
     alloc: Global,
-    book: &mut Book<C, A, N>,
+    book: &mut Book<C, A, K>,
     moment: Instant,
     text: &mut String,
 ) -> Result<(), Refusal>
@@ -32,9 +33,9 @@ pub fn lose_links<C: Ledger, A: Ledger, N: Recorder>(
 }
 
 /// The point at a place of the site file loses its link, if it has one.
-fn lose_link<C: Ledger, A: Ledger, N: Recorder>(
+fn lose_link<C: Ledger, A: Ledger, K: ChronicleName>(
     alloc: Global,
-    book: &mut Book<C, A, N>,
+    book: &mut Book<C, A, K>,
     place: usize,
     moment: Instant,
     text: &mut String,
@@ -55,8 +56,8 @@ fn lose_link<C: Ledger, A: Ledger, N: Recorder>(
 }
 
 /// The point of an identity loses this link.
-fn lose<C: Ledger, A: Ledger, N: Recorder>(
-    book: &mut Book<C, A, N>,
+fn lose<C: Ledger, A: Ledger, K: ChronicleName>(
+    book: &mut Book<C, A, K>,
     point: PointId,
     link: u64,
     moment: Instant,

@@ -9,6 +9,7 @@ ghost use Rattle.site_journal.specs.ByCases.Restore.{Leads, confirmed, judged};
 ghost use Rattle.site_journal.specs.Restore.{judged_exactly, made_with};
 
 use crate::restore_fault::RestoreFault;
+use chronicle::ChronicleName;
 use ocpp_scalars::Refusal;
 use ocppj_frame::ReadingMemory;
 use site_core::PointId;
@@ -16,17 +17,17 @@ use std::alloc::{AllocError, Global};
 use std::sync::ledger::Ledger;
 use sweep_compiler::{AuditJob, Judged, verdicts_are_computed};
 use texts::{Asked, SentText, asked_of, said_of};
-use version_store::{Book, Recorder};
+use version_store::Book;
 
 /// A reply that stands on a `verdict` line in place of one that was judged short of memory: read
 /// again, that might come to another verdict, and this one comes to Unsettled as it did.
 pub const UNREAD_REPLY: &str = r#"[3,"",{"status":"Accepted"}]"#;
 
 /// Confirms the call that a point's reply names, over this link.
-pub(crate) fn confirm_call<C: Ledger, A: Ledger, N: Recorder>(
+pub(crate) fn confirm_call<C: Ledger, A: Ledger, K: ChronicleName>(
     alloc: Global,
     memory: &mut ReadingMemory,
-    book: &mut Book<C, A, N>,
+    book: &mut Book<C, A, K>,
     text: &SentText<'_>,
     link: u64,
 ) -> Result<(), RestoreFault>
@@ -48,8 +49,8 @@ pub(crate) fn confirm_call<C: Ledger, A: Ledger, N: Recorder>(
     }
 }
 
-fn confirm<C: Ledger, A: Ledger, N: Recorder>(
-    book: &mut Book<C, A, N>,
+fn confirm<C: Ledger, A: Ledger, K: ChronicleName>(
+    book: &mut Book<C, A, K>,
     point: PointId,
     link: u64,
     call: u64,
@@ -65,10 +66,10 @@ fn confirm<C: Ledger, A: Ledger, N: Recorder>(
 }
 
 /// Judges the point's audit whose call has this number by what the point replied.
-pub(crate) fn judge_audit<C: Ledger, A: Ledger, N: Recorder>(
+pub(crate) fn judge_audit<C: Ledger, A: Ledger, K: ChronicleName>(
     alloc: Global,
     memory: &mut ReadingMemory,
-    book: &mut Book<C, A, N>,
+    book: &mut Book<C, A, K>,
     text: &SentText<'_>,
     call: u64,
 ) -> Result<(), RestoreFault>
@@ -83,10 +84,10 @@ pub(crate) fn judge_audit<C: Ledger, A: Ledger, N: Recorder>(
     }
 }
 
-fn judge<C: Ledger, A: Ledger, N: Recorder>(
+fn judge<C: Ledger, A: Ledger, K: ChronicleName>(
     alloc: Global,
     memory: &mut ReadingMemory,
-    book: &mut Book<C, A, N>,
+    book: &mut Book<C, A, K>,
     text: &SentText<'_>,
     call: u64,
     job: AuditJob,

@@ -1,5 +1,6 @@
--- The state that a step led to is recorded, or needn't be.
-use Rattle.std.proofs.Common.{◌≡◌, true, false, sym, subst, ⊎_elim}
+-- The state that a step led to is recorded, or needn't be. As many states are the same.
+use Rattle.std.proofs.Common.{◌≡◌, ℕ, ◌<◌, ◌≤◌, true, false, List, [], ◌∷◌, ◌++◌, length, refl, sym, ap, ◌∙◌, subst, ⊎_elim, arith}
+use mathlib.Core.List.{IsPrefix}
 use Rattle.site_core.specs.declared.step.Step.{Step}
 use Rattle.site_core.specs.declared.reply.Reply.{Reply}
 use Rattle.site_core.specs.State.{MachineState}
@@ -7,41 +8,79 @@ use Rattle.site_core.specs.Step.{is_event}
 use Rattle.site_core.specs.StoredHistory.{StoredEvent}
 use Rattle.version_store.specs.Store.{StoreState}
 use Rattle.version_store.specs.Calls.{Adds, Makes, RepliesAlone, event_alone}
-use Rattle.version_store.specs.Recording.{RequestsAreLeftOut, is_of_request}
+use Rattle.version_store.specs.Recording.{EndsAt, IsAt, IsCountOf, RecordedState, RequestLeads, forget, is_of_request, last_count}
+use Rattle.version_store.specs.Theory.Forgetting.{request_forgotten}
 
--- where it is kept
-kept_at : (is_at : MachineState → Type 0) (old : StoreState) (step : Step) (reply : Reply)
-    (new : StoreState) → RepliesAlone old step reply new → is_at old.present → is_at new.present
-kept_at is_at old step reply new alone was =
-    subst (λ (s : StoreState). is_at s.present) (sym alone.kept) was
+-- ---- requests
+
+left_out : (recorded : RecordedState) (old new : MachineState) → RequestLeads old new
+    → IsAt recorded old → IsAt recorded new
+left_out recorded old new leads was kept =
+    let before = was kept in (
+      before.0,
+      before.1 ∙ ap (λ (s : MachineState). before.0 ++ s ∷ []) (sym (request_forgotten old new leads)),
+    )
 
 -- an event of a request
-pub adds_request : (is_at : MachineState → Type 0) (old : StoreState) (stored : StoredEvent)
+pub adds_request : (recorded : RecordedState) (old : StoreState) (stored : StoredEvent)
     (reply : Reply) (new : StoreState) → Adds old stored reply new
-    → is_of_request stored.step ≡ true → RequestsAreLeftOut is_at → is_at old.present
-    → is_at new.present
-adds_request is_at old stored reply new adds request law was =
-    law old.present new.present (record {
+    → is_of_request stored.step ≡ true → IsAt recorded old.present → IsAt recorded new.present
+adds_request recorded old stored reply new adds request was =
+    left_out recorded old.present new.present (record {
       stored = stored;
       reply = reply;
       request = request;
       made = adds.made;
     }) was
 
-pub left_out : (is_at : MachineState → Type 0) (old : StoreState) (step : Step) (reply : Reply)
+-- where the state is kept
+kept_at : (recorded : RecordedState) (old : StoreState) (step : Step) (reply : Reply)
+    (new : StoreState) → RepliesAlone old step reply new → IsAt recorded old.present
+    → IsAt recorded new.present
+kept_at recorded old step reply new alone was =
+    subst (λ (s : StoreState). IsAt recorded s.present) (sym alone.kept) was
+
+pub makes_request : (recorded : RecordedState) (old : StoreState) (step : Step) (reply : Reply)
     (new : StoreState) → Makes old step reply new → is_of_request step ≡ true
-    → RequestsAreLeftOut is_at → is_at old.present → is_at new.present
-left_out is_at old step reply new makes request law was =
+    → IsAt recorded old.present → IsAt recorded new.present
+makes_request recorded old step reply new makes request was =
     ⊎_elim
-    (λ adds. adds_request is_at old (event_alone step) reply new adds request law was)
-    (λ alone. kept_at is_at old step reply new alone was)
+    (λ adds. adds_request recorded old (event_alone step) reply new adds request was)
+    (λ alone. kept_at recorded old step reply new alone was)
     makes
 
-pub no_event : (is_at : MachineState → Type 0) (old : StoreState) (step : Step) (reply : Reply)
+-- ---- other steps
+
+pub makes_no_event : (recorded : RecordedState) (old : StoreState) (step : Step) (reply : Reply)
     (new : StoreState) → Makes old step reply new → is_event old.present reply ≡ false
-    → is_at old.present → is_at new.present
-no_event is_at old step reply new makes none was =
+    → IsAt recorded old.present → IsAt recorded new.present
+makes_no_event recorded old step reply new makes none was =
     ⊎_elim
     (λ adds. absurd (cc (adds.event, none)))
-    (λ alone. kept_at is_at old step reply new alone was)
+    (λ alone. kept_at recorded old step reply new alone was)
     makes
+
+-- ---- the same states
+
+same_list : {A : Type 0} (xs ys : List A) → IsPrefix xs ys → length ys ≤ length xs → xs ≡ ys
+same_list [] [] begins le = refl
+same_list [] (y ∷ ys) begins le = absurd (omega arith)
+same_list (x ∷ xs) [] begins le = absurd (cc begins.1)
+same_list (x ∷ xs) (y ∷ ys) begins le =
+    let rest = same_list xs ys (begins.0, cc begins.1) (omega arith) in cc (begins.1, rest)
+
+pub same_count : (xs ys : List MachineState) (one other : ℕ) → IsCountOf xs one
+    → IsCountOf ys other → (length ys ≤ length xs → IsPrefix ys xs)
+    → (length xs ≤ length ys → IsPrefix xs ys) → one ≡ other → one < last_count → xs ≡ ys
+same_count xs ys one other counts others longer shorter same few =
+    let here = counts.exact few in
+    let there = others.exact (omega (arith, same, few)) in
+    same_list xs ys (shorter (omega (arith, here, there, same))) (omega (arith, here, there, same))
+
+pub longer_count : (xs ys : List MachineState) (one other : ℕ) → IsCountOf xs one
+    → IsCountOf ys other → (length ys ≤ length xs → IsPrefix ys xs) → other ≤ one
+    → one < last_count → IsPrefix ys xs
+longer_count xs ys one other counts others longer le few =
+    let here = counts.exact few in
+    let there = others.exact (omega (arith, le, few)) in
+    longer (omega (arith, here, there, le))

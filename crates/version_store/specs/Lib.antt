@@ -6,3 +6,4 @@ pub mod Answers
 pub mod Recording
 pub mod WholeHistory
 pub mod ByCases
+pub mod Theory

@@ -5,6 +5,7 @@ ghost use Rattle.site_core.specs.declared.step.Step.{Step};
 ghost use Rattle.site_core.specs.State.{IsMachine, opening, link_of, link_to_send, outbox_len};
 ghost use Rattle.site_core.specs.Step.{HasAskedConnector, is_reply_to};
 ghost use Rattle.version_store.specs.Passes.{unused_pass, totals_together};
+ghost use Rattle.version_store.specs.Recording.{IsAt};
 ghost use Rattle.version_store.specs.Store.{IsStore, opening_store, may_fold};
 ghost use Rattle.version_store.specs.Calls.{Calls, IsRefusalOf};
 
@@ -18,9 +19,11 @@ use crate::folded::{EventRoom, Folded};
 use crate::history::History;
 use crate::ledgers::Ledgers;
 use crate::pass::{Pass, passes_of};
-use crate::recorder::{NoRecorder, Recorder, make_recorded};
+use crate::recorded_states::{NoName, RecordedStates, StateRecorder};
+use crate::recorder::make_recorded;
 use crate::stored_event::StoredEvent;
 use crate::totals::Totals;
+use chronicle::{ChronicleName, Unnamed};
 use site_core::{Machine, Refused, Reply, Step};
 use site_rules::Site;
 use std::alloc::{AllocError, Global};
@@ -31,15 +34,16 @@ use std::sync::ledger::{Blank, Ledger};
 /// adds one event, and none is ever refused because the history is full. A pass fits only the book
 /// that it was made with, and the two ledgers see to that.
 #[derive(Drop)]
-pub struct Book<C: Ledger, A: Ledger, N: Recorder = NoRecorder> {
+pub struct Book<C: Ledger, A: Ledger, K: ChronicleName = NoName> {
     history: History,
     ledgers: Ledgers<C, A>,
     /// Who records its changes.
-    recorder: N,
+    recorder: StateRecorder<K>,
 }
 
-impl<C: Ledger, A: Ledger, N: Recorder> Model for Book<C, A, N> {
+impl<C: Ledger, A: Ledger, K: ChronicleName> Model for Book<C, A, K> {
     ghost use Rattle.std.specs.Prelude.{◌≡◌};
+    ghost use Rattle.version_store.specs.Recording.{IsAt};
     ghost use Rattle.version_store.specs.Store.{StoreState};
 
     ghost Value = { StoreState };
@@ -47,7 +51,7 @@ impl<C: Ledger, A: Ledger, N: Recorder> Model for Book<C, A, N> {
     ghost view = { λ book. book.history };
 
     ghost invariant = { λ book. (book.ledgers ≡ book.history.made)
-        × N.is_at book.recorder book.history.present };
+        × IsAt book.recorder book.history.present };
 }
 
 impl<C: Ledger, A: Ledger> Book<C, A> {
@@ -68,25 +72,54 @@ impl<C: Ledger, A: Ledger> Book<C, A> {
         ensures passes { IfOk result (λ made. length made.1.items ≡ sessions) }
         ensures unused { IfOk result (λ made. All (λ pass. pass ≡ unused_pass) made.1.items) }
     {
-        Book::make_with(alloc, changes, answers, site, sessions, NoRecorder)
+        Book::make_from(
+            alloc,
+            changes,
+            answers,
+            site,
+            sessions,
+            StateRecorder::nothing(),
+        )
     }
 }
 
-impl<C: Ledger, A: Ledger, N: Recorder + Drop> Book<C, A, N> {
-    /// The same, with who records its changes, and has the state that it begins with.
+impl<C: Ledger, A: Ledger, K: ChronicleName> Book<C, A, K> {
+    /// The same, whose states are recorded in a chronicle.
     pub fn make_with(
         alloc: Global,
         changes: Blank,
         answers: Blank,
         site: Site,
         sessions: u64,
-        recorder: N,
-    ) -> Result<(Book<C, A, N>, Vec<Pass<C, A>>), AllocError>
+        states: Unnamed,
+    ) -> Result<(Book<C, A, K>, Vec<Pass<C, A>>), AllocError>
         requires changes { (changes.name ≡ C.name) × (changes.parts ≡ C.parts)
             × (changes.parts ≡ sessions) }
         requires answers { (answers.name ≡ A.name) × (answers.parts ≡ A.parts)
             × (answers.parts ≡ sessions) }
-        requires recorded { N.is_at recorder (opening site) }
+        requires states { states.name ≡ K.name }
+        ensures book { IfOk result (λ made. made.0 ≡ opening_store site) }
+        ensures passes { IfOk result (λ made. length made.1.items ≡ sessions) }
+        ensures unused { IfOk result (λ made. All (λ pass. pass ≡ unused_pass) made.1.items) }
+    {
+        let recorder = StateRecorder::new(states, &site);
+        Book::make_from(alloc, changes, answers, site, sessions, recorder)
+    }
+
+    /// The book of a site where nothing was done yet, with who records its states.
+    fn make_from(
+        alloc: Global,
+        changes: Blank,
+        answers: Blank,
+        site: Site,
+        sessions: u64,
+        recorder: StateRecorder<K>,
+    ) -> Result<(Book<C, A, K>, Vec<Pass<C, A>>), AllocError>
+        requires changes { (changes.name ≡ C.name) × (changes.parts ≡ C.parts)
+            × (changes.parts ≡ sessions) }
+        requires answers { (answers.name ≡ A.name) × (answers.parts ≡ A.parts)
+            × (answers.parts ≡ sessions) }
+        requires recorded { IsAt recorder (opening site) }
         ensures book { IfOk result (λ made. made.0 ≡ opening_store site) }
         ensures passes { IfOk result (λ made. length made.1.items ≡ sessions) }
         ensures unused { IfOk result (λ made. All (λ pass. pass ≡ unused_pass) made.1.items) }
@@ -116,12 +149,12 @@ impl<C: Ledger, A: Ledger, N: Recorder + Drop> Book<C, A, N> {
     }
 }
 
-impl<C: Ledger, A: Ledger, N: Recorder> Book<C, A, N> {
+impl<C: Ledger, A: Ledger, K: ChronicleName> Book<C, A, K> {
     /// What is recorded of its states by now.
-    pub fn recorded(&self) -> N::Front
-        ensures { N.was_at result self.now.present }
+    pub fn recorded(&self) -> RecordedStates<K>
+        ensures { IsAt result self.now.present }
     {
-        self.recorder.front()
+        self.recorder.recorded()
     }
 
     /// Makes a step of a session: what each of its calls stands for. On a refusal the step comes

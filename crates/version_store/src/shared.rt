@@ -2,7 +2,6 @@
 
 ghost use Rattle.std.specs.Prelude.{◌≡◌, ◌<◌, ◌≤◌, false, IfOk, IfErr, IfSome, All, length};
 ghost use Rattle.std.specs.Sync.Mutex.{mutex_guard_value};
-ghost use Rattle.site_core.specs.State.{opening};
 ghost use Rattle.version_store.specs.Answers.{awaits};
 ghost use Rattle.version_store.specs.Store.{IsStore};
 ghost use Rattle.version_store.specs.Passes.{unused_pass, totals_together};
@@ -10,8 +9,9 @@ ghost use Rattle.version_store.specs.Passes.{unused_pass, totals_together};
 use crate::book::Book;
 use crate::missing::Missing;
 use crate::pass::Pass;
-use crate::recorder::{NoRecorder, Recorder};
+use crate::recorded_states::NoName;
 use crate::totals::Totals;
+use chronicle::{ChronicleName, Unnamed};
 use site_rules::Site;
 use std::alloc::{AllocError, Global};
 use std::marker::Model;
@@ -23,8 +23,8 @@ use std::time::Duration;
 /// The book of the central system, which one thread at a time has. Each of its calls is made by
 /// whoever has it, so all that is said of a book holds between any calls of any threads.
 #[derive(Drop)]
-pub struct Shared<C: Ledger, A: Ledger, N: Recorder = NoRecorder> {
-    book: Mutex<Book<C, A, N>>,
+pub struct Shared<C: Ledger, A: Ledger, K: ChronicleName = NoName> {
+    book: Mutex<Book<C, A, K>>,
     /// Those wait here who wait for an answer, each where the number of its request says.
     places: Vec<Condvar>,
     sessions: u64,
@@ -33,7 +33,7 @@ pub struct Shared<C: Ledger, A: Ledger, N: Recorder = NoRecorder> {
 /// So many places there are to wait at: as many as requests may be kept, so that few share one.
 const PLACES: u64 = 64;
 
-impl<C: Ledger, A: Ledger, N: Recorder> Model for Shared<C, A, N> {
+impl<C: Ledger, A: Ledger, K: ChronicleName> Model for Shared<C, A, K> {
     ghost use Rattle.std.specs.Prelude.{ℕ, ◌≡◌, length};
 
     ghost Value = { ℕ };
@@ -63,37 +63,51 @@ impl<C: Ledger, A: Ledger> Shared<C, A> {
         ensures passes { IfOk result (λ made. length made.1.items ≡ sessions) }
         ensures unused { IfOk result (λ made. All (λ pass. pass ≡ unused_pass) made.1.items) }
     {
-        Shared::make_with(alloc, changes, answers, site, sessions, NoRecorder)
+        let (book, passes) = Book::make(alloc, changes, answers, site, sessions)?;
+        let shared = Shared::of_book(alloc, book, sessions)?;
+        Ok((shared, passes))
     }
 }
 
-impl<C: Ledger, A: Ledger, N: Recorder + Drop> Shared<C, A, N> {
-    /// The same, with who records the changes, and has the state that the book begins with.
+impl<C: Ledger, A: Ledger, K: ChronicleName> Shared<C, A, K> {
+    /// The same, whose book's states are recorded in a chronicle.
     pub fn make_with(
         alloc: Global,
         changes: Blank,
         answers: Blank,
         site: Site,
         sessions: u64,
-        recorder: N,
-    ) -> Result<(Shared<C, A, N>, Vec<Pass<C, A>>), AllocError>
+        states: Unnamed,
+    ) -> Result<(Shared<C, A, K>, Vec<Pass<C, A>>), AllocError>
         requires changes { (changes.name ≡ C.name) × (changes.parts ≡ C.parts)
             × (changes.parts ≡ sessions) }
         requires answers { (answers.name ≡ A.name) × (answers.parts ≡ A.parts)
             × (answers.parts ≡ sessions) }
         requires some { 0 < sessions }
-        requires recorded { N.is_at recorder (opening site) }
+        requires states { states.name ≡ K.name }
         ensures sessions { IfOk result (λ made. made.0 ≡ sessions) }
         ensures passes { IfOk result (λ made. length made.1.items ≡ sessions) }
         ensures unused { IfOk result (λ made. All (λ pass. pass ≡ unused_pass) made.1.items) }
     {
-        let (book, passes) = Book::make_with(alloc, changes, answers, site, sessions, recorder)?;
-        let shared = Shared {
+        let (book, passes) = Book::make_with(alloc, changes, answers, site, sessions, states)?;
+        let shared = Shared::of_book(alloc, book, sessions)?;
+        Ok((shared, passes))
+    }
+
+    /// A book with so many passes, as threads share it.
+    fn of_book(
+        alloc: Global,
+        book: Book<C, A, K>,
+        sessions: u64,
+    ) -> Result<Shared<C, A, K>, AllocError>
+        requires { (sessions ≡ C.parts) × (sessions ≡ A.parts) }
+        ensures { IfOk result (λ shared. shared ≡ sessions) }
+    {
+        Ok(Shared {
             book: Mutex::new(book),
             places: new_places(alloc)?,
             sessions,
-        };
-        Ok((shared, passes))
+        })
     }
 
     /// Ends the book. With all passes that were made, the numbers of changes that were made and of
@@ -117,7 +131,7 @@ impl<C: Ledger, A: Ledger, N: Recorder + Drop> Shared<C, A, N> {
     }
 }
 
-impl<C: Ledger, A: Ledger, N: Recorder> Shared<C, A, N> {
+impl<C: Ledger, A: Ledger, K: ChronicleName> Shared<C, A, K> {
     /// How many sessions have a pass.
     pub fn sessions(&self) -> u64
         ensures { result ≡ self.now }
@@ -127,7 +141,7 @@ impl<C: Ledger, A: Ledger, N: Recorder> Shared<C, A, N> {
 
     /// The book, once no other thread has it. Whatever was done to it meanwhile, all that is always
     /// so of a book is so of this one.
-    pub fn lock<R: Wait>(&self, rt: &R) -> MutexGuard<'_, Book<C, A, N>>
+    pub fn lock<R: Wait>(&self, rt: &R) -> MutexGuard<'_, Book<C, A, K>>
         ensures { IsStore (mutex_guard_value result) }
     {
         let book = self.lock_unfolded(rt);
@@ -137,7 +151,7 @@ impl<C: Ledger, A: Ledger, N: Recorder> Shared<C, A, N> {
 
     /// The book. What a fold left behind is dropped while it is unlocked, so that nobody waits for
     /// that.
-    fn lock_unfolded<R: Wait>(&self, rt: &R) -> MutexGuard<'_, Book<C, A, N>> {
+    fn lock_unfolded<R: Wait>(&self, rt: &R) -> MutexGuard<'_, Book<C, A, K>> {
         let mut book = self.book.lock(rt);
         let Some(folded) = book.take_folded() else {
             return book;
@@ -168,7 +182,7 @@ impl<C: Ledger, A: Ledger, N: Recorder> Shared<C, A, N> {
     }
 
     /// The book, once the request of a number has its answer, or isn't kept.
-    pub fn until_answered<R: Wait>(&self, rt: &R, number: u64) -> MutexGuard<'_, Book<C, A, N>>
+    pub fn until_answered<R: Wait>(&self, rt: &R, number: u64) -> MutexGuard<'_, Book<C, A, K>>
         ensures store { IsStore (mutex_guard_value result) }
         ensures answered { awaits (mutex_guard_value result).present number ≡ false }
     {
@@ -185,7 +199,7 @@ impl<C: Ledger, A: Ledger, N: Recorder> Shared<C, A, N> {
         rt: &R,
         number: u64,
         time: Duration,
-    ) -> Option<MutexGuard<'_, Book<C, A, N>>>
+    ) -> Option<MutexGuard<'_, Book<C, A, K>>>
         ensures store { IfSome result (λ book. IsStore (mutex_guard_value book)) }
         ensures answered { IfSome result
             (λ book. awaits (mutex_guard_value book).present number ≡ false) }

@@ -14,14 +14,14 @@ use crate::answer::Answer;
 use crate::book::Book;
 use crate::job::Job;
 use crate::pass::Pass;
-use crate::recorder::Recorder;
+use chronicle::ChronicleName;
 use ocpp_scalars::{Instant, Refusal};
 use profile::Unit;
 use site_core::{PointId, Reply, Step, Take};
 use std::sync::ledger::Ledger;
 use sweep_compiler::Compiled;
 
-impl<C: Ledger, A: Ledger, N: Recorder> Book<C, A, N> {
+impl<C: Ledger, A: Ledger, K: ChronicleName> Book<C, A, K> {
     /// Keeps a request for the composite schedule (chapter 5.7) of a connector of a point.
     /// Connector 0 is the whole point. The schedule is from a start on for this many seconds, in a
     /// unit where one is given. The job is what is to be compiled and posted.
@@ -71,7 +71,6 @@ impl<C: Ledger, A: Ledger, N: Recorder> Book<C, A, N> {
         ensures back { IfErr result (λ refused. refused.1 ≡ compiled) }
     {
         self.history.post(number, compiled)?;
-        self.recorder.leave_requests_out();
         Ok(())
     }
 
@@ -127,7 +126,6 @@ impl<C: Ledger, A: Ledger, N: Recorder> Book<C, A, N> {
         ensures kept { IfErr result (λ refusal. (self.new ≡ self.old) × (pass.new ≡ pass.old)) }
     {
         let reply = self.history.hand_out(number)?;
-        self.recorder.leave_requests_out();
         let version = self.history.present().version();
         self.ledgers
             .count(pass, &reply, self.history.made(), version);

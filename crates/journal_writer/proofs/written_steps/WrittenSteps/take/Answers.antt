@@ -1,6 +1,9 @@
--- To be proved.
-use Rattle.std.proofs.Common.{rules, ◌≡◌, ◌∷◌, ◌++◌, [], List, refl, sym, subst, ap, ◌∙◌}
+-- What is taken is the next.
+use Rattle.std.proofs.Common.{◌∙◌}
 use Rattle.journal_writer.proofs.written_steps.WrittenSteps.take.Goals as goal
 
 pub invariant_of-self : goal.invariant_of-self
-invariant_of-self g c = ?
+invariant_of-self g c = record {
+  lines = c.self.invariant.lines;
+  next = c.take.ensures.first ∙ c.self.invariant.next;
+}
