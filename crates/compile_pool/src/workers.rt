@@ -7,6 +7,7 @@ ghost use Rattle.version_store.specs.Answers.{awaits};
 ghost use Rattle.compile_pool.specs.Workers.{IsOfJob, PostsOrDrops};
 
 use crate::gate::Gate;
+use chronicle::ChronicleName;
 use crossbeam_channel::Receiver;
 use meaning::Ask;
 use point_book::PointBook;
@@ -17,7 +18,7 @@ use std::sync::{Arc, Wait};
 use std::thread;
 use std::thread::Threads;
 use sweep_compiler::Compiled;
-use version_store::{Book, Job, Recorder, Shared};
+use version_store::{Book, Job, Shared};
 
 /// What a job asks for, compiled for what its point had when it was taken. Where memory runs out,
 /// that is the answer.
@@ -31,7 +32,7 @@ fn compile_job(alloc: Global, job: Job) -> (u64, Compiled)
 
 /// Posts what was compiled. What the book refuses is dropped: its request was answered or handed
 /// out meanwhile.
-fn post_or_drop<C: Ledger, A: Ledger, N: Recorder>(
+fn post_or_drop<C: Ledger, A: Ledger, N: ChronicleName>(
     book: &mut Book<C, A, N>,
     number: u64,
     compiled: Compiled,
@@ -43,7 +44,7 @@ fn post_or_drop<C: Ledger, A: Ledger, N: Recorder>(
 
 /// Compiles a job outside the lock, posts the answer under it, and wakes who waits. So does a
 /// worker, and a session whose job can't be sent to one.
-pub fn answer_job<C: Ledger, A: Ledger, R: Wait, N: Recorder>(
+pub fn answer_job<C: Ledger, A: Ledger, R: Wait, N: ChronicleName>(
     rt: &R,
     alloc: Global,
     shared: &Shared<C, A, N>,
@@ -58,7 +59,7 @@ pub fn answer_job<C: Ledger, A: Ledger, R: Wait, N: Recorder>(
 
 /// Answers a request that nobody waits for any more by that memory ran out, which is right for each,
 /// so that no worker begins it. It keeps an answer that it has.
-pub fn answer_unmade<C: Ledger, A: Ledger, R: Wait, N: Recorder>(
+pub fn answer_unmade<C: Ledger, A: Ledger, R: Wait, N: ChronicleName>(
     rt: &R,
     shared: &Shared<C, A, N>,
     number: u64,
@@ -72,7 +73,7 @@ pub fn answer_unmade<C: Ledger, A: Ledger, R: Wait, N: Recorder>(
 
 /// A job that is to be compiled, since its request has no answer yet. Else it comes back as an
 /// error: its session has ended, or the central system is stopped.
-fn job_to_begin<C: Ledger, A: Ledger, N: Recorder>(
+fn job_to_begin<C: Ledger, A: Ledger, N: ChronicleName>(
     book: &Book<C, A, N>,
     job: Job,
 ) -> Result<Job, Job>
@@ -89,7 +90,7 @@ fn job_to_begin<C: Ledger, A: Ledger, N: Recorder>(
 
 /// Answers jobs, one after the other, until all senders of the channel are gone. One that nobody
 /// waits for any more is dropped.
-pub fn worker<C: Ledger, A: Ledger, R: Wait, G: Gate, N: Recorder>(
+pub fn worker<C: Ledger, A: Ledger, R: Wait, G: Gate, N: ChronicleName>(
     rt: &R,
     alloc: Global,
     jobs: &Receiver<Job>,
@@ -116,7 +117,7 @@ pub fn run_pool<
     A: Ledger + Send + Sync,
     R: Threads + Wait + Sync,
     G: Gate + Sync,
-    N: Recorder + Send + Sync,
+    N: ChronicleName + Send + Sync,
 >(
     rt: &R,
     alloc: Global,

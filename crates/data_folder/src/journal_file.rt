@@ -2,7 +2,8 @@
 
 ghost use Rattle.std.specs.Prelude.{IfOk, IfSome};
 ghost use Rattle.journal_writer.specs.Account.{Covers};
-ghost use Rattle.site_journal.specs.RecordedStates.{EndsAt};
+ghost use Rattle.site_journal.specs.MadeStep.{IsOfMadeStep};
+ghost use Rattle.version_store.specs.Recording.{IsAt};
 
 use crate::reserve_file::ReserveFile;
 use crate::restored_journal::RestoredJournal;
@@ -13,7 +14,7 @@ use chronicle::ChronicleName;
 use journal_writer::{NotedSteps, Receipt, WrittenSteps};
 use ocpp_scalars::{Instant as Moment, Moments, write_instant};
 use session::{Entry, Journal, JournalFault, MadeStep, Noted};
-use site_journal::{Line, RecordedStates, StateRecorder};
+use site_journal::Line;
 use site_status::{JournalReport, JournalState};
 use std::alloc::{AllocError, AllocGlobal, Global};
 use std::fmt::Display;
@@ -22,6 +23,7 @@ use std::rt::Clock;
 use std::sync::atomic::{AtomicBool, Ordering};
 use std::sync::{Condvar, Mutex, Wait};
 use std::time::{Duration, Instant};
+use version_store::RecordedStates;
 
 /// Room for so many entries is kept free: more than all sessions together have prepared and not
 /// noted yet. So a step that was made is always noted.
@@ -33,18 +35,18 @@ const RETRY_SECONDS: u64 = 1;
 /// A journal that sessions share. Each notes what it changes while it has the book. Whoever waits
 /// for it writes and syncs for all that wait. Where the device is full nothing is noted any more,
 /// and it is tried again until there is room; where it isn't known what stands in the file, it is
-/// broken for good. The states that its lines have to account for are recorded in the chronicle J.
+/// broken for good. The states that its lines have to account for are recorded in the chronicle N.
 #[derive(Drop)]
-pub struct JournalFile<R, J: ChronicleName> {
+pub struct JournalFile<R, N: ChronicleName> {
     rt: R,
     alloc: Global,
     /// The file's name, for what is said of it.
     path: String,
-    noted: Mutex<NotedEntries<J>>,
+    noted: Mutex<NotedEntries<N>>,
     /// Whether all that was noted is on the disk, and it isn't broken. It is set by whoever has
     /// `noted`, and read without: most messages change nothing.
     is_kept: AtomicBool,
-    written: Mutex<WrittenLines<J>>,
+    written: Mutex<WrittenLines<N>>,
     /// Whoever waits for another that writes waits here.
     writer_done: Condvar,
     /// Whoever waits for the journal to be broken waits here.
@@ -54,10 +56,10 @@ pub struct JournalFile<R, J: ChronicleName> {
 
 /// What is noted and not taken to be written yet.
 #[derive(Drop)]
-struct NotedEntries<J: ChronicleName> {
-    steps: NotedSteps<J>,
+struct NotedEntries<N: ChronicleName> {
+    steps: NotedSteps<N>,
     /// What shows which lines are on the disk.
-    receipt: Option<Receipt<J>>,
+    receipt: Option<Receipt<N>>,
     /// Whether a session writes and syncs for all that wait.
     has_writer: bool,
     state: JournalState,
@@ -69,8 +71,8 @@ struct NotedEntries<J: ChronicleName> {
 
 /// What was taken to be written, and how far it is.
 #[derive(Drop)]
-struct WrittenLines<J: ChronicleName> {
-    steps: WrittenSteps<SystemFile, J>,
+struct WrittenLines<N: ChronicleName> {
+    steps: WrittenSteps<SystemFile, N>,
     reserve: ReserveFile,
 }
 
@@ -108,15 +110,15 @@ impl From<AllocError> for KeepFault {
     }
 }
 
-impl<R: Wait + Clock + Eprint + AllocGlobal + Drop, J: ChronicleName> JournalFile<R, J> {
+impl<R: Wait + Clock + Eprint + AllocGlobal + Drop, N: ChronicleName> JournalFile<R, N> {
     /// The journal that was restored, to which these lines are to be added. They lead to the last
     /// of these states.
     pub fn make(
         rt: R,
         restored: RestoredJournal,
         lines: &str,
-        states: RecordedStates<J>,
-    ) -> Result<JournalFile<R, J>, AllocError> {
+        states: RecordedStates<N>,
+    ) -> Result<JournalFile<R, N>, AllocError> {
         let alloc = rt.alloc();
         let RestoredJournal {
             mut log,
@@ -158,8 +160,8 @@ impl<R: Wait + Clock + Eprint + AllocGlobal + Drop, J: ChronicleName> JournalFil
     /// Waits until all lines are on the disk that lead to these states. One session writes and syncs
     /// for all that wait: when it is done, those whose entries it wrote go on, and one of the others
     /// writes.
-    fn keep_up_to(&self, recorded: &RecordedStates<J>) -> Result<Receipt<J>, JournalFault>
-        ensures { IfOk result (λ receipt. Covers receipt (EndsAt recorded.now)) }
+    fn keep_up_to(&self, recorded: &RecordedStates<N>) -> Result<Receipt<N>, JournalFault>
+        ensures { IfOk result (λ receipt. Covers receipt recorded.now) }
     {
         let noted = self.noted.lock(&self.rt);
         let mut noted = self.writer_done.wait_while(&self.rt, noted, |noted| {
@@ -211,7 +213,7 @@ impl<R: Wait + Clock + Eprint + AllocGlobal + Drop, J: ChronicleName> JournalFil
 
     /// Writes and syncs all that was noted by now, for all that wait. What may be noted since is told
     /// before somebody else has the file.
-    fn keep_with(&self, written: &mut WrittenLines<J>) -> Result<(), JournalFault> {
+    fn keep_with(&self, written: &mut WrittenLines<N>) -> Result<(), JournalFault> {
         match self.try_to_keep(written) {
             Ok(Kept::All) => Ok(()),
             Ok(Kept::AllAndRoom) => {
@@ -240,7 +242,7 @@ impl<R: Wait + Clock + Eprint + AllocGlobal + Drop, J: ChronicleName> JournalFil
     }
 
     /// Writes and syncs all that was noted by now.
-    fn try_to_keep(&self, written: &mut WrittenLines<J>) -> Result<Kept, KeepFault> {
+    fn try_to_keep(&self, written: &mut WrittenLines<N>) -> Result<Kept, KeepFault> {
         // Those that there was no memory for come first.
         written.steps.add_lines(FREE_ENTRIES)?;
         self.take_noted(written)?;
@@ -274,7 +276,7 @@ impl<R: Wait + Clock + Eprint + AllocGlobal + Drop, J: ChronicleName> JournalFil
     }
 
     /// Takes what was noted by now. What was taken before has its lines.
-    fn take_noted(&self, written: &mut WrittenLines<J>) -> Result<(), KeepFault> {
+    fn take_noted(&self, written: &mut WrittenLines<N>) -> Result<(), KeepFault> {
         let mut noted = self.noted.lock(&self.rt);
         if written.steps.take(&mut noted.steps) {
             Ok(())
@@ -290,7 +292,7 @@ impl<R: Wait + Clock + Eprint + AllocGlobal + Drop, J: ChronicleName> JournalFil
 
     /// The same, for whoever has what was noted. What is broken stays so, and whoever waits for that
     /// finds the reason among the lines that are said.
-    fn turn_noted<W: Display>(&self, noted: &mut NotedEntries<J>, state: JournalState, why: &W) {
+    fn turn_noted<W: Display>(&self, noted: &mut NotedEntries<N>, state: JournalState, why: &W) {
         if noted.state != state && noted.state != JournalState::Broken {
             noted.state = state;
             if let Ok(line) = self.line_of(why) {
@@ -327,9 +329,9 @@ impl<R: Wait + Clock + Eprint + AllocGlobal + Drop, J: ChronicleName> JournalFil
     }
 }
 
-impl<J: ChronicleName> NotedEntries<J> {
+impl<N: ChronicleName> NotedEntries<N> {
     /// Whether all lines are on the disk that lead to these states.
-    fn has_kept(&self, recorded: &RecordedStates<J>) -> bool {
+    fn has_kept(&self, recorded: &RecordedStates<N>) -> bool {
         match &self.receipt {
             Some(receipt) => receipt.covers(recorded),
             None => false,
@@ -337,8 +339,8 @@ impl<J: ChronicleName> NotedEntries<J> {
     }
 
     /// What shows that they are, if they are.
-    fn receipt_for(&self, recorded: &RecordedStates<J>) -> Option<Receipt<J>>
-        ensures { IfSome result (λ receipt. Covers receipt (EndsAt recorded.now)) }
+    fn receipt_for(&self, recorded: &RecordedStates<N>) -> Option<Receipt<N>>
+        ensures { IfSome result (λ receipt. Covers receipt recorded.now) }
     {
         match &self.receipt {
             Some(receipt) if receipt.covers(recorded) => Some(receipt.copy()),
@@ -354,7 +356,7 @@ impl<J: ChronicleName> NotedEntries<J> {
     }
 }
 
-impl<J: ChronicleName> WrittenLines<J> {
+impl<N: ChronicleName> WrittenLines<N> {
     /// How many bytes of the file are on the disk.
     fn synced(&self) -> u64 {
         self.steps.file().synced_bytes()
@@ -362,7 +364,7 @@ impl<J: ChronicleName> WrittenLines<J> {
 
     /// Writes the lines that aren't in the file, and syncs it. Where the device is full the reserve
     /// is given up for them.
-    fn write_and_sync(&mut self) -> Result<(Receipt<J>, Kept), KeepFault> {
+    fn write_and_sync(&mut self) -> Result<(Receipt<N>, Kept), KeepFault> {
         match self.steps.write_and_sync() {
             Ok(receipt) => Ok((receipt, Kept::All)),
             Err(LogFault::Full(error)) if self.reserve.give_up() => {
@@ -374,14 +376,8 @@ impl<J: ChronicleName> WrittenLines<J> {
     }
 }
 
-impl<R: Wait + Clock + Eprint + AllocGlobal + Drop, J: ChronicleName> Journal
-    for JournalFile<R, J> {
-    type States = StateRecorder<J>;
-
-    type Receipt = Receipt<J>;
-
-    ghost covers = { Covers };
-
+impl<R: Wait + Clock + Eprint + AllocGlobal + Drop, N: ChronicleName> Journal<N>
+    for JournalFile<R, N> {
     fn prepare(
         &self,
         moment: Moment,
@@ -402,7 +398,9 @@ impl<R: Wait + Clock + Eprint + AllocGlobal + Drop, J: ChronicleName> Journal
         Ok(Some(entry))
     }
 
-    fn note(&self, step: MadeStep<StateRecorder<J>>) {
+    fn note(&self, step: MadeStep<N>)
+        requires { IsOfMadeStep step.entry step.number (IsAt step.before) (IsAt step.after) }
+    {
         let mut noted = self.noted.lock(&self.rt);
         self.is_kept.store(false, Ordering::SeqCst);
         if !noted.steps.note(step) {
@@ -410,7 +408,7 @@ impl<R: Wait + Clock + Eprint + AllocGlobal + Drop, J: ChronicleName> Journal
         }
     }
 
-    fn receipt(&self, recorded: &RecordedStates<J>) -> Result<Receipt<J>, JournalFault> {
+    fn receipt(&self, recorded: &RecordedStates<N>) -> Result<Receipt<N>, JournalFault> {
         let noted = self.noted.lock(&self.rt);
         if noted.state == JournalState::Broken {
             return Err(JournalFault::Unwritable);
@@ -432,7 +430,7 @@ impl<R: Wait + Clock + Eprint + AllocGlobal + Drop, J: ChronicleName> Journal
     }
 }
 
-impl<R: Wait, J: ChronicleName> JournalFile<R, J> {
+impl<R: Wait, N: ChronicleName> JournalFile<R, N> {
     /// How it is now. Waits for no file and no device.
     pub fn report(&self) -> JournalReport {
         let noted = self.noted.lock(&self.rt);

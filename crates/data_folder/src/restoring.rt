@@ -10,13 +10,13 @@ use crate::system_clock::SystemClock;
 use chronicle::ChronicleName;
 use ocpp_scalars::{Instant, Moments};
 use site_core::Machine;
-use site_journal::{StateRecorder, Unrestored, lose_links, push_header, restore};
+use site_journal::{Unrestored, lose_links, push_header, restore};
 use std::alloc::AllocGlobal;
 use std::fs::File;
 use std::rt::{Clock, Files};
 use std::sync::Wait;
 use std::sync::ledger::Ledger;
-use version_store::{Book, Pass, Recorder, Shared};
+use version_store::{Book, Pass, Shared};
 
 /// The number of a part's first line, as the part is counted.
 const FIRST_OF_PART: u64 = 2;
@@ -37,14 +37,14 @@ pub fn restore_shared<
     C: Ledger,
     A: Ledger,
     R: Files<File = File> + Eprint + AllocGlobal + Clock + Wait + Copy + Drop,
-    J: ChronicleName,
+    N: ChronicleName,
 >(
     rt: &R,
     opened: OpenJournal,
     digest: &[u8; 32],
-    shared: &Shared<C, A, StateRecorder<J>>,
+    shared: &Shared<C, A, N>,
     pass: Pass<C, A>,
-) -> Result<(JournalFile<R, J>, Resumed), FolderFault> {
+) -> Result<(JournalFile<R, N>, Resumed), FolderFault> {
     let mut pass = pass;
     let Some(now) = (SystemClock { rt }).now() else {
         return Err(FolderFault::Clock);
@@ -68,7 +68,12 @@ pub fn restore_shared<
 /// points. A journal that is new, or was written with another site file, gets a line that names this
 /// one. A last line that is torn is cut: nothing that it says was answered. Returns the journal, and
 /// the lines that are to be added to it.
-fn restore_book<C: Ledger, A: Ledger, R: Files<File = File> + AllocGlobal + Eprint, N: Recorder>(
+fn restore_book<
+    C: Ledger,
+    A: Ledger,
+    R: Files<File = File> + AllocGlobal + Eprint,
+    N: ChronicleName,
+>(
     rt: &R,
     opened: OpenJournal,
     digest: &[u8; 32],
@@ -95,7 +100,7 @@ fn restore_book<C: Ledger, A: Ledger, R: Files<File = File> + AllocGlobal + Epri
 }
 
 /// Restores a book from the lines of a journal.
-fn restore_lines<C: Ledger, A: Ledger, R: AllocGlobal + Eprint, N: Recorder>(
+fn restore_lines<C: Ledger, A: Ledger, R: AllocGlobal + Eprint, N: ChronicleName>(
     rt: &R,
     file: &mut NamedFile,
     journal: &mut JournalLines,

@@ -7,12 +7,11 @@ use Rattle.ocpp_scalars.specs.ResultSteps.{◌>>=◌}
 use Rattle.site_core.specs.State.{MachineState}
 use Rattle.site_journal.specs.declared.restore_fault.RestoreFault.{RestoreFault}
 use Rattle.site_journal.specs.Entry.{EntryState, entry_text, numbered}
-use Rattle.site_journal.specs.Forgetting.{forget}
 use Rattle.site_journal.specs.Line.{LineState, line_text}
 use Rattle.site_journal.specs.MadeStep.{IsOfMadeStep}
 use Rattle.site_journal.specs.NotedRun.{begins, notes, NotedRunsAreRestored}
-use Rattle.site_journal.specs.RecordedStates.{EndsAt}
 use Rattle.site_journal.specs.Restore.{restored, restored_lines}
+use Rattle.version_store.specs.Recording.{EndsAt, IsAt, RecordedState, forget}
 use Rattle.journal_writer.specs.declared.numbered_entry.NumberedEntry.{NumberedEntry}
 use Rattle.journal_writer.specs.Account.{AccountsFor, nothing, more, EntriesAreRestored, HasLinesUpTo, IsNoted, NotedState, texts_of}
 
@@ -35,18 +34,8 @@ last_is_one : (states : List MachineState) (old new : MachineState) → EndsAt s
 last_is_one states old new was is =
     same_end was.0 is.0 (forget old) (forget new) (sym was.1 ∙ is.1)
 
--- nothing is noted between the first states and the last ones
-pub none_between : (first last : List MachineState) (entries : List NumberedEntry)
-    → AccountsFor first entries last → entries ≡ [] → first ≡ last
-none_between _ _ _ (nothing states) none = refl
-none_between _ _ _ (more first states later entries entry accounts leads) none = absurd (go entries none)
-  where
-    go : (entries : List NumberedEntry) → entries ++ entry ∷ [] ≡ [] → ⊥
-    go [] none = absurd (cc none)
-    go (e ∷ entries) none = absurd (cc none)
-
 -- one account goes on with another
-pub goes_on : (first middle last : List MachineState) (entries others : List NumberedEntry)
+pub goes_on : (first middle last : RecordedState) (entries others : List NumberedEntry)
     → AccountsFor first entries middle → AccountsFor middle others last
     → AccountsFor first (entries ++ others) last
 goes_on first _ _ entries _ accounts (nothing states) =
@@ -65,27 +54,29 @@ goes_on first _ _ entries _ accounts (more middle states later others entry behi
     moved (e ∷ es) = ap (λ (rest : List NumberedEntry). e ∷ rest) (moved es)
 
 -- none are noted
-pub none_noted : (first last : List MachineState) (entries : List NumberedEntry) → first ≡ last
+pub none_noted : (first last : RecordedState) (entries : List NumberedEntry) → first ≡ last
     → entries ≡ [] → AccountsFor first entries last
 none_noted first last entries same none =
-    subst (λ (states : List MachineState). AccountsFor first entries states) same
+    subst (λ (r : RecordedState). AccountsFor first entries r) same
     (subst (λ (es : List NumberedEntry). AccountsFor first es first) (sym none) (nothing first))
 
 -- a step is noted
-pub step_noted : (first last before after : List MachineState) (entries items : List NumberedEntry)
+pub step_noted : (first last before after : RecordedState) (entries items : List NumberedEntry)
     (entry : EntryState) (number : ℕ) → AccountsFor first entries last → last ≡ before
-    → IsOfMadeStep entry number (EndsAt before) (EndsAt after)
+    → last.is_kept ≡ true → after.is_kept ≡ true
+    → IsOfMadeStep entry number (IsAt before) (IsAt after)
     → items ≡ entries ++ (record { entry = entry; number = number }) ∷ []
     → AccountsFor first items after
-step_noted first last before after entries items entry number accounts same made pushed =
+step_noted first last before after entries items entry number accounts same was_kept is_kept made
+    pushed =
     subst (λ (es : List NumberedEntry). AccountsFor first es after) (sym pushed)
     (more first last after entries (record { entry = entry; number = number }) accounts (record {
       line = made.line;
       entry_is = made.entry_is;
       old = made.old.present;
       new = made.new.present;
-      was = subst (λ (states : List MachineState). EndsAt states made.old.present) (sym same) made.was_before;
-      is = made.is_after;
+      was = subst (λ (r : RecordedState). IsAt r made.old.present) (sym same) made.was_before was_kept;
+      is = made.is_after is_kept;
       leads = made.leads;
     }))
 
@@ -96,7 +87,7 @@ texts_of_both entries others =
     flat_map-append (λ (e : NumberedEntry). entry_text e.entry e.number) entries others
 
 -- a file has its lines up to the states that it begins with
-pub begun_so : (states : List MachineState) (bytes : List ℕ) → HasLinesUpTo states bytes
+pub begun_so : (states : RecordedState) (bytes : List ℕ) → HasLinesUpTo states bytes
 begun_so states bytes = record {
   begun = bytes;
   first = states;
@@ -110,7 +101,7 @@ begun_so states bytes = record {
     no_bytes (b ∷ bs) = ap (λ (rest : List ℕ). b ∷ rest) (no_bytes bs)
 
 -- and with the lines of others, up to where these lead
-pub lines_added : (old new : Contents) (states : List MachineState) (taken : NotedState)
+pub lines_added : (old new : Contents) (states : RecordedState) (taken : NotedState)
     (lines : List ℕ) → HasLinesUpTo states (file_of old) → taken.first ≡ states → IsNoted taken
     → lines ≡ texts_of taken.entries → new ≡ with_added old lines
     → HasLinesUpTo taken.last (file_of new)
@@ -126,7 +117,7 @@ lines_added old new states taken lines has next noted lines_are added = record {
       ∙ append_assoc has.begun (texts_of has.entries) (texts_of taken.entries)
       ∙ ap (λ t. has.begun ++ t) (sym (texts_of_both has.entries taken.entries));
   accounts = goes_on has.first states taken.last has.entries taken.entries has.accounts
-      (subst (λ (first : List MachineState). AccountsFor first taken.entries taken.last) next noted);
+      (subst (λ (r : RecordedState). AccountsFor r taken.entries taken.last) next noted);
 }
 
 -- ---- lines
@@ -169,12 +160,12 @@ pub led : NotedRunsAreRestored → EntriesAreRestored
 led law _ _ _ old new (nothing states) was is = record {
   lines = [];
   texts_are = refl;
-  leads = ap (λ (s : MachineState). Ok s) (last_is_one states old new was is);
+  leads = ap (λ (s : MachineState). Ok s) (last_is_one states.states old new was is);
 }
 led law _ _ _ old new (more first states later entries entry accounts leads) was is =
     let before = led law first states entries old leads.old accounts was leads.was in
     let line = numbered leads.line entry.number in
-    let end = last_is_one later leads.new new leads.is is in record {
+    let end = last_is_one later.states leads.new new leads.is is in record {
       lines = before.lines ++ line ∷ [];
       texts_are =
           texts_of_both entries (entry ∷ [])

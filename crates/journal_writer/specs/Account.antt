@@ -1,59 +1,61 @@
 -- What the lines of a journal account for: each leads from one recorded state to the next.
-use Rattle.std.specs.Prelude.{ℕ, ◌≡◌, List, [], ◌∷◌, ◌++◌, flat_map, Ok}
+use Rattle.std.specs.Prelude.{ℕ, ◌≡◌, true, List, [], ◌∷◌, ◌++◌, flat_map, Ok}
 use Rattle.append_log.specs.Contents.{Contents, file_of}
 use Rattle.site_core.specs.State.{MachineState}
 use Rattle.site_journal.specs.Entry.{IsEntryOf, entry_text, numbered}
-use Rattle.site_journal.specs.Forgetting.{forget}
 use Rattle.site_journal.specs.Line.{LineState, line_text}
-use Rattle.site_journal.specs.RecordedStates.{EndsAt, HasState}
 use Rattle.site_journal.specs.Restore.{restored, restored_lines}
+use Rattle.version_store.specs.Recording.{EndsAt, HasState, RecordedState, forget}
 use Rattle.journal_writer.specs.declared.numbered_entry.NumberedEntry.{NumberedEntry}
 
 -- the lines of entries
 abbrev pub texts_of : List NumberedEntry → List ℕ
 texts_of entries = flat_map (λ (e : NumberedEntry). entry_text e.entry e.number) entries
 
--- an entry is a line that leads from the last of these states to the last of the later ones
-pub record LeadsOn (entry : NumberedEntry) (states later : List MachineState) : Type 0 where
+-- an entry is a line that leads from the last state that was recorded to the last of the later ones
+pub record LeadsOn (entry : NumberedEntry) (recorded later : RecordedState) : Type 0 where
   pub line : LineState
   pub entry_is : IsEntryOf entry.entry line
   pub old : MachineState
   pub new : MachineState
-  pub was : EndsAt states old
-  pub is : EndsAt later new
+  pub was : EndsAt recorded.states old
+  pub is : EndsAt later.states new
   pub leads : restored old (numbered line entry.number) ≡ Ok new
 
--- Entries lead, one after another, from the last of the first states to the last of the later ones.
-pub data AccountsFor : List MachineState → List NumberedEntry → List MachineState → Type 0 where
-  nothing : (states : List MachineState) → AccountsFor states [] states
-  more : (first states later : List MachineState) (entries : List NumberedEntry)
+-- Entries lead, one after another, from the last state that was recorded first to the last of the
+-- later ones.
+pub data AccountsFor : RecordedState → List NumberedEntry → RecordedState → Type 0 where
+  nothing : (recorded : RecordedState) → AccountsFor recorded [] recorded
+  more : (first recorded later : RecordedState) (entries : List NumberedEntry)
       (entry : NumberedEntry)
-      → AccountsFor first entries states → LeadsOn entry states later
+      → AccountsFor first entries recorded → LeadsOn entry recorded later
       → AccountsFor first (entries ++ entry ∷ []) later
 
 -- steps that were noted, and not written yet
 pub record NotedState : Type 0 where
   -- what was recorded before the first of them
-  pub first : List MachineState
+  pub first : RecordedState
   pub entries : List NumberedEntry
   -- and with the last one
-  pub last : List MachineState
+  pub last : RecordedState
 
 abbrev pub IsNoted : NotedState → Type 0
 IsNoted noted = AccountsFor noted.first noted.entries noted.last
 
 -- A file has what stood there at the start, and then the lines of entries that lead from what was
--- recorded then to these states.
-pub record HasLinesUpTo (states : List MachineState) (bytes : List ℕ) : Type 0 where
+-- recorded then to what is recorded here.
+pub record HasLinesUpTo (recorded : RecordedState) (bytes : List ℕ) : Type 0 where
   pub begun : List ℕ
-  pub first : List MachineState
+  pub first : RecordedState
   pub entries : List NumberedEntry
   pub bytes_are : bytes ≡ begun ++ texts_of entries
-  pub accounts : AccountsFor first entries states
+  pub accounts : AccountsFor first entries recorded
 
--- these states have among them each state that is this
-abbrev pub Covers : List MachineState → (MachineState → Type 0) → Type 0
-Covers states is_it = (state : MachineState) → is_it state → HasState states state
+-- among these states is each with which something ended that was recorded
+abbrev pub Covers : List MachineState → RecordedState → Type 0
+Covers states recorded =
+    (state : MachineState) → recorded.is_kept ≡ true → EndsAt recorded.states state
+    → HasState states state
 
 -- ---- what that means
 
@@ -66,8 +68,8 @@ pub record AreRestored (entries : List NumberedEntry) (old new : MachineState) :
 
 abbrev pub EntriesAreRestored : Type 0
 EntriesAreRestored =
-    (first last : List MachineState) (entries : List NumberedEntry) (old new : MachineState)
-    → AccountsFor first entries last → EndsAt first old → EndsAt last new
+    (first last : RecordedState) (entries : List NumberedEntry) (old new : MachineState)
+    → AccountsFor first entries last → EndsAt first.states old → EndsAt last.states new
     → AreRestored entries old new
 
 -- ---- the file
@@ -76,7 +78,7 @@ EntriesAreRestored =
 pub record WrittenState : Type 0 where
   pub contents : Contents
   -- what was recorded by its last line
-  pub states : List MachineState
+  pub states : RecordedState
   pub taken : NotedState
 
 -- what is always so: the lines lead to the states, and the steps that were taken lead on from there

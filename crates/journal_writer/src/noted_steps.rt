@@ -3,25 +3,26 @@
 ghost use Rattle.std.specs.Prelude.{◌≡◌, ◌∷◌, ◌++◌, [], false, true, string_bytes, IfOk, IsTrue, OnOk};
 ghost use Rattle.journal_writer.specs.Account.{IsNoted, NotedState, texts_of};
 ghost use Rattle.site_journal.specs.MadeStep.{IsOfMadeStep};
-ghost use Rattle.site_journal.specs.RecordedStates.{EndsAt};
+ghost use Rattle.version_store.specs.Recording.{IsAt};
 
 use crate::numbered_entry::NumberedEntry;
 use chronicle::ChronicleName;
-use site_journal::{MadeStep, RecordedStates, StateRecorder};
+use site_journal::MadeStep;
 use std::alloc::{AllocError, Global};
 use std::marker::Model;
 use std::mem;
+use version_store::RecordedStates;
 
 /// Steps that were noted, and not written yet. Their entries lead from what was recorded before the
 /// first of them to what was recorded with the last one.
 #[derive(Drop)]
-pub struct NotedSteps<J: ChronicleName> {
-    first: RecordedStates<J>,
+pub struct NotedSteps<N: ChronicleName> {
+    first: RecordedStates<N>,
     entries: Vec<NumberedEntry>,
-    last: RecordedStates<J>,
+    last: RecordedStates<N>,
 }
 
-impl<J: ChronicleName> Model for NotedSteps<J> {
+impl<N: ChronicleName> Model for NotedSteps<N> {
     ghost use Rattle.journal_writer.specs.Account.{NotedState, IsNoted};
 
     ghost Value = { NotedState };
@@ -32,13 +33,13 @@ impl<J: ChronicleName> Model for NotedSteps<J> {
         (record { first = n.first; entries = n.entries.items; last = n.last }) };
 }
 
-impl<J: ChronicleName> NotedSteps<J> {
+impl<N: ChronicleName> NotedSteps<N> {
     /// None, after these states. There is room for so many.
     pub fn new(
         alloc: Global,
-        states: RecordedStates<J>,
+        states: RecordedStates<N>,
         room: usize,
-    ) -> Result<NotedSteps<J>, AllocError>
+    ) -> Result<NotedSteps<N>, AllocError>
         ensures { IfOk result (λ noted.
             noted ≡ record { first = states; entries = []; last = states }) }
     {
@@ -65,8 +66,8 @@ impl<J: ChronicleName> NotedSteps<J> {
 
     /// Notes a step, where it is the next one: before it was recorded what was recorded with the
     /// last one. False where it isn't, or there is no room: then nothing is noted.
-    pub fn note(&mut self, step: MadeStep<StateRecorder<J>>) -> bool
-        requires { IsOfMadeStep step.entry step.number (EndsAt step.before) (EndsAt step.after) }
+    pub fn note(&mut self, step: MadeStep<N>) -> bool
+        requires { IsOfMadeStep step.entry step.number (IsAt step.before) (IsAt step.after) }
         ensures noted { result ≡ true → self.new ≡ record {
           first = self.old.first;
           entries = self.old.entries ++ (record { entry = step.entry; number = step.number }) ∷ [];
@@ -81,7 +82,7 @@ impl<J: ChronicleName> NotedSteps<J> {
             before,
             after,
         } = step;
-        if !self.last.is_same(&before) {
+        if !after.is_kept() || !self.last.is_same(&before) {
             return false;
         }
         match self.entries.push(NumberedEntry { entry, number }) {
@@ -95,7 +96,7 @@ impl<J: ChronicleName> NotedSteps<J> {
 
     /// Takes all steps of another, behind which none are left, in place of its own, which there are
     /// none of. False where these aren't the next ones: then nothing is taken.
-    pub fn take(&mut self, noted: &mut NotedSteps<J>) -> bool
+    pub fn take(&mut self, noted: &mut NotedSteps<N>) -> bool
         requires { self.old.entries ≡ [] }
         ensures taken { result ≡ true → self.new ≡ noted.old }
         ensures next { result ≡ true → self.old.last ≡ noted.old.first }
@@ -142,14 +143,14 @@ impl<J: ChronicleName> NotedSteps<J> {
     }
 
     /// What was recorded with the last one.
-    pub fn last(&self) -> &RecordedStates<J>
+    pub fn last(&self) -> &RecordedStates<N>
         ensures { result.now ≡ self.now.last }
     {
         &self.last
     }
 
     /// What was recorded before the first one.
-    pub fn first(&self) -> &RecordedStates<J>
+    pub fn first(&self) -> &RecordedStates<N>
         ensures { result.now ≡ self.now.first }
     {
         &self.first

@@ -1,49 +1,60 @@
 //! What shows that lines are on the disk.
 
-ghost use Rattle.std.specs.Prelude.{◌≡◌, IsTrue};
+ghost use Rattle.std.specs.Prelude.{◌≡◌, true, IfSome};
 ghost use Rattle.journal_writer.specs.Account.{Covers};
-ghost use Rattle.site_journal.specs.RecordedStates.{EndsAt};
 
 use chronicle::ChronicleName;
-use site_journal::RecordedStates;
 use std::marker::Model;
+use version_store::RecordedStates;
 
 /// What shows that lines are on the disk which account for these states. Only a file that has synced
-/// such lines makes one.
+/// such lines makes one, or a book whose states aren't recorded.
 #[derive(Drop)]
-pub struct Receipt<J: ChronicleName> {
-    states: RecordedStates<J>,
+pub struct Receipt<N: ChronicleName> {
+    recorded: RecordedStates<N>,
 }
 
-impl<J: ChronicleName> Model for Receipt<J> {
+impl<N: ChronicleName> Model for Receipt<N> {
     ghost use Rattle.std.specs.Prelude.{List};
     ghost use Rattle.site_core.specs.State.{MachineState};
 
     ghost Value = { List MachineState };
 
-    ghost view = { λ r. r.states };
+    ghost view = { λ r. r.recorded.states };
 }
 
-impl<J: ChronicleName> Receipt<J> {
-    pub(crate) fn new(states: RecordedStates<J>) -> Receipt<J>
-        ensures { result ≡ states }
+impl<N: ChronicleName> Receipt<N> {
+    pub(crate) fn new(recorded: RecordedStates<N>) -> Receipt<N>
+        ensures { result ≡ recorded.states }
     {
-        Receipt { states }
+        Receipt { recorded }
+    }
+
+    /// That of a book whose states aren't recorded. `None` where they are.
+    pub fn of_nothing(recorded: &RecordedStates<N>) -> Option<Receipt<N>>
+        ensures { IfSome result (λ receipt. Covers receipt recorded.now) }
+    {
+        if recorded.is_kept() {
+            return None;
+        }
+        Some(Receipt {
+            recorded: recorded.copy(),
+        })
     }
 
     /// A copy.
-    pub fn copy(&self) -> Receipt<J>
+    pub fn copy(&self) -> Receipt<N>
         ensures { result ≡ self.now }
     {
         Receipt {
-            states: self.states.copy(),
+            recorded: self.recorded.copy(),
         }
     }
 
-    /// Whether it covers what was recorded by some moment: each state with which that ended.
-    pub fn covers(&self, recorded: &RecordedStates<J>) -> bool
-        ensures { IsTrue result → Covers self.now (EndsAt recorded.now) }
+    /// Whether it covers what was recorded by some moment: the states with which that ended.
+    pub fn covers(&self, recorded: &RecordedStates<N>) -> bool
+        ensures { result ≡ true → Covers self.now recorded.now }
     {
-        self.states.is_at_least(recorded)
+        self.recorded.is_at_least(recorded)
     }
 }

@@ -8,21 +8,21 @@ use crate::noted_steps::NotedSteps;
 use crate::receipt::Receipt;
 use append_log::{AppendedFile, Log, LogFault};
 use chronicle::ChronicleName;
-use site_journal::RecordedStates;
 use std::alloc::{AllocError, Global};
 use std::marker::Model;
+use version_store::RecordedStates;
 
 /// A log that has what stood in its file at the start, and then the lines of all steps up to some
 /// recorded states. Steps that were taken wait for their lines.
 #[derive(Drop)]
-pub struct WrittenSteps<F: AppendedFile, J: ChronicleName> {
+pub struct WrittenSteps<F: AppendedFile, N: ChronicleName> {
     alloc: Global,
     log: Log<F>,
-    states: RecordedStates<J>,
-    taken: NotedSteps<J>,
+    states: RecordedStates<N>,
+    taken: NotedSteps<N>,
 }
 
-impl<F: AppendedFile, J: ChronicleName> Model for WrittenSteps<F, J> {
+impl<F: AppendedFile, N: ChronicleName> Model for WrittenSteps<F, N> {
     ghost use Rattle.append_log.specs.Log.{contents};
     ghost use Rattle.journal_writer.specs.Account.{WrittenState, IsWritten};
 
@@ -34,14 +34,14 @@ impl<F: AppendedFile, J: ChronicleName> Model for WrittenSteps<F, J> {
         (record { contents = contents w.log; states = w.states; taken = w.taken }) };
 }
 
-impl<F: AppendedFile + Drop, J: ChronicleName> WrittenSteps<F, J> {
+impl<F: AppendedFile + Drop, N: ChronicleName> WrittenSteps<F, N> {
     /// A log that has its lines up to these states. There is room for so many steps.
     pub fn new(
         alloc: Global,
         log: Log<F>,
-        states: RecordedStates<J>,
+        states: RecordedStates<N>,
         room: usize,
-    ) -> Result<WrittenSteps<F, J>, AllocError>
+    ) -> Result<WrittenSteps<F, N>, AllocError>
         ensures { IfOk result (λ written. written ≡ record {
           contents = contents log;
           states = states;
@@ -63,7 +63,7 @@ impl<F: AppendedFile + Drop, J: ChronicleName> WrittenSteps<F, J> {
 
     /// Takes all steps that were noted, where those that were taken before have their lines. False
     /// where they haven't, or these aren't the next ones: then nothing is taken.
-    pub fn take(&mut self, noted: &mut NotedSteps<J>) -> bool
+    pub fn take(&mut self, noted: &mut NotedSteps<N>) -> bool
         ensures taken { result ≡ true → self.new ≡ record self.old { taken = noted.old } }
         ensures left { result ≡ true → noted.new ≡ record {
           first = noted.old.last;
@@ -94,20 +94,20 @@ impl<F: AppendedFile + Drop, J: ChronicleName> WrittenSteps<F, J> {
 
     /// Writes the lines that aren't in the file, and syncs it. Then all lines up to the states are
     /// on the disk, as the receipt shows.
-    pub fn write_and_sync(&mut self) -> Result<Receipt<J>, LogFault>
+    pub fn write_and_sync(&mut self) -> Result<Receipt<N>, LogFault>
         ensures contents { self.new ≡ record self.old {
           contents = after_trial self.old.contents result;
         } }
-        ensures states { IfOk result (λ receipt. receipt ≡ self.new.states) }
+        ensures states { IfOk result (λ receipt. receipt ≡ self.new.states.states) }
         ensures synced { IfOk result
-            (λ receipt. HasLinesUpTo receipt self.new.contents.synced) }
+            (λ receipt. HasLinesUpTo self.new.states self.new.contents.synced) }
     {
         self.log.write_and_sync()?;
         Ok(Receipt::new(self.states.copy()))
     }
 
     /// What was recorded by the last line.
-    pub fn states(&self) -> &RecordedStates<J>
+    pub fn states(&self) -> &RecordedStates<N>
         ensures { result.now ≡ self.now.states }
     {
         &self.states

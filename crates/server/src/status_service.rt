@@ -6,10 +6,10 @@ use crate::site_watch::Seen;
 use crate::status_port::StatusPort;
 use crate::watched_journal::WatchedJournal;
 use bytes::Bytes;
+use chronicle::ChronicleName;
 use http::{HeaderName, HeaderValue, Method, Request, StatusCode};
 use http_server::{Response, Service};
 use ocpp_scalars::Moments;
-use session::Journal;
 use site_status::{
     Health, JournalReport, SiteCounts, SiteReport, StatusAnswer, StatusPath, answer_of,
     health_answer, nothing_there, status_path,
@@ -20,8 +20,8 @@ use std::sync::ledger::Ledger;
 
 /// Answers the requests of a status port.
 #[derive(Drop)]
-pub(crate) struct StatusService<'a, C: Ledger, A: Ledger, R, M, J: Journal> {
-    pub(crate) port: &'a StatusPort<C, A, R, M, J>,
+pub(crate) struct StatusService<'a, C: Ledger, A: Ledger, R, M, J, N: ChronicleName> {
+    pub(crate) port: &'a StatusPort<C, A, R, M, J, N>,
 }
 
 impl<
@@ -29,8 +29,9 @@ impl<
     A: Ledger,
     R: Wait + Drop,
     M: Moments + Drop,
-    J: Journal + WatchedJournal + Drop,
-> Service for StatusService<'_, C, A, R, M, J> {
+    J: WatchedJournal + Drop,
+    N: ChronicleName,
+> Service for StatusService<'_, C, A, R, M, J, N> {
     ghost answers = { λ _ _ _ _. Unit {0} };
 
     fn call(
@@ -72,8 +73,9 @@ impl<
     A: Ledger,
     R: Wait + Drop,
     M: Moments + Drop,
-    J: Journal + WatchedJournal + Drop,
-> StatusService<'_, C, A, R, M, J> {
+    J: WatchedJournal + Drop,
+    N: ChronicleName,
+> StatusService<'_, C, A, R, M, J, N> {
     /// Whether a request is for this machine, where that is wanted.
     fn is_for_us(&self, request: &Request<Bytes>) -> bool {
         match &self.port.address {
@@ -101,8 +103,8 @@ impl<
 }
 
 /// What is answered at a path that wants to know what the site has.
-fn answer_by<C: Ledger, A: Ledger, R: Wait, M: Moments, J: Journal>(
-    seats: &SeatContext<C, A, R, M, J>,
+fn answer_by<C: Ledger, A: Ledger, R: Wait, M: Moments, J, N: ChronicleName>(
+    seats: &SeatContext<C, A, R, M, J, N>,
     journal: JournalReport,
     path: StatusPath<'_>,
 ) -> Result<StatusAnswer, AllocError> {

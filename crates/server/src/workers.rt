@@ -4,9 +4,9 @@ ghost use Rattle.std.specs.Prelude.{◌≡◌, ◌≤◌, ◌+◌, ◌/◌};
 
 use crate::seat_context::SeatContext;
 use crate::serving::ServeFault;
+use chronicle::ChronicleName;
 use compile_pool::{Jobs, MAX_JOBS, Open, run_pool};
 use crossbeam_channel::{Sender, bounded};
-use session::Journal;
 use std::alloc::{AllocError, Global};
 use std::marker::{Send, Sync};
 use std::sync::ledger::Ledger;
@@ -49,9 +49,10 @@ pub(crate) fn begin_workers<
     A: Ledger + Send + Sync + Drop + 'static,
     R: Threads + Wait + Copy + Send + Sync + Drop + 'static,
     M: Send + Sync + Drop + 'static,
-    J: Journal + Send + Sync + Drop + 'static,
+    J: Send + Sync + Drop + 'static,
+    N: ChronicleName + Send + Sync + Drop + 'static,
 >(
-    context: &Arc<SeatContext<C, A, R, M, J>, Global>,
+    context: &Arc<SeatContext<C, A, R, M, J, N>, Global>,
     workers: usize,
 ) -> Result<JobSenders, ServeFault>
     requires { 1 ≤ workers }
@@ -70,9 +71,10 @@ fn begin_pool<
     A: Ledger + Send + Sync + Drop + 'static,
     R: Threads + Wait + Copy + Send + Sync + Drop + 'static,
     M: Send + Sync + Drop + 'static,
-    J: Journal + Send + Sync + Drop + 'static,
+    J: Send + Sync + Drop + 'static,
+    N: ChronicleName + Send + Sync + Drop + 'static,
 >(
-    context: &Arc<SeatContext<C, A, R, M, J>, Global>,
+    context: &Arc<SeatContext<C, A, R, M, J, N>, Global>,
     workers: usize,
     most_waiting: usize,
 ) -> Result<Sender<Job>, ServeFault>

@@ -1,8 +1,11 @@
 -- What a message of a session carries that leaves.
-use Rattle.std.specs.Prelude.{Option, Some, None}
+use Rattle.std.specs.Prelude.{Option, Some, None, List}
+use Rattle.site_core.specs.State.{MachineState}
+use Rattle.version_store.specs.Recording.{RecordedState}
+use Rattle.journal_writer.specs.Account.{Covers}
 
 -- Where something was recorded by the step of a message, a receipt covers it.
-abbrev pub IsCovered : {R F : Type 0} → (R → F → Type 0) → Option R → Option F → Type 0
-IsCovered covers receipt None = Unit {0}
-IsCovered covers None (Some seen) = ⊥
-IsCovered covers (Some receipt) (Some seen) = covers receipt seen
+abbrev pub IsCovered : Option (List MachineState) → Option RecordedState → Type 0
+IsCovered receipt None = Unit {0}
+IsCovered None (Some seen) = ⊥
+IsCovered (Some receipt) (Some seen) = Covers receipt seen

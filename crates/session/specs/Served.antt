@@ -8,6 +8,7 @@ use Rattle.site_core.specs.Right.{IsRight}
 use Rattle.site_core.specs.State.{MachineState}
 use Rattle.version_store.specs.Answers.{RequestedJob, HandedAnswer}
 use Rattle.version_store.specs.Passes.{PassState}
+use Rattle.version_store.specs.Recording.{RecordedState, IsAt}
 use Rattle.version_store.specs.Store.{StoreState, IsStore}
 use Rattle.texts.specs.SentText.{Sent}
 use Rattle.session.specs.declared.todo.Owed.{Owed}
@@ -70,9 +71,9 @@ HasOutcome was seen text (Some step) (Some outcome) = IsOutcomeOf was seen text 
 HasOutcome was seen text _ _ = ⊥
 
 -- whether what was recorded by a step, if there was one, ended with a state
-abbrev pub seen_at : {F : Type 0} → (F → MachineState → Type 0) → Option F → MachineState → Type 0
-seen_at was_at None state = ⊥
-seen_at was_at (Some seen) state = was_at seen state
+abbrev pub seen_at : Option RecordedState → MachineState → Type 0
+seen_at None state = ⊥
+seen_at (Some seen) state = IsAt seen state
 
 -- what a message asks for, or the answer alone where its step can't be noted
 abbrev pub IsTodoOrUnnoted : SessionState → Instant → List ℕ → TodoState → Type 0

@@ -1,30 +1,23 @@
 //! Where sessions note what their steps change.
 
 ghost use Rattle.std.specs.Prelude.{IfOk, IfSome};
-ghost use Rattle.site_core.specs.State.{MachineState};
+ghost use Rattle.journal_writer.specs.Account.{Covers};
 ghost use Rattle.site_journal.specs.Entry.{IsEntryOf};
 ghost use Rattle.site_journal.specs.Line.{noted_state};
 ghost use Rattle.site_journal.specs.MadeStep.{IsOfMadeStep};
 ghost use Rattle.site_journal.specs.NotedStep.{line_at};
+ghost use Rattle.version_store.specs.Recording.{IsAt};
 
+use chronicle::ChronicleName;
+use journal_writer::Receipt;
 use ocpp_scalars::Instant;
 use site_journal::{Entry, MadeStep, Noted};
 use std::alloc::AllocError;
-use std::marker::{Send, Sync};
-use version_store::{NoRecorder, Recorder};
+use version_store::RecordedStates;
 
 /// Takes down the steps that change something, in the order in which they are made, and sees to it
 /// that they are kept before any message leaves that depends on them.
-pub trait Journal {
-    /// Who records the states of the book whose steps are noted.
-    type States: Recorder + Send + Sync + Drop;
-
-    /// What shows that something is kept.
-    type Receipt: Drop + Send + Sync;
-
-    /// Whether a receipt shows that all is kept that led to a state which is this.
-    ghost covers: { Self.Receipt → (MachineState → Type 0) → Type 0 };
-
+pub trait Journal<N: ChronicleName> {
     /// Makes the entry of a step that is about to be made, or none where nothing is noted. The
     /// number that the step draws, if it draws one, is 0. Nobody has the book: a long message takes
     /// its time here. On an error the step may not be made, since it couldn't be noted.
@@ -39,18 +32,13 @@ pub trait Journal {
 
     /// Notes a step. Whoever notes it has had the book since before the step, so this waits for
     /// nothing that takes long.
-    fn note(&self, step: MadeStep<Self::States>)
-        requires { IsOfMadeStep step.entry step.number
-            (Self.States.was_at step.before) (Self.States.was_at step.after) };
+    fn note(&self, step: MadeStep<N>)
+        requires { IsOfMadeStep step.entry step.number (IsAt step.before) (IsAt step.after) };
 
     /// Waits until all is kept that led to what was recorded by some moment, whoever noted it. The
     /// session doesn't have the book. On an error no message may leave that depends on any of it.
-    fn receipt(
-        &self,
-        recorded: &<Self::States as Recorder>::Front,
-    ) -> Result<Self::Receipt, JournalFault>
-        ensures { IfOk result
-            (λ receipt. covers receipt (Self.States.was_at recorded.now)) };
+    fn receipt(&self, recorded: &RecordedStates<N>) -> Result<Receipt<N>, JournalFault>
+        ensures { IfOk result (λ receipt. Covers receipt recorded.now) };
 
     /// Waits until all that is noted by now is kept, whoever noted it.
     fn write_out(&self) -> Result<(), JournalFault>;
@@ -75,13 +63,7 @@ impl From<AllocError> for JournalFault {
 #[derive(Clone, Copy, Debug, Default)]
 pub struct NoJournal;
 
-impl Journal for NoJournal {
-    type States = NoRecorder;
-
-    type Receipt = ();
-
-    ghost covers = { λ _ _. Unit {0} };
-
+impl<N: ChronicleName> Journal<N> for NoJournal {
     fn prepare(
         &self,
         _moment: Instant,
@@ -91,12 +73,12 @@ impl Journal for NoJournal {
         Ok(None)
     }
 
-    fn note(&self, _step: MadeStep<NoRecorder>)
-        requires { IsOfMadeStep _step.entry _step.number (λ _. Unit {0}) (λ _. Unit {0}) }
+    fn note(&self, _step: MadeStep<N>)
+        requires { IsOfMadeStep _step.entry _step.number (IsAt _step.before) (IsAt _step.after) }
     {}
 
-    fn receipt(&self, _recorded: &()) -> Result<(), JournalFault> {
-        Ok(())
+    fn receipt(&self, recorded: &RecordedStates<N>) -> Result<Receipt<N>, JournalFault> {
+        Receipt::of_nothing(recorded).ok_or(JournalFault::Unwritable)
     }
 
     fn write_out(&self) -> Result<(), JournalFault> {

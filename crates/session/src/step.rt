@@ -8,14 +8,15 @@ ghost use Rattle.session.specs.Perform.{IsOfText, Performs};
 ghost use Rattle.session.specs.Serving.{KeepsPass};
 
 use crate::outcome::{Outcome, Performed};
+use chronicle::ChronicleName;
 use ocpp_scalars::Refusal;
 use site_core::{Reply, Step, Take};
 use std::sync::ledger::Ledger;
-use version_store::{Book, Pass, Recorder};
+use version_store::{Book, Pass};
 
 /// Makes the one call on the book that a step of a message stands for. A request for a schedule has
 /// seen what its session has, whatever the step names.
-pub fn perform<C: Ledger, A: Ledger, N: Recorder>(
+pub fn perform<C: Ledger, A: Ledger, N: ChronicleName>(
     book: &mut Book<C, A, N>,
     pass: &mut Pass<C, A>,
     step: Step,
@@ -43,7 +44,7 @@ pub fn perform<C: Ledger, A: Ledger, N: Recorder>(
 }
 
 /// Keeps a request for a schedule, which has seen what its session has.
-fn perform_take<C: Ledger, A: Ledger, N: Recorder>(
+fn perform_take<C: Ledger, A: Ledger, N: ChronicleName>(
     book: &mut Book<C, A, N>,
     pass: &mut Pass<C, A>,
     take: Take,

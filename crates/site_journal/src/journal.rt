@@ -37,9 +37,9 @@ pub struct Unrestored {
 
 /// Restores a book from the lines of a journal after its header. What stands behind the last line
 /// feed is torn, and isn't read. After an error the book is good for nothing.
-pub fn restore<C: Ledger, A: Ledger, K: ChronicleName>(
+pub fn restore<C: Ledger, A: Ledger, N: ChronicleName>(
     alloc: Global,
-    book: &mut Book<C, A, K>,
+    book: &mut Book<C, A, N>,
     pass: &mut Pass<C, A>,
     text: &[u8],
 ) -> Result<Restored, Unrestored>
@@ -68,10 +68,10 @@ pub fn restore<C: Ledger, A: Ledger, K: ChronicleName>(
 }
 
 /// Restores a line, without its line feed, that may be no text.
-fn restore_bytes<C: Ledger, A: Ledger, K: ChronicleName>(
+fn restore_bytes<C: Ledger, A: Ledger, N: ChronicleName>(
     alloc: Global,
     memory: &mut ReadingMemory,
-    book: &mut Book<C, A, K>,
+    book: &mut Book<C, A, N>,
     pass: &mut Pass<C, A>,
     bytes: &[u8],
 ) -> Result<(), RestoreFault>

@@ -15,9 +15,9 @@ use version_store::Book;
 
 /// Each point that has a link loses it, and the lines that say so at this moment are appended to a
 /// text, for the journal. Calls that were in flight wait again.
-pub fn lose_links<C: Ledger, A: Ledger, K: ChronicleName>(
+pub fn lose_links<C: Ledger, A: Ledger, N: ChronicleName>(
     alloc: Global,
-    book: &mut Book<C, A, K>,
+    book: &mut Book<C, A, N>,
     moment: Instant,
     text: &mut String,
 ) -> Result<(), Refusal>
@@ -33,9 +33,9 @@ pub fn lose_links<C: Ledger, A: Ledger, K: ChronicleName>(
 }
 
 /// The point at a place of the site file loses its link, if it has one.
-fn lose_link<C: Ledger, A: Ledger, K: ChronicleName>(
+fn lose_link<C: Ledger, A: Ledger, N: ChronicleName>(
     alloc: Global,
-    book: &mut Book<C, A, K>,
+    book: &mut Book<C, A, N>,
     place: usize,
     moment: Instant,
     text: &mut String,
@@ -56,8 +56,8 @@ fn lose_link<C: Ledger, A: Ledger, K: ChronicleName>(
 }
 
 /// The point of an identity loses this link.
-fn lose<C: Ledger, A: Ledger, K: ChronicleName>(
-    book: &mut Book<C, A, K>,
+fn lose<C: Ledger, A: Ledger, N: ChronicleName>(
+    book: &mut Book<C, A, N>,
     point: PointId,
     link: u64,
     moment: Instant,

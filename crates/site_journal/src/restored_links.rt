@@ -14,9 +14,9 @@ use std::sync::ledger::Ledger;
 use version_store::{Book, Pass};
 
 /// The point gets a new link, which has to have this number.
-pub(crate) fn attach<C: Ledger, A: Ledger, K: ChronicleName>(
+pub(crate) fn attach<C: Ledger, A: Ledger, N: ChronicleName>(
     alloc: Global,
-    book: &mut Book<C, A, K>,
+    book: &mut Book<C, A, N>,
     pass: &mut Pass<C, A>,
     point: &str,
     link: u64,
@@ -33,9 +33,9 @@ pub(crate) fn attach<C: Ledger, A: Ledger, K: ChronicleName>(
 }
 
 /// Over this link goes a call, which has to have this number.
-pub(crate) fn send<C: Ledger, A: Ledger, K: ChronicleName>(
+pub(crate) fn send<C: Ledger, A: Ledger, N: ChronicleName>(
     alloc: Global,
-    book: &mut Book<C, A, K>,
+    book: &mut Book<C, A, N>,
     point: &str,
     link: u64,
     call: u64,
@@ -52,9 +52,9 @@ pub(crate) fn send<C: Ledger, A: Ledger, K: ChronicleName>(
 }
 
 /// This link is lost.
-pub(crate) fn lose<C: Ledger, A: Ledger, K: ChronicleName>(
+pub(crate) fn lose<C: Ledger, A: Ledger, N: ChronicleName>(
     alloc: Global,
-    book: &mut Book<C, A, K>,
+    book: &mut Book<C, A, N>,
     point: &str,
     link: u64,
 ) -> Result<(), RestoreFault>

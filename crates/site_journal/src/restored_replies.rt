@@ -24,10 +24,10 @@ use version_store::Book;
 pub const UNREAD_REPLY: &str = r#"[3,"",{"status":"Accepted"}]"#;
 
 /// Confirms the call that a point's reply names, over this link.
-pub(crate) fn confirm_call<C: Ledger, A: Ledger, K: ChronicleName>(
+pub(crate) fn confirm_call<C: Ledger, A: Ledger, N: ChronicleName>(
     alloc: Global,
     memory: &mut ReadingMemory,
-    book: &mut Book<C, A, K>,
+    book: &mut Book<C, A, N>,
     text: &SentText<'_>,
     link: u64,
 ) -> Result<(), RestoreFault>
@@ -49,8 +49,8 @@ pub(crate) fn confirm_call<C: Ledger, A: Ledger, K: ChronicleName>(
     }
 }
 
-fn confirm<C: Ledger, A: Ledger, K: ChronicleName>(
-    book: &mut Book<C, A, K>,
+fn confirm<C: Ledger, A: Ledger, N: ChronicleName>(
+    book: &mut Book<C, A, N>,
     point: PointId,
     link: u64,
     call: u64,
@@ -66,10 +66,10 @@ fn confirm<C: Ledger, A: Ledger, K: ChronicleName>(
 }
 
 /// Judges the point's audit whose call has this number by what the point replied.
-pub(crate) fn judge_audit<C: Ledger, A: Ledger, K: ChronicleName>(
+pub(crate) fn judge_audit<C: Ledger, A: Ledger, N: ChronicleName>(
     alloc: Global,
     memory: &mut ReadingMemory,
-    book: &mut Book<C, A, K>,
+    book: &mut Book<C, A, N>,
     text: &SentText<'_>,
     call: u64,
 ) -> Result<(), RestoreFault>
@@ -84,10 +84,10 @@ pub(crate) fn judge_audit<C: Ledger, A: Ledger, K: ChronicleName>(
     }
 }
 
-fn judge<C: Ledger, A: Ledger, K: ChronicleName>(
+fn judge<C: Ledger, A: Ledger, N: ChronicleName>(
     alloc: Global,
     memory: &mut ReadingMemory,
-    book: &mut Book<C, A, K>,
+    book: &mut Book<C, A, N>,
     text: &SentText<'_>,
     call: u64,
     job: AuditJob,

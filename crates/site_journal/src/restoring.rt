@@ -23,10 +23,10 @@ use version_store::{Book, Pass};
 /// Makes the step of a line, where it is made and draws the number that is written. Only after
 /// `OtherNumber` it was made all the same.
 #[tactic(auto, unfolding(crate::specs::Restore::restored))]
-pub(crate) fn restore_line<C: Ledger, A: Ledger, K: ChronicleName>(
+pub(crate) fn restore_line<C: Ledger, A: Ledger, N: ChronicleName>(
     alloc: Global,
     memory: &mut ReadingMemory,
-    book: &mut Book<C, A, K>,
+    book: &mut Book<C, A, N>,
     pass: &mut Pass<C, A>,
     line: &Line<'_>,
 ) -> Result<(), RestoreFault>
@@ -60,10 +60,10 @@ pub(crate) fn restore_line<C: Ledger, A: Ledger, K: ChronicleName>(
 // ---- messages
 
 /// Makes the change that a message asks for, which has to draw this number.
-fn change<C: Ledger, A: Ledger, K: ChronicleName>(
+fn change<C: Ledger, A: Ledger, N: ChronicleName>(
     alloc: Global,
     memory: &mut ReadingMemory,
-    book: &mut Book<C, A, K>,
+    book: &mut Book<C, A, N>,
     pass: &mut Pass<C, A>,
     text: &SentText<'_>,
     number: u64,
@@ -127,8 +127,8 @@ pub(crate) fn is_change(step: &Step) -> bool
     }
 }
 
-fn make_change<C: Ledger, A: Ledger, K: ChronicleName>(
-    book: &mut Book<C, A, K>,
+fn make_change<C: Ledger, A: Ledger, N: ChronicleName>(
+    book: &mut Book<C, A, N>,
     pass: &mut Pass<C, A>,
     step: Step,
     number: u64,

@@ -20,7 +20,7 @@ use std::sync::Wait;
 use std::sync::ledger::{Blank, Ledger};
 use std::thread;
 use std::thread::Threads;
-use version_store::{Job, NoRecorder, Pass, Totals};
+use version_store::{Job, Pass, Totals};
 
 const TOTALS: Totals = Totals {
     changes: 4,
@@ -98,13 +98,9 @@ fn totals_of_a_seat<
     requires answers { (blanks.1.name ≡ A.name) × (blanks.1.parts ≡ A.parts)
         × (blanks.1.parts ≡ 2) }
 {
-    let book: SeatedBook<C, A, NoRecorder> = SeatedBook::make(
-        alloc,
-        blanks,
-        site(rt, alloc),
-        1,
-        NoRecorder,
-    ).expect(rt, "error");
+    let book: SeatedBook<C, A> = SeatedBook::make(alloc, blanks, site(rt, alloc), 1).expect(
+        rt, "error",
+    );
     let SeatedBook {
         shared,
         mut seats,

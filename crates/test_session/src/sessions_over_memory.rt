@@ -2,6 +2,7 @@
 
 ghost use Rattle.std.specs.Prelude.{◌≡◌};
 ghost use Rattle.site_journal.specs.MadeStep.{IsOfMadeStep};
+ghost use Rattle.version_store.specs.Recording.{IsAt};
 
 use crate::same::{holds, same, same_text};
 use crate::served_texts::{
@@ -10,7 +11,9 @@ use crate::served_texts::{
     NOTED_OF_POINT, SCHEDULE, SCHEDULE_WITHOUT, SET, SET_ACCEPTED, SITE, START, STARTED, STATUS,
 };
 use crate::streams::{client_bytes, client_texts, messages_of, socket_of};
+use chronicle::ChronicleName;
 use crossbeam_channel::{Sender, bounded};
+use journal_writer::Receipt;
 use ocpp_scalars::{Instant, Moments};
 use profile::Unit;
 use session::{
@@ -26,7 +29,7 @@ use std::sync::ledger::{Blank, Ledger};
 use std::sync::{Mutex, Wait};
 use test_books::instant_at;
 use tungstenite::Message;
-use version_store::{Job, NoRecorder, Pass, Shared};
+use version_store::{Job, Pass, RecordedStates, Shared};
 
 /// A clock that tells one moment, or none.
 #[derive(Clone, Copy, Debug)]
@@ -676,13 +679,7 @@ impl<'a, R: Abort + Wait> Lines<'a, R> {
     }
 }
 
-impl<R: Abort + Wait> Journal for Lines<'_, R> {
-    type States = NoRecorder;
-
-    type Receipt = ();
-
-    ghost covers = { λ _ _. Unit {0} };
-
+impl<R: Abort + Wait, N: ChronicleName> Journal<N> for Lines<'_, R> {
     fn prepare(
         &self,
         moment: Instant,
@@ -700,16 +697,17 @@ impl<R: Abort + Wait> Journal for Lines<'_, R> {
         Ok(Some(Entry::new(self.alloc, &line)?))
     }
 
-    fn note(&self, step: MadeStep<NoRecorder>)
-        requires { IsOfMadeStep step.entry step.number (λ _. Unit {0}) (λ _. Unit {0}) }
+    fn note(&self, step: MadeStep<N>)
+        requires { IsOfMadeStep step.entry step.number (IsAt step.before) (IsAt step.after) }
     {
         let mut noted = self.noted.lock(self.rt);
         let MadeStep { entry, number, .. } = step;
         entry.push(&mut noted, number).expect(self.rt, "error");
     }
 
-    fn receipt(&self, _recorded: &()) -> Result<(), JournalFault> {
-        self.write_out()
+    fn receipt(&self, recorded: &RecordedStates<N>) -> Result<Receipt<N>, JournalFault> {
+        Journal::<N>::write_out(self)?;
+        Receipt::of_nothing(recorded).ok_or(JournalFault::Unwritable)
     }
 
     fn write_out(&self) -> Result<(), JournalFault> {

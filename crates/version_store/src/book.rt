@@ -34,14 +34,14 @@ use std::sync::ledger::{Blank, Ledger};
 /// adds one event, and none is ever refused because the history is full. A pass fits only the book
 /// that it was made with, and the two ledgers see to that.
 #[derive(Drop)]
-pub struct Book<C: Ledger, A: Ledger, K: ChronicleName = NoName> {
+pub struct Book<C: Ledger, A: Ledger, N: ChronicleName = NoName> {
     history: History,
     ledgers: Ledgers<C, A>,
     /// Who records its changes.
-    recorder: StateRecorder<K>,
+    recorder: StateRecorder<N>,
 }
 
-impl<C: Ledger, A: Ledger, K: ChronicleName> Model for Book<C, A, K> {
+impl<C: Ledger, A: Ledger, N: ChronicleName> Model for Book<C, A, N> {
     ghost use Rattle.std.specs.Prelude.{◌≡◌};
     ghost use Rattle.version_store.specs.Recording.{IsAt};
     ghost use Rattle.version_store.specs.Store.{StoreState};
@@ -83,7 +83,7 @@ impl<C: Ledger, A: Ledger> Book<C, A> {
     }
 }
 
-impl<C: Ledger, A: Ledger, K: ChronicleName> Book<C, A, K> {
+impl<C: Ledger, A: Ledger, N: ChronicleName> Book<C, A, N> {
     /// The same, whose states are recorded in a chronicle.
     pub fn make_with(
         alloc: Global,
@@ -92,12 +92,12 @@ impl<C: Ledger, A: Ledger, K: ChronicleName> Book<C, A, K> {
         site: Site,
         sessions: u64,
         states: Unnamed,
-    ) -> Result<(Book<C, A, K>, Vec<Pass<C, A>>), AllocError>
+    ) -> Result<(Book<C, A, N>, Vec<Pass<C, A>>), AllocError>
         requires changes { (changes.name ≡ C.name) × (changes.parts ≡ C.parts)
             × (changes.parts ≡ sessions) }
         requires answers { (answers.name ≡ A.name) × (answers.parts ≡ A.parts)
             × (answers.parts ≡ sessions) }
-        requires states { states.name ≡ K.name }
+        requires states { states.name ≡ N.name }
         ensures book { IfOk result (λ made. made.0 ≡ opening_store site) }
         ensures passes { IfOk result (λ made. length made.1.items ≡ sessions) }
         ensures unused { IfOk result (λ made. All (λ pass. pass ≡ unused_pass) made.1.items) }
@@ -113,8 +113,8 @@ impl<C: Ledger, A: Ledger, K: ChronicleName> Book<C, A, K> {
         answers: Blank,
         site: Site,
         sessions: u64,
-        recorder: StateRecorder<K>,
-    ) -> Result<(Book<C, A, K>, Vec<Pass<C, A>>), AllocError>
+        recorder: StateRecorder<N>,
+    ) -> Result<(Book<C, A, N>, Vec<Pass<C, A>>), AllocError>
         requires changes { (changes.name ≡ C.name) × (changes.parts ≡ C.parts)
             × (changes.parts ≡ sessions) }
         requires answers { (answers.name ≡ A.name) × (answers.parts ≡ A.parts)
@@ -149,9 +149,9 @@ impl<C: Ledger, A: Ledger, K: ChronicleName> Book<C, A, K> {
     }
 }
 
-impl<C: Ledger, A: Ledger, K: ChronicleName> Book<C, A, K> {
+impl<C: Ledger, A: Ledger, N: ChronicleName> Book<C, A, N> {
     /// What is recorded of its states by now.
-    pub fn recorded(&self) -> RecordedStates<K>
+    pub fn recorded(&self) -> RecordedStates<N>
         ensures { IsAt result self.now.present }
     {
         self.recorder.recorded()

@@ -31,15 +31,15 @@ impl EntryFrom<Site, Machine> for Opened {
     ghost entry = { λ site. forget (opening site) };
 }
 
-/// Records the states of a book in the chronicle K: the first one, and that after each change. At
+/// Records the states of a book in the chronicle N: the first one, and that after each change. At
 /// run time it counts them. Or it records nothing.
 #[derive(Drop)]
-pub(crate) struct StateRecorder<K: ChronicleName> {
-    states: Option<Chronicle<Machine, K>>,
+pub(crate) struct StateRecorder<N: ChronicleName> {
+    states: Option<Chronicle<Machine, N>>,
     count: u64,
 }
 
-impl<K: ChronicleName> Model for StateRecorder<K> {
+impl<N: ChronicleName> Model for StateRecorder<N> {
     ghost use Rattle.std.specs.Prelude.{is_some, option_map};
     ghost use Rattle.version_store.specs.Recording.{IsCountOf, RecordedState, or_none};
 
@@ -55,12 +55,12 @@ impl<K: ChronicleName> Model for StateRecorder<K> {
 
 /// What was recorded of a book by some moment.
 #[derive(Drop)]
-pub struct RecordedStates<K: ChronicleName> {
-    states: Option<Front<Machine, K>>,
+pub struct RecordedStates<N: ChronicleName> {
+    states: Option<Front<Machine, N>>,
     count: u64,
 }
 
-impl<K: ChronicleName> Model for RecordedStates<K> {
+impl<N: ChronicleName> Model for RecordedStates<N> {
     ghost use Rattle.std.specs.Prelude.{is_some, option_map};
     ghost use Rattle.version_store.specs.Recording.{IsCountOf, RecordedState, or_none};
 
@@ -74,9 +74,9 @@ impl<K: ChronicleName> Model for RecordedStates<K> {
     ghost invariant = { λ r. IsCountOf (or_none (option_map (λ f. f.entries) r.states)) r.count };
 }
 
-impl<K: ChronicleName> StateRecorder<K> {
+impl<N: ChronicleName> StateRecorder<N> {
     /// Records nothing.
-    pub(crate) fn nothing() -> StateRecorder<K>
+    pub(crate) fn nothing() -> StateRecorder<N>
         ensures { result.is_kept ≡ false }
     {
         StateRecorder {
@@ -86,8 +86,8 @@ impl<K: ChronicleName> StateRecorder<K> {
     }
 
     /// Has the state of a site where nothing was done yet.
-    pub(crate) fn new(unnamed: Unnamed, site: &Site) -> StateRecorder<K>
-        requires { unnamed.name ≡ K.name }
+    pub(crate) fn new(unnamed: Unnamed, site: &Site) -> StateRecorder<N>
+        requires { unnamed.name ≡ N.name }
         ensures { result ≡ record { is_kept = true; states = opening_states site.now } }
     {
         let mut states = unnamed.named();
@@ -109,7 +109,7 @@ impl<K: ChronicleName> StateRecorder<K> {
     }
 
     /// What was recorded by now.
-    pub(crate) fn recorded(&self) -> RecordedStates<K>
+    pub(crate) fn recorded(&self) -> RecordedStates<N>
         ensures { result ≡ self.now }
     {
         match &self.states {
@@ -125,7 +125,7 @@ impl<K: ChronicleName> StateRecorder<K> {
     }
 }
 
-impl<K: ChronicleName> RecordedStates<K> {
+impl<N: ChronicleName> RecordedStates<N> {
     /// Whether states are recorded.
     pub fn is_kept(&self) -> bool
         ensures { result ≡ self.now.is_kept }
@@ -134,7 +134,7 @@ impl<K: ChronicleName> RecordedStates<K> {
     }
 
     /// A copy.
-    pub fn copy(&self) -> RecordedStates<K>
+    pub fn copy(&self) -> RecordedStates<N>
         ensures { result ≡ self.now }
     {
         match &self.states {
@@ -150,7 +150,7 @@ impl<K: ChronicleName> RecordedStates<K> {
     }
 
     /// Whether states are recorded, and these are the other ones, and perhaps more.
-    pub fn is_at_least(&self, other: &RecordedStates<K>) -> bool
+    pub fn is_at_least(&self, other: &RecordedStates<N>) -> bool
         ensures { result ≡ true → IsPrefix other.now.states self.now.states }
     {
         let (Some(states), Some(others)) = (&self.states, &other.states) else {
@@ -161,7 +161,7 @@ impl<K: ChronicleName> RecordedStates<K> {
     }
 
     /// Whether states are recorded, and these are the other ones: as many, as far as a number counts.
-    pub fn is_same(&self, other: &RecordedStates<K>) -> bool
+    pub fn is_same(&self, other: &RecordedStates<N>) -> bool
         ensures same { result ≡ true → self.now ≡ other.now }
         ensures kept { result ≡ true → self.now.is_kept ≡ true }
     {

@@ -13,9 +13,9 @@ use chronicle::ChronicleName;
 use site_core::{Refused, Reply, Step};
 
 /// Makes a step that brings no answer, and records the state that it leads to, if it is a change.
-pub(crate) fn make_recorded<K: ChronicleName>(
+pub(crate) fn make_recorded<N: ChronicleName>(
     history: &mut History,
-    recorder: &mut StateRecorder<K>,
+    recorder: &mut StateRecorder<N>,
     step: Step,
 ) -> Result<Reply, Refused>
     requires can_fold { may_fold step ≡ true }

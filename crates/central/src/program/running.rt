@@ -17,7 +17,6 @@ use server::{
     SeatContext, SeatOptions, SeatedBook, ServeFault, StatusPort, begin_boots, begin_status,
     run_seats,
 };
-use site_journal::StateRecorder;
 use site_keys::Keys;
 use site_rules::Site;
 use std::alloc::{AllocError, AllocGlobal, Global};
@@ -164,7 +163,7 @@ fn listen<R: Eprint + Net<Listener = TcpListener, Stream = TcpStream>>(
 fn run_counted<
     C: Ledger + Send + Sync + Drop + 'static,
     A: Ledger + Send + Sync + Drop + 'static,
-    J: ChronicleName + Send + Sync + Drop + 'static,
+    N: ChronicleName + Send + Sync + Drop + 'static,
     R: Files<File = File>
         + Print
         + Eprint
@@ -179,13 +178,13 @@ fn run_counted<
         + Sync
         + Drop
         + 'static,
->(rt: &R, plan: Plan<'_>, blanks: (Blank, Blank), unnamed: Unnamed) -> Result<(), ProgramFault>
+>(rt: &R, plan: Plan<'_>, blanks: (Blank, Blank), states: Unnamed) -> Result<(), ProgramFault>
     requires workers { 1 ≤ plan.workers }
     requires changes { (blanks.0.name ≡ C.name) × (blanks.0.parts ≡ C.parts)
         × (blanks.0.parts ≡ plan.seats + 1) }
     requires answers { (blanks.1.name ≡ A.name) × (blanks.1.parts ≡ A.parts)
         × (blanks.1.parts ≡ plan.seats + 1) }
-    requires states { unnamed.name ≡ J.name }
+    requires states { states.name ≡ N.name }
 {
     let Plan {
         site,
@@ -200,14 +199,7 @@ fn run_counted<
         status,
         status_address,
     } = plan;
-    let recorder = StateRecorder::<J>::new(unnamed, &site);
-    let book: SeatedBook<C, A, StateRecorder<J>> = SeatedBook::make(
-        rt.alloc(),
-        blanks,
-        site,
-        seats,
-        recorder,
-    )?;
+    let book: SeatedBook<C, A, N> = SeatedBook::make_with(rt.alloc(), blanks, site, seats, states)?;
     let SeatedBook {
         shared,
         restoring,
@@ -249,11 +241,11 @@ fn owned(alloc: Global, text: Option<&str>) -> Result<Option<String>, AllocError
 fn begin_lines<
     C: Ledger + Send + Sync + Drop + 'static,
     A: Ledger + Send + Sync + Drop + 'static,
-    J: ChronicleName + Send + Sync + Drop + 'static,
+    N: ChronicleName + Send + Sync + Drop + 'static,
     R: Eprint + AllocGlobal + Clock + Threads + Wait + Copy + Send + Sync + Drop + 'static,
 >(
     rt: &R,
-    context: &Arc<SeatContext<C, A, R, SystemClock<R>, WatchedFile<R, J>>, Global>,
+    context: &Arc<SeatContext<C, A, R, SystemClock<R>, WatchedFile<R, N>, N>, Global>,
 ) -> Result<(), ProgramFault> {
     let own = Arc::try_clone(context)?;
     let writer = thread::Builder::new().spawn(rt, move || own.journal().file.write_lines());
@@ -267,10 +259,10 @@ fn begin_lines<
 fn keep_boots<
     C: Ledger + Send + Sync + Drop + 'static,
     A: Ledger + Send + Sync + Drop + 'static,
-    J: ChronicleName + Send + Sync + Drop + 'static,
+    N: ChronicleName + Send + Sync + Drop + 'static,
     R: Eprint + AllocGlobal + Clock + Threads + Wait + Copy + Send + Sync + Drop + 'static,
 >(
-    context: &Arc<SeatContext<C, A, R, SystemClock<R>, WatchedFile<R, J>>, Global>,
+    context: &Arc<SeatContext<C, A, R, SystemClock<R>, WatchedFile<R, N>, N>, Global>,
     kept: KeptBoots,
 ) -> Result<(), ProgramFault> {
     let KeptBoots { boots, file } = kept;
@@ -288,14 +280,14 @@ fn keep_boots<
 fn context_of<
     C: Ledger,
     A: Ledger,
-    J: ChronicleName,
+    N: ChronicleName,
     R: Clock + Wait + Eprint + AllocGlobal + Copy + Drop,
 >(
     rt: &R,
-    shared: Shared<C, A, StateRecorder<J>>,
-    journal: JournalFile<R, J>,
+    shared: Shared<C, A, N>,
+    journal: JournalFile<R, N>,
     options: SeatOptions,
-) -> Result<Arc<SeatContext<C, A, R, SystemClock<R>, WatchedFile<R, J>>, Global>, AllocError> {
+) -> Result<Arc<SeatContext<C, A, R, SystemClock<R>, WatchedFile<R, N>, N>, Global>, AllocError> {
     let alloc = rt.alloc();
     let clock = SystemClock { rt: *rt };
     let journal = WatchedFile { file: journal };

@@ -1,6 +1,7 @@
 //! The journal of a site that is run, of which the server tells how it is.
 
-ghost use Rattle.journal_writer.specs.Account.{Covers};
+ghost use Rattle.site_journal.specs.MadeStep.{IsOfMadeStep};
+ghost use Rattle.version_store.specs.Recording.{IsAt};
 
 use chronicle::ChronicleName;
 use data_folder::JournalFile;
@@ -8,26 +9,20 @@ use journal_writer::Receipt;
 use ocpp_scalars::Instant;
 use server::WatchedJournal;
 use session::{Entry, Journal, JournalFault, MadeStep, Noted};
-use site_journal::{RecordedStates, StateRecorder};
 use site_status::JournalReport;
 use std::alloc::AllocGlobal;
 use std::rt::Clock;
 use std::sync::Wait;
+use version_store::RecordedStates;
 
 /// A journal's file. It is one type with the server's trait, so that the file needs no server.
 #[derive(Drop)]
-pub struct WatchedFile<R, J: ChronicleName> {
-    pub file: JournalFile<R, J>,
+pub struct WatchedFile<R, N: ChronicleName> {
+    pub file: JournalFile<R, N>,
 }
 
-impl<R: Wait + Clock + Eprint + AllocGlobal + Drop, J: ChronicleName> Journal
-    for WatchedFile<R, J> {
-    type States = StateRecorder<J>;
-
-    type Receipt = Receipt<J>;
-
-    ghost covers = { Covers };
-
+impl<R: Wait + Clock + Eprint + AllocGlobal + Drop, N: ChronicleName> Journal<N>
+    for WatchedFile<R, N> {
     fn prepare(
         &self,
         moment: Instant,
@@ -37,11 +32,13 @@ impl<R: Wait + Clock + Eprint + AllocGlobal + Drop, J: ChronicleName> Journal
         self.file.prepare(moment, point, noted)
     }
 
-    fn note(&self, step: MadeStep<StateRecorder<J>>) {
+    fn note(&self, step: MadeStep<N>)
+        requires { IsOfMadeStep step.entry step.number (IsAt step.before) (IsAt step.after) }
+    {
         self.file.note(step)
     }
 
-    fn receipt(&self, recorded: &RecordedStates<J>) -> Result<Receipt<J>, JournalFault> {
+    fn receipt(&self, recorded: &RecordedStates<N>) -> Result<Receipt<N>, JournalFault> {
         self.file.receipt(recorded)
     }
 
@@ -50,7 +47,7 @@ impl<R: Wait + Clock + Eprint + AllocGlobal + Drop, J: ChronicleName> Journal
     }
 }
 
-impl<R: Wait, J: ChronicleName> WatchedJournal for WatchedFile<R, J> {
+impl<R: Wait, N: ChronicleName> WatchedJournal for WatchedFile<R, N> {
     fn report(&self) -> JournalReport {
         self.file.report()
     }

@@ -12,6 +12,7 @@ use crate::outcome::{Outcome, Performed};
 use crate::serving::ended::{Ended, ended_unsaved};
 use crate::serving::noting::note_made;
 use crate::serving::reading::read_reply;
+use chronicle::ChronicleName;
 use meaning::Said;
 use ocpp_scalars::Moments;
 use site_core::{PointId, Reply, Step, equal_books_are_one};
@@ -22,7 +23,7 @@ use std::sync::Wait;
 use std::sync::ledger::Ledger;
 use sweep_compiler::{AuditJob, Judged, verdicts_are_computed};
 use texts::SentText;
-use version_store::{Book, Recorder};
+use version_store::Book;
 
 /// An audit that has no verdict yet.
 #[derive(Drop)]
@@ -42,7 +43,7 @@ impl Model for OpenAudit {
 }
 
 /// The audit that a step replies to, if it does: the step confirms its call. Nothing is changed.
-pub(crate) fn audit_confirmed<C: Ledger, A: Ledger, N: Recorder>(
+pub(crate) fn audit_confirmed<C: Ledger, A: Ledger, N: ChronicleName>(
     alloc: Global,
     book: &Book<C, A, N>,
     step: &Step,
@@ -88,8 +89,15 @@ pub(crate) fn audit_to_judge(performed: &Performed, audit: Option<OpenAudit>) ->
 /// line for the reply, where its call is confirmed, and one for the verdict, where that is kept. The
 /// latter has a reply that isn't read where memory ran out for this one: a restore comes to the same
 /// verdict then. Where the verdict couldn't be noted the audit has none, and the session ends.
-pub(crate) fn judge_reply<C: Ledger, A: Ledger, R: Wait, M: Moments, J: Journal>(
-    context: &Context<'_, C, A, R, M, J>,
+pub(crate) fn judge_reply<
+    C: Ledger,
+    A: Ledger,
+    R: Wait,
+    M: Moments,
+    J: Journal<N>,
+    N: ChronicleName,
+>(
+    context: &Context<'_, C, A, R, M, J, N>,
     sent: &SentText<'_>,
     audit: OpenAudit,
 ) -> Result<(), Ended>
@@ -128,7 +136,7 @@ fn reply_to_note<'s>(sent: &'s SentText<'_>, is_short: bool) -> &'s str
 
 /// Keeps a verdict on the audit of a point whose call has this number. What is refused is dropped.
 /// Returns whether it is kept.
-fn bring_verdict<C: Ledger, A: Ledger, N: Recorder>(
+fn bring_verdict<C: Ledger, A: Ledger, N: ChronicleName>(
     book: &mut Book<C, A, N>,
     point: PointId,
     call: u64,
@@ -147,8 +155,8 @@ fn bring_verdict<C: Ledger, A: Ledger, N: Recorder>(
 
 /// The verdict on what a message says, and whether memory ran out for it. What can't be read for
 /// lack of memory is judged as unread.
-fn judged_by<C: Ledger, A: Ledger, R: Wait, M: Moments, J: Journal>(
-    context: &Context<'_, C, A, R, M, J>,
+fn judged_by<C: Ledger, A: Ledger, R: Wait, M: Moments, J: Journal<N>, N: ChronicleName>(
+    context: &Context<'_, C, A, R, M, J, N>,
     sent: &SentText<'_>,
     job: AuditJob,
 ) -> (Judged, bool)

@@ -12,6 +12,7 @@ use crate::serving::heard::SentCall;
 use crate::serving::noting::{note_made, prepare_link};
 use crate::serving::sockets::{clear_to_leave, send_text};
 use crate::session_core::{Peer, SessionCore};
+use chronicle::ChronicleName;
 use messages::{ActionKind, Call, CallBody, push_call};
 use ocpp_scalars::{Instant, Moments, Refusal};
 use site_core::PointId;
@@ -21,11 +22,11 @@ use std::io::{Read, Write};
 use std::sync::Wait;
 use std::sync::ledger::Ledger;
 use tungstenite::{MaskKeys, WebSocket};
-use version_store::{Pass, Recorder};
+use version_store::{Pass, RecordedStates};
 
 /// Gives a point's session its link, before its first message, and notes it. Without one it ends.
-pub fn attach_session<C: Ledger, A: Ledger, R: Wait, M: Moments, J: Journal>(
-    context: &Context<'_, C, A, R, M, J>,
+pub fn attach_session<C: Ledger, A: Ledger, R: Wait, M: Moments, J: Journal<N>, N: ChronicleName>(
+    context: &Context<'_, C, A, R, M, J, N>,
     core: &mut SessionCore,
     pass: &mut Pass<C, A>,
 ) -> Result<(), Ended>
@@ -70,9 +71,10 @@ pub fn send_call<
     A: Ledger,
     R: Wait,
     M: Moments,
-    J: Journal,
+    J: Journal<N>,
+    N: ChronicleName,
 >(
-    context: &Context<'_, C, A, R, M, J>,
+    context: &Context<'_, C, A, R, M, J, N>,
     socket: &mut WebSocket<S, K>,
     core: &SessionCore,
     moment: Instant,
@@ -116,12 +118,12 @@ fn action_of(body: &CallBody) -> ActionKind
 
 /// The first call that waits for a point, which is in flight from then on, and noted so, and what was
 /// recorded of the book by that. None where the point has a later link by now.
-fn next_call<C: Ledger, A: Ledger, R: Wait, M: Moments, J: Journal>(
-    context: &Context<'_, C, A, R, M, J>,
+fn next_call<C: Ledger, A: Ledger, R: Wait, M: Moments, J: Journal<N>, N: ChronicleName>(
+    context: &Context<'_, C, A, R, M, J, N>,
     point: &PointId,
     link: u64,
     moment: Instant,
-) -> Result<Option<(Call, <J::States as Recorder>::Front)>, Ended> {
+) -> Result<Option<(Call, RecordedStates<N>)>, Ended> {
     let noted = Noted::Sent { link, call: 0 };
     let entry = match context.journal.prepare(moment, point.as_str(), noted) {
         Ok(entry) => entry,
@@ -160,8 +162,8 @@ fn text_of_call(alloc: Global, call: &Call) -> Result<String, AllocError>
 /// The link of a point's session is lost, and noted so: a call that was in flight over it waits
 /// again. What the book refuses is dropped: the point has a later link. Where it can't be noted the
 /// point keeps the link, until it has a later one.
-pub(crate) fn lose<C: Ledger, A: Ledger, R: Wait, M: Moments, J: Journal>(
-    context: &Context<'_, C, A, R, M, J>,
+pub(crate) fn lose<C: Ledger, A: Ledger, R: Wait, M: Moments, J: Journal<N>, N: ChronicleName>(
+    context: &Context<'_, C, A, R, M, J, N>,
     core: SessionCore,
 ) {
     let Peer::Point { link: Some(link) } = core.peer() else {

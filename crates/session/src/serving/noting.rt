@@ -5,23 +5,32 @@ ghost use Rattle.site_journal.specs.Line.{noted_state};
 ghost use Rattle.site_journal.specs.MadeStep.{IsOfMadeStep};
 ghost use Rattle.session.specs.declared.outcome.Outcome.{Outcome};
 ghost use Rattle.session.specs.declared.outcome.Performed.{Performed};
+ghost use Rattle.version_store.specs.Recording.{IsAt};
 ghost use Rattle.session.specs.Noting.{AsksFor, IsEntryAt, IsEntryFor, IsNotable, IsPresent};
 
 use crate::context::Context;
 use crate::journal::{Journal, JournalFault};
 use crate::outcome::{Outcome, Performed};
+use chronicle::ChronicleName;
 use ocpp_scalars::{Instant, Moments};
 use site_core::{Reply, Step};
 use site_journal::{Entry, MadeStep, Noted, noted_by, noted_steps_are_restored, number_drawn};
 use std::sync::Wait;
 use std::sync::ledger::Ledger;
 use texts::SentText;
-use version_store::{Book, Recorder};
+use version_store::{Book, RecordedStates};
 
 /// Makes the entry of a message whose step may change something, or none. A request for a schedule
 /// or for a status changes nothing.
-pub(crate) fn prepare_message<C: Ledger, A: Ledger, R: Wait, M: Moments, J: Journal>(
-    context: &Context<'_, C, A, R, M, J>,
+pub(crate) fn prepare_message<
+    C: Ledger,
+    A: Ledger,
+    R: Wait,
+    M: Moments,
+    J: Journal<N>,
+    N: ChronicleName,
+>(
+    context: &Context<'_, C, A, R, M, J, N>,
     sent: &SentText<'_>,
     step: &Option<Step>,
 ) -> Result<Option<Entry>, JournalFault>
@@ -38,8 +47,15 @@ pub(crate) fn prepare_message<C: Ledger, A: Ledger, R: Wait, M: Moments, J: Jour
 }
 
 /// Makes the entry of what becomes of a point's link.
-pub(crate) fn prepare_link<C: Ledger, A: Ledger, R: Wait, M: Moments, J: Journal>(
-    context: &Context<'_, C, A, R, M, J>,
+pub(crate) fn prepare_link<
+    C: Ledger,
+    A: Ledger,
+    R: Wait,
+    M: Moments,
+    J: Journal<N>,
+    N: ChronicleName,
+>(
+    context: &Context<'_, C, A, R, M, J, N>,
     point: &str,
     noted: Noted<'_>,
 ) -> Result<Option<Entry>, JournalFault>
@@ -54,16 +70,16 @@ pub(crate) fn prepare_link<C: Ledger, A: Ledger, R: Wait, M: Moments, J: Journal
 
 /// Notes the step of a message, if it was made and changed something. Nobody else has had the book
 /// since before it.
-pub(crate) fn note_performed<C: Ledger, A: Ledger, J: Journal>(
+pub(crate) fn note_performed<C: Ledger, A: Ledger, J: Journal<N>, N: ChronicleName>(
     journal: &J,
-    book: &Book<C, A, J::States>,
-    before: <J::States as Recorder>::Front,
+    book: &Book<C, A, N>,
+    before: RecordedStates<N>,
     entry: Option<Entry>,
     confirms: bool,
     performed: &Performed,
 )
     requires { IfSome entry
-        (λ e. IsNotable e confirms performed.now (J.States.was_at before) book.now) }
+        (λ e. IsNotable e confirms performed.now (IsAt before) book.now) }
 {
     // A law: nothing runs.
     noted_steps_are_restored();
@@ -78,14 +94,14 @@ pub(crate) fn note_performed<C: Ledger, A: Ledger, J: Journal>(
 }
 
 /// Notes a step that led from a state, before which this was recorded, to the present one.
-pub(crate) fn note_made<C: Ledger, A: Ledger, J: Journal>(
+pub(crate) fn note_made<C: Ledger, A: Ledger, J: Journal<N>, N: ChronicleName>(
     journal: &J,
-    book: &Book<C, A, J::States>,
-    before: <J::States as Recorder>::Front,
+    book: &Book<C, A, N>,
+    before: RecordedStates<N>,
     entry: Entry,
     number: u64,
 )
-    requires { IsOfMadeStep entry number (J.States.was_at before) (IsPresent book.now) }
+    requires { IsOfMadeStep entry number (IsAt before) (IsPresent book.now) }
 {
     journal.note(MadeStep {
         entry,

@@ -6,6 +6,7 @@ ghost use Rattle.session.specs.Perform.{IsOfText};
 ghost use Rattle.session.specs.Served.{HasOutcome, IsOutcomeOf, IsOutcomeOfJob, IsPerformed, IsServed, IsUnmade, seen_at};
 ghost use Rattle.session.specs.Serving.{KeepsPass};
 ghost use Rattle.session.specs.Session.{sent_by};
+ghost use Rattle.version_store.specs.Recording.{IsAt};
 
 use crate::context::Context;
 use crate::journal::{Journal, JournalFault};
@@ -17,12 +18,13 @@ use crate::serving::heard::{Heard, Incoming, Told};
 use crate::serving::noting::{note_performed, prepare_message};
 use crate::serving::reading::read_message;
 use crate::serving::session_socket::SessionSocket;
-use crate::serving::sockets::{Seen, clear_to_leave, send_text};
+use crate::serving::sockets::{clear_to_leave, send_text};
 use crate::serving::telling::{subject_of, told_by};
 use crate::serving::waiting::{Sending, Waiting};
 use crate::session_core::SessionCore;
 use crate::step::perform;
 use crate::todo::Todo;
+use chronicle::ChronicleName;
 use compile_pool::{answer_job, answer_unmade, wait_answer};
 use meaning::Ask;
 use ocpp_scalars::{Instant, Moments, Refusal};
@@ -33,7 +35,7 @@ use std::sync::Wait;
 use std::sync::ledger::Ledger;
 use texts::SentText;
 use tungstenite::MaskKeys;
-use version_store::{Job, Pass, Recorder};
+use version_store::{Job, Pass, RecordedStates};
 
 /// Waits for the next WebSocket message, and serves it if it is a text message. Where nothing comes
 /// for as long as the stream lets a read wait, says so. An error ends the session. The client of a
@@ -46,9 +48,10 @@ pub fn serve_next<
     A: Ledger,
     R: Wait,
     M: Moments,
-    J: Journal,
+    J: Journal<N>,
+    N: ChronicleName,
 >(
-    context: &Context<'_, C, A, R, M, J>,
+    context: &Context<'_, C, A, R, M, J, N>,
     socket: &mut W,
     core: &SessionCore,
     pass: &mut Pass<C, A>,
@@ -80,13 +83,13 @@ pub fn serve_next<
 
 /// What came of a message.
 #[derive(Drop)]
-pub struct Served<N: Recorder> {
+pub struct Served<N: ChronicleName> {
     /// The message that answers it, if one does.
     pub answer: Option<String>,
     /// What it told.
     pub told: Told,
     /// What was recorded of the book by its step, if it has one.
-    pub seen: Option<N::Front>,
+    pub seen: Option<RecordedStates<N>>,
 }
 
 /// Makes the step of a message of this session that comes at this moment, if it has one, and gives
@@ -94,17 +97,25 @@ pub struct Served<N: Recorder> {
 /// point had when this very request was taken, and for what was asked. The answer to another request
 /// is never handed on: it ends the session. A step that couldn't be noted isn't made: the message is
 /// answered as one that memory ran out for.
-pub fn serve_sent_text<C: Ledger, A: Ledger, R: Wait, M: Moments, J: Journal, W: Waiting>(
-    context: &Context<'_, C, A, R, M, J>,
+pub fn serve_sent_text<
+    C: Ledger,
+    A: Ledger,
+    R: Wait,
+    M: Moments,
+    J: Journal<N>,
+    W: Waiting,
+    N: ChronicleName,
+>(
+    context: &Context<'_, C, A, R, M, J, N>,
     waiting: &mut W,
     core: &SessionCore,
     pass: &mut Pass<C, A>,
     moment: Instant,
     frame: &str,
-) -> Result<Served<J::States>, Ended>
+) -> Result<Served<N>, Ended>
     ensures pass { KeepsPass pass.old pass.new }
     ensures served { IfOk result (λ served. IsServed core.now pass.old
-        (seen_at J.States.was_at served.seen)
+        (seen_at served.seen)
         (sent_by core.now moment frame.now) (option_map string_bytes served.answer)) }
 {
     let Ok(mut todo) = read_message(context, core, moment, frame) else {
@@ -132,7 +143,7 @@ pub fn serve_sent_text<C: Ledger, A: Ledger, R: Wait, M: Moments, J: Journal, W:
 /// The answer to a message whose step isn't made, since it couldn't be noted: that of a CALL that
 /// memory ran out for. A reply has none, and the session ends: its call goes out again over the
 /// point's next link.
-fn served_unmade<N: Recorder>(
+fn served_unmade<N: ChronicleName>(
     core: &SessionCore,
     todo: Todo,
     fault: JournalFault,
@@ -154,18 +165,26 @@ fn served_unmade<N: Recorder>(
 }
 
 /// The outcome of the step of a message, if it has one, and what was recorded of the book by it.
-fn outcome_of<C: Ledger, A: Ledger, R: Wait, M: Moments, J: Journal, W: Waiting>(
-    context: &Context<'_, C, A, R, M, J>,
+fn outcome_of<
+    C: Ledger,
+    A: Ledger,
+    R: Wait,
+    M: Moments,
+    J: Journal<N>,
+    W: Waiting,
+    N: ChronicleName,
+>(
+    context: &Context<'_, C, A, R, M, J, N>,
     waiting: &mut W,
     pass: &mut Pass<C, A>,
     sent: &SentText<'_>,
     step: Option<Step>,
     entry: Option<Entry>,
-) -> Result<(Option<Outcome>, Seen<J>), Ended>
+) -> Result<(Option<Outcome>, Option<RecordedStates<N>>), Ended>
     requires of_text { IfSome step IsOfText }
     requires entry { IsEntryFor step entry }
     ensures pass { KeepsPass pass.old pass.new }
-    ensures outcome { IfOk result (λ made. HasOutcome pass.old (seen_at J.States.was_at made.1)
+    ensures outcome { IfOk result (λ made. HasOutcome pass.old (seen_at made.1)
         sent.now step made.0) }
 {
     match step {
@@ -179,19 +198,27 @@ fn outcome_of<C: Ledger, A: Ledger, R: Wait, M: Moments, J: Journal, W: Waiting>
 
 /// Makes the step of a message. A request for a schedule is compiled, and its answer collected. A
 /// reply to the point's audit is judged, once its call is confirmed.
-fn outcome_of_step<C: Ledger, A: Ledger, R: Wait, M: Moments, J: Journal, W: Waiting>(
-    context: &Context<'_, C, A, R, M, J>,
+fn outcome_of_step<
+    C: Ledger,
+    A: Ledger,
+    R: Wait,
+    M: Moments,
+    J: Journal<N>,
+    W: Waiting,
+    N: ChronicleName,
+>(
+    context: &Context<'_, C, A, R, M, J, N>,
     waiting: &mut W,
     pass: &mut Pass<C, A>,
     sent: &SentText<'_>,
     step: Step,
     entry: Option<Entry>,
-) -> Result<(Outcome, <J::States as Recorder>::Front), Ended>
+) -> Result<(Outcome, RecordedStates<N>), Ended>
     requires of_text { IsOfText step }
     requires entry { IfSome entry (IsEntryToNote step) }
     ensures pass { KeepsPass pass.old pass.new }
     ensures outcome { IfOk result (λ made.
-        IsOutcomeOf pass.old (J.States.was_at made.1) sent.now step made.0) }
+        IsOutcomeOf pass.old (IsAt made.1) sent.now step made.0) }
 {
     let (performed, audit, seen) = perform_noted(context, pass, step, entry)?;
     if let Some(audit) = audit_to_judge(&performed, audit) {
@@ -210,17 +237,17 @@ fn outcome_of_step<C: Ledger, A: Ledger, R: Wait, M: Moments, J: Journal, W: Wai
 /// that, if it changed something. In a reply to the point's audit, what that asked is read before:
 /// nobody else has the book in between, so it is the audit whose call is confirmed. If there is no
 /// memory for it, the call isn't confirmed, nothing is noted, and the session ends.
-fn perform_noted<C: Ledger, A: Ledger, R: Wait, M: Moments, J: Journal>(
-    context: &Context<'_, C, A, R, M, J>,
+fn perform_noted<C: Ledger, A: Ledger, R: Wait, M: Moments, J: Journal<N>, N: ChronicleName>(
+    context: &Context<'_, C, A, R, M, J, N>,
     pass: &mut Pass<C, A>,
     step: Step,
     entry: Option<Entry>,
-) -> Result<(Performed, Option<OpenAudit>, <J::States as Recorder>::Front), Ended>
+) -> Result<(Performed, Option<OpenAudit>, RecordedStates<N>), Ended>
     requires of_text { IsOfText step }
     requires entry { IfSome entry (IsEntryToNote step) }
     ensures pass { KeepsPass pass.old pass.new }
     ensures performed { IfOk result (λ performed. IsPerformed pass.old
-        (J.States.was_at performed.2) step performed.0 performed.1) }
+        (IsAt performed.2) step performed.0 performed.1) }
 {
     let confirms = is_confirm(&step);
     let mut book = context.shared.lock(context.rt);
@@ -244,8 +271,16 @@ fn is_confirm(step: &Step) -> bool
 /// The answer to a request that is kept, which a worker compiles, or the session itself. No lock
 /// tells that what is handed out in the end is for the book and the `Ask` of this request, so they
 /// are compared.
-fn answer_of<C: Ledger, A: Ledger, R: Wait, M: Moments, J: Journal, W: Waiting>(
-    context: &Context<'_, C, A, R, M, J>,
+fn answer_of<
+    C: Ledger,
+    A: Ledger,
+    R: Wait,
+    M: Moments,
+    J: Journal<N>,
+    W: Waiting,
+    N: ChronicleName,
+>(
+    context: &Context<'_, C, A, R, M, J, N>,
     waiting: &mut W,
     pass: &mut Pass<C, A>,
     job: Job,
@@ -271,11 +306,15 @@ fn answer_of<C: Ledger, A: Ledger, R: Wait, M: Moments, J: Journal, W: Waiting>(
 
 /// Has a job compiled by a worker, or compiles it. Where too many wait, or the client is gone before
 /// its request has an answer, the request is answered unmade: it isn't begun any more.
-fn compile_or_leave<C: Ledger, A: Ledger, R: Wait, M: Moments, J: Journal, W: Waiting>(
-    context: &Context<'_, C, A, R, M, J>,
-    waiting: &mut W,
-    job: Job,
-) {
+fn compile_or_leave<
+    C: Ledger,
+    A: Ledger,
+    R: Wait,
+    M: Moments,
+    J: Journal<N>,
+    W: Waiting,
+    N: ChronicleName,
+>(context: &Context<'_, C, A, R, M, J, N>, waiting: &mut W, job: Job) {
     let (rt, shared) = (context.rt, context.shared);
     let (number, book, ask) = (job.number(), job.share_book(), *job.ask());
     match waiting.send_job(rt, context.jobs, job) {

@@ -3,12 +3,14 @@
 use crate::serving::ended::Ended;
 use crate::serving::heard::Incoming;
 use crate::serving::sockets::read_next;
-use crate::serving::waiting::{AnswersRequests, Sending, Waiting};
+use crate::serving::waiting::{Sending, Waiting};
+use chronicle::ChronicleName;
 use compile_pool::Jobs;
 use std::io::{Read, Write};
 use std::sync::Wait;
+use std::sync::ledger::Ledger;
 use tungstenite::{MaskKeys, WebSocket};
-use version_store::Job;
+use version_store::{Job, Shared};
 
 /// The socket of a session, over a stream of this type and with these masking keys.
 pub trait SessionSocket<S, K>: Waiting {
@@ -45,7 +47,11 @@ impl<S, K> Waiting for WebSocket<S, K> {
         }
     }
 
-    fn wait<Q: AnswersRequests>(&mut self, _shared: &Q, _number: u64) -> bool {
+    fn wait<C: Ledger, A: Ledger, N: ChronicleName>(
+        &mut self,
+        _shared: &Shared<C, A, N>,
+        _number: u64,
+    ) -> bool {
         true
     }
 }

@@ -1,11 +1,10 @@
 //! What a session does until its request has its answer.
 
+use chronicle::ChronicleName;
 use compile_pool::Jobs;
-use std::rt::Clock;
 use std::sync::Wait;
 use std::sync::ledger::Ledger;
-use std::time::Duration;
-use version_store::{Job, Recorder, Shared};
+use version_store::{Job, Shared};
 
 /// What became of a job that was to be sent to the workers.
 #[derive(Drop)]
@@ -24,18 +23,9 @@ pub trait Waiting {
 
     /// Waits until the request of a number has its answer, or leaves that to whoever collects it.
     /// False where the client is gone before.
-    fn wait<Q: AnswersRequests>(&mut self, shared: &Q, number: u64) -> bool;
-}
-
-/// Where requests get their answers.
-pub trait AnswersRequests {
-    /// Whether the request of a number has its answer within so many milliseconds.
-    fn is_answered<R: Wait + Clock>(&self, rt: &R, number: u64, wait: u64) -> bool;
-}
-
-impl<C: Ledger, A: Ledger, N: Recorder> AnswersRequests for Shared<C, A, N> {
-    fn is_answered<R: Wait + Clock>(&self, rt: &R, number: u64, wait: u64) -> bool {
-        self.until_answered_within(rt, number, Duration::from_millis(wait))
-            .is_some()
-    }
+    fn wait<C: Ledger, A: Ledger, N: ChronicleName>(
+        &mut self,
+        shared: &Shared<C, A, N>,
+        number: u64,
+    ) -> bool;
 }

@@ -6,13 +6,16 @@ use crate::serving::ended::Ended;
 use crate::serving::heard::Incoming;
 use crate::serving::session_socket::SessionSocket;
 use crate::serving::sockets::read_next;
-use crate::serving::waiting::{AnswersRequests, Sending, Waiting};
+use crate::serving::waiting::{Sending, Waiting};
+use chronicle::ChronicleName;
 use compile_pool::{Jobs, Unsent, is_at_most};
 use std::io::{Read, Write};
 use std::rt::Clock;
 use std::sync::Wait;
+use std::sync::ledger::Ledger;
+use std::time::Duration;
 use tungstenite::{MaskKeys, WebSocket};
-use version_store::Job;
+use version_store::{Job, Shared};
 
 /// After so many milliseconds the socket is looked at for the first time: most answers are there by
 /// then.
@@ -174,10 +177,14 @@ impl<S: Read + Write + Watched + Drop, K: MaskKeys + Drop, R: Wait + Clock> Wait
         }
     }
 
-    fn wait<Q: AnswersRequests>(&mut self, shared: &Q, number: u64) -> bool {
+    fn wait<C: Ledger, A: Ledger, N: ChronicleName>(
+        &mut self,
+        shared: &Shared<C, A, N>,
+        number: u64,
+    ) -> bool {
         let mut wait = FIRST_WAIT;
         for _turn in self.rt.forever() {
-            if shared.is_answered(self.rt, number, wait) {
+            if is_answered(self.rt, shared, number, wait) {
                 return true;
             }
             if !self.look() {
@@ -187,4 +194,16 @@ impl<S: Read + Write + Watched + Drop, K: MaskKeys + Drop, R: Wait + Clock> Wait
         }
         unreachable!()
     }
+}
+
+/// Whether the request of a number has its answer within so many milliseconds.
+fn is_answered<C: Ledger, A: Ledger, R: Wait + Clock, N: ChronicleName>(
+    rt: &R,
+    shared: &Shared<C, A, N>,
+    number: u64,
+    wait: u64,
+) -> bool {
+    shared
+        .until_answered_within(rt, number, Duration::from_millis(wait))
+        .is_some()
 }

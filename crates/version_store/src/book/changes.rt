@@ -15,7 +15,7 @@ use site_core::{PointId, Refused, Reply, Step};
 use std::sync::ledger::Ledger;
 use transactions::Begin;
 
-impl<C: Ledger, A: Ledger, K: ChronicleName> Book<C, A, K> {
+impl<C: Ledger, A: Ledger, N: ChronicleName> Book<C, A, N> {
     /// Installs a profile at a connector of a point (chapter 5.16) at a moment. On a refusal the
     /// profile comes back.
     pub fn install(

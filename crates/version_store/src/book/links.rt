@@ -15,7 +15,7 @@ use ocpp_scalars::Refusal;
 use site_core::{PointId, Reply, Step};
 use std::sync::ledger::Ledger;
 
-impl<C: Ledger, A: Ledger, K: ChronicleName> Book<C, A, K> {
+impl<C: Ledger, A: Ledger, N: ChronicleName> Book<C, A, N> {
     /// Gives a point a new link (OCPP-J 1.6, 3), over which its calls are sent from now on.
     pub fn attach(&mut self, pass: &mut Pass<C, A>, point: PointId) -> Result<u64, Refusal>
         ensures calls { IfOk result (λ link. Calls self.old pass.old (steps.Attach point)

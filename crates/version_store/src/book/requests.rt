@@ -21,7 +21,7 @@ use site_core::{PointId, Reply, Step, Take};
 use std::sync::ledger::Ledger;
 use sweep_compiler::Compiled;
 
-impl<C: Ledger, A: Ledger, K: ChronicleName> Book<C, A, K> {
+impl<C: Ledger, A: Ledger, N: ChronicleName> Book<C, A, N> {
     /// Keeps a request for the composite schedule (chapter 5.7) of a connector of a point.
     /// Connector 0 is the whole point. The schedule is from a start on for this many seconds, in a
     /// unit where one is given. The job is what is to be compiled and posted.

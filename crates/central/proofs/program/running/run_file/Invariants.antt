@@ -7,5 +7,5 @@ ghosts-run_counted-C-Ledger g a = record { name = a.blanks.0.name; parts = a.bla
 abbrev pub ghosts-run_counted-A-Ledger : goal.ghosts-run_counted-A-Ledger
 ghosts-run_counted-A-Ledger g a = record { name = a.blanks.1.name; parts = a.blanks.1.parts }
 
-abbrev pub ghosts-run_counted-J-ChronicleName : goal.ghosts-run_counted-J-ChronicleName
-ghosts-run_counted-J-ChronicleName g a = record { name = a.unnamed.name }
+abbrev pub ghosts-run_counted-N-ChronicleName : goal.ghosts-run_counted-N-ChronicleName
+ghosts-run_counted-N-ChronicleName g a = record { name = a.states.name }

@@ -4,8 +4,8 @@ use Rattle.session.proofs.AuditLemmas.{brought}
 use Rattle.session.proofs.NotingLemmas.{verdict_noted}
 use Rattle.session.proofs.serving.audits.judge_reply.Goals as goal
 
-pub note_made-requires-after_bounds : goal.note_made-requires-after_bounds
-note_made-requires-after_bounds g c =
+pub note_made-requires : goal.note_made-requires
+note_made-requires g c =
     verdict_noted _ _ c.args.sent.now c.judged_by-judged.result.1 c.moment.result c.as_str.result.now _
     c.audit.inside.call c.reply_to_note-frame.result.now c.judged_by-judged.result.0
     c.in-Ok.entry c.in-true-Some.entry _ _ _
