@@ -1,5 +1,5 @@
 -- The state that a step led to is recorded, or needn't be. As many states are the same.
-use Rattle.std.proofs.Common.{◌≡◌, ℕ, ◌<◌, ◌≤◌, true, false, List, [], ◌∷◌, ◌++◌, length, refl, sym, ap, ◌∙◌, subst, ⊎_elim, arith}
+use Rattle.std.proofs.Common.{◌≡◌, ℕ, ◌<◌, ◌≤◌, true, false, List, [], ◌∷◌, ◌++◌, length, refl, sym, ap, ◌∙◌, subst, ⊎_elim, arith, Option, Some, is_some, option_map}
 use mathlib.Core.List.{IsPrefix}
 use Rattle.site_core.specs.declared.step.Step.{Step}
 use Rattle.site_core.specs.declared.reply.Reply.{Reply}
@@ -8,7 +8,7 @@ use Rattle.site_core.specs.Step.{is_event}
 use Rattle.site_core.specs.StoredHistory.{StoredEvent}
 use Rattle.version_store.specs.Store.{StoreState}
 use Rattle.version_store.specs.Calls.{Adds, Makes, RepliesAlone, event_alone}
-use Rattle.version_store.specs.Recording.{EndsAt, IsAt, IsCountOf, RecordedState, RequestLeads, forget, is_of_request, last_count}
+use Rattle.version_store.specs.Recording.{IsAt, IsCountOf, RecordedState, RequestLeads, forget, is_of_request, last_count, or_none}
 use Rattle.version_store.specs.Theory.Forgetting.{request_forgotten}
 
 -- ---- requests
@@ -62,6 +62,10 @@ makes_no_event recorded old step reply new makes none was =
 
 -- ---- the same states
 
+abbrev recorded_in : {A : Type 0} → (A → List MachineState) → Option A → RecordedState
+recorded_in entries found =
+    record { is_kept = is_some found; states = or_none (option_map entries found) }
+
 same_list : {A : Type 0} (xs ys : List A) → IsPrefix xs ys → length ys ≤ length xs → xs ≡ ys
 same_list [] [] begins le = refl
 same_list [] (y ∷ ys) begins le = absurd (omega arith)
@@ -84,3 +88,14 @@ longer_count xs ys one other counts others longer le few =
     let here = counts.exact few in
     let there = others.exact (omega (arith, le, few)) in
     longer (omega (arith, here, there, le))
+
+-- where states are recorded, as the code has them
+pub kept_states : {A : Type 0} (entries : A → List MachineState) (found : Option A) (front : A)
+    (view : RecordedState) (count : ℕ)
+    → record { is_kept = is_some found; states = or_none (option_map entries found) } ≡ view
+    → found ≡ Some front → IsCountOf (or_none (option_map entries found)) count
+    → (view ≡ record { is_kept = true; states = entries front }) × IsCountOf (entries front) count
+kept_states {A} entries found front view count view_is is counts = (
+  sym view_is ∙ ap (recorded_in entries) is,
+  subst (λ (o : Option A). IsCountOf (or_none (option_map entries o)) count) is counts,
+)
