@@ -735,7 +735,7 @@ def check_and_show_problems(program, folder):
     heartbeat = b'2025-01-01T00:00:00Z point CP1 [2,"1","Heartbeat",{}]\n'
     for name, site, script, status, wanted in (
         ("nothing to find", good, b"", 0, ()),
-        ("a clear of everything", good, CLEAR, 2, (b"script: line 1: warning: ", b"clears EVERYTHING", b'"chargingProfileId"')),
+        ("a clear of everything", good, CLEAR, 2, (b"script: line 1 (CP1): warning: ", b"clears EVERYTHING", b'"chargingProfileId"')),
         ("a line that says nothing", good, b"\n" + b"x\n", 1, (b"script: line 2: BadLine: ",)),
         ("an unknown point", good, heartbeat.replace(b"CP1", b"CP2"), 1, (b"line 1: UnknownPoint", b"CP1")),
         ("a site file with a fault", bad, CLEAR, 1, (b"a list stands there", b"an object such as")),

@@ -145,6 +145,9 @@ def clients_with_keys(program):
         expect("an operator", done(program, *call, "--login", login, "--status")[0], 0)
         wants = "central: url: HTTP 401: it wants --login FILE with the NAME:KEY of a key: an operator's at /operator/ID, else the point's own\n"
         expect("without a key", done(program, *call, "--status"), (3, "", wants))
+        bare = keys.file("bare", f"{keys.of['ann']}\n")
+        no_name = "central: login: no NAME:KEY in the file of --login; central key prints one\n"
+        expect("a key without its name", done(program, *call, "--login", bare, "--status"), (1, "", no_name))
         point = "point", "--url", base, "--site", site, "--id", "P1"
         own = keys.file("P1", f"P1:{keys.of['P1']}")
         expect("a point", done(program, *point, "--login", own, given=b"heartbeat\n")[0], 0)

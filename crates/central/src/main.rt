@@ -22,7 +22,7 @@ use crate::program::showing::show_file;
 use crate::program::status::show_status;
 use clap::error::ErrorKind;
 use command_line::{Job, job_of};
-use data_folder::print_journal;
+use data_folder::{FolderFault, print_journal};
 use std::alloc::AllocGlobal;
 use std::fs::File;
 use std::io::IsTerminal;
@@ -85,7 +85,7 @@ fn do_job<
     match job_of(rt.alloc(), words.as_slice()) {
         Ok(Job::Replay(replaying)) => Ok(summary_status(replay_file(rt, replaying)?)),
         Ok(Job::Run(running)) => {
-            let run = run_file(rt, running);
+            let run = naming_folder(rt, running.folder, run_file(rt, running));
             naming(rt, running.site, run)?;
             Ok(0)
         }
@@ -134,6 +134,18 @@ fn naming<T, R: Eprint>(
 ) -> Result<T, ProgramFault> {
     if let Err(ProgramFault::SiteFile) = &done {
         let _ = eprintln!(rt; "central: {path}: it isn't there, is a folder, or may not be read");
+    }
+    done
+}
+
+/// Names the folder on which another process runs, if that is why a job stopped.
+fn naming_folder<T, R: Eprint>(
+    rt: &R,
+    path: &str,
+    done: Result<T, ProgramFault>,
+) -> Result<T, ProgramFault> {
+    if let Err(ProgramFault::Folder(FolderFault::InUse)) = &done {
+        let _ = eprintln!(rt; "central: {path}: another central run has it");
     }
     done
 }

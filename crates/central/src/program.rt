@@ -1,13 +1,10 @@
 //! The program: its command line, its jobs, and its exit statuses.
 
-pub mod caller;
 pub mod calling;
 pub mod checking;
 pub mod explaining;
-pub mod fuse_change;
 pub mod given_calls;
 pub mod kept_boots;
-pub mod key_check;
 pub mod key_file;
 pub mod last_line;
 pub mod login;
@@ -15,7 +12,6 @@ pub mod moment;
 pub mod pages;
 pub mod payload_file;
 pub mod picture_name;
-pub mod played_lines;
 pub mod pointing;
 pub mod program_fault;
 pub mod replaying;
@@ -25,11 +21,9 @@ pub mod script_input;
 pub mod serving;
 pub mod showing;
 pub mod site_file;
-pub mod site_page;
 pub mod state_check;
 pub mod status;
 pub mod status_request;
 pub mod status_table;
-pub mod undo;
-pub mod visit;
+pub mod undoing;
 pub mod watched_file;

@@ -42,9 +42,17 @@ impl Address {
         Ok(address)
     }
 
+    /// The same address, at which the client tells the name and the key that were read, if any were.
+    pub fn logged_in(self, alloc: Global, login: &Option<String>) -> Result<Address, ClientFault> {
+        match login {
+            Some(login) => self.with_login(alloc, login.as_str().trim_end()),
+            None => Ok(self),
+        }
+    }
+
     /// The same address, at which the client tells who it is: by a name, a colon and a password (HTTP
     /// Basic, RFC 7617).
-    pub fn with_login(self, alloc: Global, login: &str) -> Result<Address, ClientFault> {
+    fn with_login(self, alloc: Global, login: &str) -> Result<Address, ClientFault> {
         let Address { mut request, .. } = self;
         let coded = STANDARD.encode(alloc, login.as_bytes())?;
         let credentials = format!(in alloc; "Basic {coded}")?;

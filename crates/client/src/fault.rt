@@ -1,6 +1,6 @@
 //! Why a client stops.
 
-use std::alloc::AllocError;
+use std::alloc::{AllocError, AllocFailed};
 use thiserror::Error;
 
 /// Why a client stops before its end, in the words that the program prints.
@@ -50,6 +50,12 @@ pub enum ClientFault {
 
 impl From<AllocError> for ClientFault {
     fn from(_: AllocError) -> ClientFault {
+        ClientFault::OutOfMemory
+    }
+}
+
+impl<T: Drop> From<AllocFailed<T>> for ClientFault {
+    fn from(_failed: AllocFailed<T>) -> ClientFault {
         ClientFault::OutOfMemory
     }
 }

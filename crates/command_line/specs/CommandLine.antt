@@ -3,7 +3,7 @@
 use Rattle.std.specs.Prelude.{◌≡◌, ◌<◌, ◌≤◌, ◌^◌, ◌&&◌, Bool, true, false, ℕ, List, [], ◌∷◌, codes, Option, None, Some, IfSome, if◌then◌else◌, is_some, option_map}
 use Rattle.std.specs.Option.{option_map_or}
 use Rattle.std.specs.Str.Parse.{IsNumeral, digits_value, without_leading_plus}
-use Rattle.command_line.specs.Limits.{default_call_timeout, default_seats, default_workers, max_call_timeout, max_connectors, max_seats, max_sessions, max_workers}
+use Rattle.command_line.specs.Limits.{default_call_timeout, default_seats, default_workers, max_call_timeout, max_connectors, max_line, max_seats, max_sessions, max_workers}
 use Rattle.clap.specs.Kinds.{or_else}
 use Rattle.clap.specs.Words.{App, Kinds, Row, Rule, Text, all_of, fault_of, first_of, new_app, new_rule, one_of, subcommand_of, with_rule, with_subcommand}
 use Rattle.clap.specs.declared.builder.action.ArgAction.TheVariants.{Set, SetTrue}
@@ -148,7 +148,7 @@ with_calls app =
 abbrev pub with_sending : App → App
 with_sending app =
     with_rule (with_rule (with_rule app
-    (numbered 1 2147483647 (optional (codes "undo"))))
+    (numbered 1 max_line (optional (codes "undo"))))
     (flag (codes "force")))
     (flag (codes "dry-run"))
 

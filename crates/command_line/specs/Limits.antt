@@ -25,6 +25,10 @@ max_call_timeout = 3600
 abbrev pub default_call_timeout : ℕ
 default_call_timeout = 60
 
+-- the highest number of a line that is undone
+abbrev pub max_line : ℕ
+max_line = 2147483647
+
 -- the most connectors of a point, as in a site file
 abbrev pub max_connectors : ℕ
 max_connectors = 64

@@ -17,7 +17,9 @@ use crate::help_text::{
     STATUS_ABOUT, STATUS_HELP, STATUS_NOTES, STATUS_OPEN_HELP, STATUS_URL_HELP, STATUSES,
     TRACE_HELP, UNDO_HELP, VERSION, WORKERS_HELP,
 };
-use crate::limits::{MAX_CALL_TIMEOUT, MAX_CONNECTORS, MAX_SEATS, MAX_SESSIONS, MAX_WORKERS};
+use crate::limits::{
+    MAX_CALL_TIMEOUT, MAX_CONNECTORS, MAX_LINE, MAX_SEATS, MAX_SESSIONS, MAX_WORKERS,
+};
 use clap::builder::ValueParser;
 use clap::{Arg, ArgAction, Command};
 use std::alloc::{AllocError, Global};
@@ -233,7 +235,7 @@ fn with_sending<'a>(alloc: Global, command: Command<'a>) -> Result<Command<'a>, 
     ensures { IfOk result (λ added. app_of added ≡ with_sending (app_of command.entry)) }
 {
     command
-        .arg(numbered(optional(alloc, "undo", "LINE", UNDO_HELP), 1, 2_147_483_647))?
+        .arg(numbered(optional(alloc, "undo", "LINE", UNDO_HELP), 1, MAX_LINE))?
         .arg(flag(alloc, "force", FORCE_HELP))?
         .arg(flag(alloc, "dry-run", DRY_RUN_HELP))
 }

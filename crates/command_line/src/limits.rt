@@ -12,5 +12,8 @@ pub const MAX_WORKERS: u64 = 8;
 /// The most connectors of a point.
 pub(crate) const MAX_CONNECTORS: u64 = 64;
 
+/// The highest number of a line that is undone.
+pub(crate) const MAX_LINE: u64 = 2_147_483_647;
+
 /// The longest time for which a call waits for its reply, in seconds.
 pub(crate) const MAX_CALL_TIMEOUT: u64 = 3_600;

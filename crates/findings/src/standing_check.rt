@@ -74,7 +74,7 @@ fn lifts(high: &Row, low: &Row) -> bool {
 }
 
 /// The highest limit of a profile's periods, in tenths.
-fn highest_limit(row: &Row) -> u32 {
+pub(crate) fn highest_limit(row: &Row) -> u32 {
     let mut highest = 0;
     for period in row.profile.schedule.periods.as_slice() {
         highest = period.limit.max(highest);

@@ -46,7 +46,7 @@ pub struct PointCalls {
     pub in_flight: Option<SentCall>,
     /// The calls that never went out, in the order of their numbers.
     pub waiting: Vec<AddedCall>,
-    /// In the order of the replies.
+    /// Those that weren't done later, in the order of the replies.
     pub rejected: Vec<RejectedCall>,
 }
 
@@ -111,7 +111,8 @@ impl PointCalls {
         }
     }
 
-    /// The call in flight was answered by this message of the point, in the line of this number.
+    /// The call in flight was answered by this message of the point, in the line of this number. One
+    /// that the point does ends what is said of the same call before, which it rejected.
     pub fn confirmed(
         &mut self,
         alloc: Global,
@@ -122,8 +123,13 @@ impl PointCalls {
         let Some(call) = self.in_flight.take() else {
             return Ok(());
         };
-        if let Some(status) = rejection_in(alloc, memory, reply)? {
-            self.rejected.push(RejectedCall { call, line, status })?;
+        match rejection_in(alloc, memory, reply)? {
+            Some(status) => self.rejected.push(RejectedCall { call, line, status })?,
+            None => {
+                let done = call.what.as_str();
+                self.rejected
+                    .retain(|rejected| rejected.call.what.as_str() != done);
+            }
         }
         Ok(())
     }

@@ -26,6 +26,9 @@ const STANDING: &str = r#"0 1 1 TxDefaultProfile [{"startPeriod":0,"limit":16}] 
 0 9 0 ChargePointMaxProfile [{"startPeriod":0,"limit":64}] => -
 0 9 0 ChargePointMaxProfile [{"startPeriod":0,"limit":64},{"startPeriod":604799,"limit":10}] => let them draw 20.0 A together from 2025-01-07T23:59:59Z on, more than the 10.0 A
 0 9 0 ChargePointMaxProfile [{"startPeriod":0,"limit":64},{"startPeriod":604800,"limit":10}] => -
+0 9 0 ChargePointMaxProfile [{"startPeriod":0,"limit":40}] & 0 8 1 ChargePointMaxProfile [{"startPeriod":0,"limit":64}] => CP1, at the end: warning: ChargePointMaxProfile 8 allows up to 64.0 A, and 9 only 40.0 A: while 8 has a limit, 9 doesn't count
+0 9 0 ChargePointMaxProfile [{"startPeriod":0,"limit":64}] & 0 8 1 ChargePointMaxProfile [{"startPeriod":0,"limit":40}] => CP1, at the end: remark: if all connectors charge, their ceilings let them draw 64.0 A together from 2025-01-01T00:00:00Z on, more than the 40.0 A of ChargePointMaxProfile 8
+0 9 0 ChargePointMaxProfile [{"startPeriod":0,"limit":40},{"startPeriod":7200,"limit":64}] & 0 8 1 ChargePointMaxProfile [{"startPeriod":0,"limit":41}] => warning: ChargePointMaxProfile 8 allows up to 41.0 A, and 9 only 40.0 A + remark: if all connectors charge, their ceilings let them draw 64.0 A together from 2025-01-01T00:00:00Z on, more than the 41.0 A of ChargePointMaxProfile 8
 "#;
 
 /// The line of a script that installs a profile.

@@ -1,17 +1,16 @@
 //! The job of `central call`.
 
-use crate::program::caller::{Caller, Sending, url_of_point};
-use crate::program::given_calls::{GivenCall, given_calls};
+use crate::program::given_calls::given_calls;
 use crate::program::login::read_login;
 use crate::program::program_fault::ProgramFault;
 use crate::program::site_file::read_site_file;
 use crate::program::state_check::check_visits;
-use crate::program::undo::{Undo, undo_of};
-use crate::program::visit::{
-    Visit, is_without_point, visit_of_point, visit_of_url, visits_of_site,
-};
+use crate::program::undoing::{Undoing, undo_of};
 use client::{Address, Lines};
 use command_line::Calling;
+use operator_calls::{
+    Caller, GivenCall, Sending, Visit, is_without_point, url_of_point, visits_of_site,
+};
 use site_rules::Site;
 use std::alloc::{AllocError, AllocGlobal, Global};
 use std::fs::File;
@@ -51,18 +50,18 @@ pub fn call_site<
     };
     let mut caller = Caller::new(rt, sending);
     if !calling.gives_calls() {
-        send_lines(rt, &mut caller)?;
+        caller.send_lines(&mut Lines::new(rt.alloc(), rt.reader())?)?;
         return Ok(caller.status());
     }
     let calls = caller.passed(given)?;
     let mut visits = match &undo {
-        Some(undo) => visit_of_point(rt.alloc(), calling.url, undo.point.as_str(), calls.len())?,
+        Some(undoing) => undo_visit(rt.alloc(), calling.url, undoing, calls.len())?,
         None => visits_of(rt.alloc(), calling, &site, calls.len())?,
     };
     if let (Some(folder), Some(site)) = (calling.folder, site) {
         check_visits(rt, &mut caller, folder, site, calls.as_slice(), &mut visits)?;
     }
-    send_calls(&mut caller, calls.as_slice(), visits.as_slice())?;
+    caller.send_calls(calls.as_slice(), visits.as_slice())?;
     Ok(caller.status())
 }
 
@@ -95,7 +94,7 @@ fn check_url(alloc: Global, calling: Calling<'_>) -> Result<(), ProgramFault> {
 fn undo_in<R: Files<File = File> + Eprint + AllocGlobal>(
     rt: &R,
     calling: Calling<'_>,
-) -> Result<Option<Undo>, ProgramFault> {
+) -> Result<Option<Undoing>, ProgramFault> {
     let (Some(number), Some(folder), Some(path)) = (calling.undo, calling.folder, calling.site)
     else {
         return Ok(None);
@@ -105,9 +104,9 @@ fn undo_in<R: Files<File = File> + Eprint + AllocGlobal>(
 }
 
 /// Takes the calls out of what undoes a line.
-fn undo_calls(alloc: Global, undo: &mut Option<Undo>) -> Vec<GivenCall> {
+fn undo_calls(alloc: Global, undo: &mut Option<Undoing>) -> Vec<GivenCall> {
     match undo {
-        Some(undo) => mem::replace(&mut undo.calls, Vec::new(alloc)),
+        Some(undoing) => mem::replace(&mut undoing.undo.calls, Vec::new(alloc)),
         None => Vec::new(alloc),
     }
 }
@@ -121,69 +120,25 @@ fn visits_of(
 ) -> Result<Vec<Visit>, AllocError> {
     match site {
         Some(site) if calling.all => visits_of_site(alloc, site, count),
-        _ => visit_of_url(alloc, calling.url, count),
+        _ => {
+            let mut visits = Vec::new(alloc);
+            visits.push(Visit::of_url(alloc, calling.url, count)?)?;
+            Ok(visits)
+        }
     }
 }
 
-/// Sends calls to points, one after another. Of several a point whose connection fails is named.
-fn send_calls<
-    R: Print + Eprint + AllocGlobal + Net<Stream = TcpStream> + RandomSource + Wait + Copy + Drop,
->(caller: &mut Caller<'_, R>, calls: &[GivenCall], visits: &[Visit]) -> Result<(), ProgramFault> {
-    for visit in visits {
-        match (send_to(caller, calls, visit), visit.label()) {
-            (Ok(()), _) => {}
-            (Err(fault), Some(point)) => caller.note_failed(point, fault)?,
-            (Err(fault), None) => return Err(fault),
-        }
-    }
-    Ok(())
-}
-
-/// Sends the calls that go to a point.
-fn send_to<
-    R: Print + Eprint + AllocGlobal + Net<Stream = TcpStream> + RandomSource + Wait + Copy + Drop,
->(caller: &mut Caller<'_, R>, calls: &[GivenCall], visit: &Visit) -> Result<(), ProgramFault> {
-    if visit.calls.is_empty() {
-        return Ok(());
-    }
-    let mut callee = caller.reach(visit.label())?;
-    for place in &visit.calls {
-        if let Some(call) = calls.get(*place) {
-            caller.send(&mut callee, call.name, call.frame.as_str())?;
-        }
-    }
-    caller.leave(callee);
-    Ok(())
-}
-
-/// Sends the lines of standard input.
-fn send_lines<
-    R: Input
-        + Print
-        + Eprint
-        + AllocGlobal
-        + Net<Stream = TcpStream>
-        + RandomSource
-        + Wait
-        + Copy
-        + Drop,
->(rt: &R, caller: &mut Caller<'_, R>) -> Result<(), ProgramFault> {
-    let mut callee = caller.reach(None)?;
-    let mut lines = Lines::new(rt.alloc(), rt.reader())?;
-    for _line in rt.forever() {
-        if !lines.advance()? {
-            break;
-        }
-        let number = lines.number();
-        match lines.text() {
-            Some(text) => {
-                if caller.passes(number, text)? {
-                    caller.send(&mut callee, number, text)?;
-                }
-            }
-            None => caller.report(number, "BadText")?,
-        }
-    }
-    caller.leave(callee);
-    Ok(())
+/// The visit to the point of what is undone. The operator's URL lacks its identity, or has it.
+fn undo_visit(
+    alloc: Global,
+    url: &str,
+    undoing: &Undoing,
+    count: usize,
+) -> Result<Vec<Visit>, ProgramFault> {
+    let Some(visit) = Visit::at_point(alloc, url, undoing.point.as_str(), count)? else {
+        return Err(ProgramFault::UndoElsewhere);
+    };
+    let mut visits = Vec::new(alloc);
+    visits.push(visit)?;
+    Ok(visits)
 }

@@ -4,19 +4,9 @@ use crate::program::payload_file::read_payload_file;
 use crate::program::program_fault::ProgramFault;
 use client::{ask_call, audit_call, clear_call, remote_start_call, set_profile_call, status_call};
 use command_line::{Calling, Starting};
+use operator_calls::GivenCall;
 use std::alloc::{AllocError, AllocGlobal, Global};
 use std::rt::Files;
-
-/// The call that an option gives.
-#[derive(Drop)]
-pub struct GivenCall {
-    /// The option's name.
-    pub name: &'static str,
-    /// The JSON text that it was given, where it is given one.
-    pub given: Option<String>,
-    /// The call's frame.
-    pub frame: String,
-}
 
 /// The calls of the options, in their order. A connector that is no number is a fault before the
 /// files are read.
@@ -33,12 +23,12 @@ pub fn given_calls<R: Files + Eprint + AllocGlobal>(
     if let Some(path) = calling.set_profile {
         let payload = read_payload_file(rt, path)?;
         let frame = set_profile_call(alloc, payload.as_str())?;
-        calls.push(json_call("set-profile", payload, frame))?;
+        calls.push(GivenCall::with_json("set-profile", payload, frame))?;
     }
     if let Some(payload) = calling.clear {
         let frame = clear_call(alloc, payload)?;
         let payload = String::from_str(alloc, payload)?;
-        calls.push(json_call("clear", payload, frame))?;
+        calls.push(GivenCall::with_json("clear", payload, frame))?;
     }
     if let Some((connector, starting)) = starting {
         calls.push(remote_start_of(rt, connector, starting)?)?;
@@ -55,15 +45,15 @@ fn push_questions(
 ) -> Result<(), AllocError> {
     if let Some(asking) = calling.ask {
         let frame = ask_call(alloc, asking.connector, asking.seconds)?;
-        calls.push(plain_call("ask", frame))?;
+        calls.push(GivenCall::plain("ask", frame))?;
     }
     if let Some(asking) = calling.audit {
         let frame = audit_call(alloc, asking.connector, asking.seconds)?;
-        calls.push(plain_call("audit", frame))?;
+        calls.push(GivenCall::plain("audit", frame))?;
     }
     if calling.status {
         let frame = status_call(alloc)?;
-        calls.push(plain_call("status", frame))?;
+        calls.push(GivenCall::plain("status", frame))?;
     }
     Ok(())
 }
@@ -85,27 +75,9 @@ fn remote_start_of<R: Files + Eprint + AllocGlobal>(
     let alloc = rt.alloc();
     let Some(path) = starting.profile else {
         let frame = remote_start_call(alloc, connector, starting.id_tag, None)?;
-        return Ok(plain_call("remote-start", frame));
+        return Ok(GivenCall::plain("remote-start", frame));
     };
     let profile = read_payload_file(rt, path)?;
     let frame = remote_start_call(alloc, connector, starting.id_tag, Some(profile.as_str()))?;
-    Ok(json_call("remote-start", profile, frame))
-}
-
-/// The call of an option that is given a JSON text.
-fn json_call(name: &'static str, given: String, frame: String) -> GivenCall {
-    GivenCall {
-        name,
-        given: Some(given),
-        frame,
-    }
-}
-
-/// The call of an option without a JSON text.
-fn plain_call(name: &'static str, frame: String) -> GivenCall {
-    GivenCall {
-        name,
-        given: None,
-        frame,
-    }
+    Ok(GivenCall::with_json("remote-start", profile, frame))
 }

@@ -1,6 +1,6 @@
 //! The job of `central point`.
 
-use crate::program::login::{logged_in, read_login};
+use crate::program::login::read_login;
 use crate::program::program_fault::ProgramFault;
 use crate::program::site_file::read_site_file;
 use client::{Address, Lines, TerminalPoint, connect};
@@ -34,7 +34,7 @@ pub fn run_point<
     let url = format!(in alloc; "{base}/{}", pointing.id)?;
     let address = Address::of_url(alloc, url.as_str())?;
     let login = read_login(rt, pointing.login)?;
-    let address = logged_in(alloc, address, &login)?;
+    let address = address.logged_in(alloc, &login)?;
     let site = read_site_file(rt, pointing.site)?;
     let point = point_of_site(alloc, &site, pointing.id)?;
     let socket = connect(rt, alloc, address)?;

@@ -100,6 +100,9 @@ pub enum ProgramFault {
     /// A line of the file of keys is no key.
     #[error("central: keys: {0}")]
     Keys(KeysFault),
+    /// The file of `--login` has no name with a key.
+    #[error("central: login: no NAME:KEY in the file of --login; central key prints one")]
+    Login,
     /// A key is to be made for a name that none may have.
     #[error("central: command line: --name is empty, or has a blank, a colon or a control character")]
     KeyName,
@@ -127,7 +130,7 @@ impl ProgramFault {
             ProgramFault::SiteFile | ProgramFault::Write | ProgramFault::OutOfMemory => 3,
             ProgramFault::Serve(_) | ProgramFault::File => 3,
             ProgramFault::Clock | ProgramFault::Random => 3,
-            ProgramFault::Keys(_) => 1,
+            ProgramFault::Keys(_) | ProgramFault::Login => 1,
             ProgramFault::Client(ClientFault::Url | ClientFault::NotOperator) => 4,
             ProgramFault::Client(_) => 3,
             ProgramFault::Words | ProgramFault::NoSuchPoint | ProgramFault::NoSuchConnector => 4,

@@ -1,30 +1,33 @@
 //! What brings a point back to the profiles that it had before a line of a journal.
 
-use crate::program::given_calls::GivenCall;
-use crate::program::program_fault::ProgramFault;
+ghost use Rattle.std.specs.Prelude.{◌≤◌, length};
+ghost use Rattle.replay.specs.Limits.{max_script_bytes};
+
+use crate::given_call::GivenCall;
 use client::{clear_call, set_profile_call};
-use data_folder::read_journal_script;
 use findings::takes_place_of;
 use meaning::PrevailingProfile;
 use messages::push_profile;
 use profile::{Purpose, Row};
-use replay::{Playing, ScriptLine, read_line, split_line};
+use replay::Playing;
 use site_core::Machine;
 use site_rules::Site;
-use std::alloc::{AllocError, AllocGlobal, Global};
-use std::fs::File;
-use std::rt::Files;
-
-/// So many characters of the line that is undone are shown.
-const LONGEST_SHOWN: usize = 160;
+use std::alloc::{AllocError, Global};
 
 /// What brings a point back.
 #[derive(Drop)]
 pub struct Undo {
-    /// The point's identity.
-    pub point: String,
     /// The clears, and then the installs.
     pub calls: Vec<GivenCall>,
+    /// What can't be installed again.
+    pub lost: Vec<LostProfile>,
+}
+
+/// A TxProfile whose transaction has ended.
+#[derive(Clone, Copy, Debug)]
+pub struct LostProfile {
+    pub id: i32,
+    pub connector: u32,
 }
 
 /// A profile that a point has or had.
@@ -39,79 +42,49 @@ struct Kept {
     comes_back: bool,
 }
 
-/// What brings the point of a line of a folder's journal back to the profiles that it had before
-/// that line. Says which profile can't come back, and where nothing is to be done.
-pub fn undo_of<R: Files<File = File> + Eprint + AllocGlobal>(
-    rt: &R,
-    folder: &str,
+/// What brings the point of an identity back to the profiles that it had before the line of a number
+/// in a script, from those that it has at the end.
+pub fn undo_to(
+    alloc: Global,
+    script: &[u8],
     site: Site,
     number: u64,
-) -> Result<Undo, ProgramFault> {
-    let alloc = rt.alloc();
-    let script = read_journal_script(rt, folder)?;
-    let line = line_of(script.as_slice(), number);
-    let Some(point) = point_of_line(alloc, line, &site)? else {
-        return Err(ProgramFault::NoUndoLine);
-    };
-    say_line(rt, number, line)?;
-    let mut playing = Playing::new(alloc, script.as_slice(), site)?;
+    point: &str,
+) -> Result<Undo, AllocError>
+    requires { length script.now ≤ max_script_bytes }
+{
+    let mut playing = Playing::new(alloc, script, site)?;
     play_to(&mut playing, script.len(), number)?;
-    let mut before = kept_by(alloc, playing.machine(), point.as_str())?;
+    let mut before = kept_by(alloc, playing.machine(), point)?;
     play_to(&mut playing, script.len(), u64::MAX)?;
-    let now = kept_by(alloc, playing.machine(), point.as_str())?;
-    for kept in &mut before {
-        if !is_among(kept, now.as_slice()) {
-            kept.comes_back = may_come_back(playing.machine(), point.as_str(), kept);
-            say_unless_back(rt, kept);
-        }
-    }
+    let now = kept_by(alloc, playing.machine(), point)?;
+    let lost = find_lost(alloc, playing.machine(), point, &mut before, now.as_slice())?;
     let calls = calls_between(alloc, before.as_slice(), now.as_slice())?;
-    if calls.is_empty() {
-        let _ = eprintln!(rt;
-            "undo: {point} has the profiles that it had before line {number}, as far as they can be there"
-        );
-    }
-    Ok(Undo { point, calls })
+    Ok(Undo { calls, lost })
 }
 
-/// The line of a number, counted from 1, in a script; behind its end nothing.
-fn line_of(script: &[u8], number: u64) -> &[u8] {
-    let mut rest = script;
-    for _line in 1..number {
-        if rest.is_empty() {
-            return rest;
+/// Notes which profiles come back that the point has no more. Returns those that can't.
+fn find_lost(
+    alloc: Global,
+    machine: &Machine,
+    point: &str,
+    before: &mut Vec<Kept>,
+    now: &[Kept],
+) -> Result<Vec<LostProfile>, AllocError> {
+    let mut lost = Vec::new(alloc);
+    for kept in before {
+        if is_among(kept, now) {
+            continue;
         }
-        rest = split_line(rest).1;
+        kept.comes_back = may_come_back(machine, point, kept);
+        if !kept.comes_back {
+            lost.push(LostProfile {
+                id: kept.name.id,
+                connector: kept.name.connector,
+            })?;
+        }
     }
-    if rest.is_empty() {
-        return rest;
-    }
-    split_line(rest).0
-}
-
-/// The identity of the point that a line of a script is for or from.
-fn point_of_line(alloc: Global, line: &[u8], site: &Site) -> Result<Option<String>, AllocError> {
-    if line.is_empty() {
-        return Ok(None);
-    }
-    match read_line(line, site) {
-        Ok(ScriptLine::Text(sent)) => Ok(Some(String::from_str(alloc, sent.point())?)),
-        _ => Ok(None),
-    }
-}
-
-/// Says what is undone: the beginning of its line.
-fn say_line<R: Eprint + AllocGlobal>(rt: &R, number: u64, line: &[u8]) -> Result<(), AllocError> {
-    let mut shown = String::new(rt.alloc());
-    for character in str::from_utf8(line)
-        .unwrap_or("")
-        .chars()
-        .take(LONGEST_SHOWN)
-    {
-        shown.push(character)?;
-    }
-    let _ = eprintln!(rt; "undo: line {number} is {shown}");
-    Ok(())
+    Ok(lost)
 }
 
 /// Plays the lines of a script that stand before the line of a number. It has no more lines than
@@ -179,16 +152,6 @@ fn may_come_back(machine: &Machine, point: &str, kept: &Kept) -> bool {
         || kept.transaction == transaction_of(machine, point, kept.name.connector)
 }
 
-/// Says of a profile that it can't come back, if it can't.
-fn say_unless_back<R: Eprint>(rt: &R, kept: &Kept) {
-    if !kept.comes_back {
-        let (id, connector) = (kept.name.id, kept.name.connector);
-        let _ = eprintln!(rt;
-            "undo: TxProfile {id} at connector {connector} can't be set again: its transaction has ended"
-        );
-    }
-}
-
 /// The calls that lead from the profiles of now to those of before.
 fn calls_between(
     alloc: Global,
@@ -200,12 +163,12 @@ fn calls_between(
         if !is_among(added, before) && !is_replaced(added, before) {
             let id = added.name.id;
             let criteria = format!(in alloc; "{{\"id\":{id}}}")?;
-            calls.push(undo_call(clear_call(alloc, criteria.as_str())?))?;
+            calls.push(GivenCall::plain("undo", clear_call(alloc, criteria.as_str())?))?;
         }
     }
     for kept in before {
         if kept.comes_back {
-            calls.push(undo_call(set_profile_call(alloc, kept.payload.as_str())?))?;
+            calls.push(GivenCall::plain("undo", set_profile_call(alloc, kept.payload.as_str())?))?;
         }
     }
     Ok(calls)
@@ -217,13 +180,4 @@ fn is_replaced(added: &Kept, before: &[Kept]) -> bool {
     before
         .iter()
         .any(|kept| kept.comes_back && takes_place_of(kept.name, name))
-}
-
-/// A call that undoes something.
-fn undo_call(frame: String) -> GivenCall {
-    GivenCall {
-        name: "undo",
-        given: None,
-        frame,
-    }
 }

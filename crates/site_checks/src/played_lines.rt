@@ -1,31 +1,29 @@
 //! What is found in the lines of a script as they are played.
 
 use findings::{Finding, RowChange, ScriptCheck, check_change, check_printed, check_standing};
+use replay::PlayedLine;
 use show_pages::Trace;
 use site_core::Machine;
 use std::alloc::{AllocError, Global};
 
-/// Plays the next line of a script, if one is left, and checks it. What is found in what it prints
-/// is added to the findings. Returns whether a line was left.
-pub fn find_in_next_line(
+/// Takes in the line of a script that was played, and checks it. What is found in what it prints is
+/// added to the findings.
+pub(crate) fn find_in_played<'a>(
     alloc: Global,
-    trace: &mut Trace<'_>,
+    trace: &mut Trace<'a>,
     check: &mut ScriptCheck,
     printed: &mut Vec<Finding>,
-) -> Result<bool, AllocError> {
-    let Some(played) = trace.next()? else {
-        return Ok(false);
-    };
+    played: PlayedLine<'a>,
+) -> Result<(), AllocError> {
     check.take_in(trace.playing(), &played)?;
     let lines = played.outcome.printed.as_slice();
     printed.append(&mut check_printed(alloc, played.number, lines)?)?;
-    trace.take_in(played)?;
-    Ok(true)
+    trace.take_in(played)
 }
 
 /// Adds what is found in what lines changed in the profiles of their points, from the line of a number
 /// on.
-pub fn find_in_changes(
+pub(crate) fn find_in_changes(
     alloc: Global,
     trace: &Trace<'_>,
     first: u64,
@@ -48,7 +46,7 @@ pub fn find_in_changes(
 }
 
 /// What is found in what the point of an identity has.
-pub fn find_at_point(
+pub(crate) fn find_at_point(
     alloc: Global,
     machine: &Machine,
     point: &str,

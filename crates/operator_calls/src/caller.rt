@@ -1,18 +1,13 @@
-//! Who sends an operator's messages, and says what is wrong with them.
+//! Who decides which of an operator's messages are sent, and says what is wrong with them.
 
-use crate::program::given_calls::GivenCall;
-use crate::program::login::logged_in;
-use crate::program::program_fault::ProgramFault;
-use client::{Address, AnswerLines, CallEnd, ClientFault, OperatorClient, connect};
+ghost use Rattle.std.specs.Prelude.{◌≡◌, ◌||◌, not, IfOk};
+ghost use Rattle.findings.specs.ExitStatus.{has_fault};
+
+use crate::given_call::GivenCall;
+use client::ClientFault;
 use findings::{Finding, SentCheck, Severity, answer_sentence, check_sent, has_fault, json_break};
-use std::alloc::{AllocError, AllocGlobal, Global};
+use std::alloc::{AllocError, AllocGlobal};
 use std::fmt::Display;
-use std::io;
-use std::net::TcpStream;
-use std::random::RandomSource;
-use std::rt::Net;
-use std::sync::Wait;
-use tungstenite::RandomKeys;
 
 /// The exit status where something wasn't sent, or wasn't accepted.
 const REFUSED: u8 = 2;
@@ -35,25 +30,13 @@ pub struct Sending<'a> {
 
 /// Who sends messages, and what came of them so far.
 #[derive(Drop)]
-pub struct Caller<'a, R: RandomSource> {
-    rt: &'a R,
-    sending: Sending<'a>,
+pub struct Caller<'a, R> {
+    pub(crate) rt: &'a R,
+    pub sending: Sending<'a>,
     status: u8,
 }
 
-/// Where messages go.
-#[derive(Drop)]
-pub struct Callee<R: RandomSource> {
-    /// What each line begins with that is printed of it.
-    label: String,
-    /// The connection, unless nothing is sent.
-    client: Option<OperatorClient<TcpStream, RandomKeys<R>>>,
-}
-
-impl<
-    'a,
-    R: Print + Eprint + AllocGlobal + Net<Stream = TcpStream> + RandomSource + Wait + Copy + Drop,
-> Caller<'a, R> {
+impl<'a, R: Print + Eprint + AllocGlobal> Caller<'a, R> {
     pub fn new(rt: &'a R, sending: Sending<'a>) -> Caller<'a, R> {
         Caller {
             rt,
@@ -67,45 +50,8 @@ impl<
         self.status
     }
 
-    /// Connects to the operator's URL, or to that of the point of an identity, unless nothing is sent.
-    pub fn reach(&self, point: Option<&str>) -> Result<Callee<R>, ProgramFault> {
-        let label = self.label_of(point)?;
-        let client = if self.sending.dry_run {
-            None
-        } else {
-            Some(self.connected(point)?)
-        };
-        Ok(Callee { label, client })
-    }
-
-    /// What each line about a point begins with, where it is called by its identity.
-    fn label_of(&self, point: Option<&str>) -> Result<String, AllocError> {
-        match point {
-            Some(point) => format!(in self.rt.alloc(); "{point} "),
-            None => Ok(String::new(self.rt.alloc())),
-        }
-    }
-
-    /// A client that is connected.
-    fn connected(
-        &self,
-        point: Option<&str>,
-    ) -> Result<OperatorClient<TcpStream, RandomKeys<R>>, ProgramFault> {
-        let alloc = self.rt.alloc();
-        let address = match point {
-            Some(point) => Address::of_operator(
-                alloc,
-                url_of_point(alloc, self.sending.url, point)?.as_str(),
-            )?,
-            None => Address::of_operator(alloc, self.sending.url)?,
-        };
-        let address = logged_in(alloc, address, &self.sending.login)?;
-        let socket = connect(self.rt, alloc, address)?;
-        Ok(OperatorClient::new(alloc, socket))
-    }
-
     /// The calls that are to be sent. Says what is wrong with each.
-    pub fn passed(&mut self, calls: Vec<GivenCall>) -> Result<Vec<GivenCall>, ProgramFault> {
+    pub fn passed(&mut self, calls: Vec<GivenCall>) -> Result<Vec<GivenCall>, ClientFault> {
         let mut passed = Vec::new(self.rt.alloc());
         for call in calls {
             if self.passes_given(&call)? {
@@ -116,7 +62,7 @@ impl<
     }
 
     /// Whether the call of an option is to be sent. Its JSON text has to be JSON by itself.
-    fn passes_given(&mut self, call: &GivenCall) -> Result<bool, ProgramFault> {
+    fn passes_given(&mut self, call: &GivenCall) -> Result<bool, ClientFault> {
         let name = call.name;
         if let Some(given) = &call.given {
             if let Some(fault) = json_break(self.rt.alloc(), given.as_str())? {
@@ -129,11 +75,11 @@ impl<
     }
 
     /// Whether a message is to be sent, which is reported by this name. Says what is wrong with it.
-    pub fn passes<N: Display + Copy + Drop>(
+    pub(crate) fn passes<N: Display + Copy + Drop>(
         &mut self,
         name: N,
         text: &str,
-    ) -> Result<bool, ProgramFault> {
+    ) -> Result<bool, ClientFault> {
         let checked = check_sent(self.rt.alloc(), text)?;
         self.say_of(name, &checked)?;
         if checked.no_call.is_some() {
@@ -154,7 +100,10 @@ impl<
         point: Option<&str>,
         call: &GivenCall,
         findings: &[Finding],
-    ) -> Result<bool, ProgramFault> {
+    ) -> Result<bool, ClientFault>
+        ensures sent { IfOk result (λ is_sent.
+            is_sent ≡ (self.old.sending.force || not (has_fault findings.now))) }
+    {
         let label = self.label_of(point)?;
         self.say_findings(label.as_str(), call.name, findings)?;
         self.passes_with(label.as_str(), call.name, findings)
@@ -166,7 +115,10 @@ impl<
         label: &str,
         name: N,
         findings: &[Finding],
-    ) -> Result<bool, ProgramFault> {
+    ) -> Result<bool, ClientFault>
+        ensures sent { IfOk result (λ is_sent.
+            is_sent ≡ (self.old.sending.force || not (has_fault findings.now))) }
+    {
         if self.sending.force || !has_fault(findings) {
             return Ok(true);
         }
@@ -177,50 +129,27 @@ impl<
         Ok(false)
     }
 
-    /// Sends a message, or prints it if nothing is sent.
-    pub fn send<N: Display + Copy + Drop>(
-        &mut self,
-        callee: &mut Callee<R>,
-        name: N,
-        text: &str,
-    ) -> Result<(), ProgramFault> {
-        let label = callee.label.as_str();
-        let Some(client) = &mut callee.client else {
-            let line = on_one_line(self.rt.alloc(), text)?;
-            return self.print(format!(in self.rt.alloc(); "{label}{line}")?);
-        };
-        let mut writer = io::writer(self.rt);
-        let mut lines = AnswerLines {
-            writer: &mut writer,
-            start: label,
-        };
-        match client.call(self.rt, &mut lines, text)? {
-            CallEnd::Accepted => Ok(()),
-            CallEnd::Refused(answer) => self.refused(label, name, answer.as_str()),
-            CallEnd::NotACall => self.report(name, "NotACall"),
-        }
-    }
-
-    /// Closes the connection, if there is one.
-    pub fn leave(&self, callee: Callee<R>) {
-        let Callee { label, client } = callee;
-        drop(label);
-        if let Some(client) = client {
-            client.end();
+    /// What each line about a point begins with, where it is called by its identity.
+    pub(crate) fn label_of(&self, point: Option<&str>) -> Result<String, AllocError> {
+        match point {
+            Some(point) => format!(in self.rt.alloc(); "{point} "),
+            None => Ok(String::new(self.rt.alloc())),
         }
     }
 
     /// Notes that the connection to a point's operator failed, and says so. Any other fault stops the
     /// program.
-    pub fn note_failed(&mut self, point: &str, fault: ProgramFault) -> Result<(), ProgramFault> {
-        match fault {
-            ProgramFault::Client(failed) if is_of_one_point(failed) => {
-                self.status = FAILED;
-                self.say(format!(in self.rt.alloc(); "central: {point}: {failed}")?);
-                Ok(())
-            }
-            fault => Err(fault),
+    pub(crate) fn note_failed(
+        &mut self,
+        point: &str,
+        fault: ClientFault,
+    ) -> Result<(), ClientFault> {
+        if !is_of_one_point(fault) {
+            return Err(fault);
         }
+        self.status = FAILED;
+        self.say(format!(in self.rt.alloc(); "central: {point}: {fault}")?);
+        Ok(())
     }
 
     /// Says what is wrong with a message before it is sent.
@@ -228,7 +157,7 @@ impl<
         &self,
         name: N,
         checked: &SentCheck,
-    ) -> Result<(), ProgramFault> {
+    ) -> Result<(), ClientFault> {
         if let Some(why) = &checked.no_call {
             self.say(format!(in self.rt.alloc(); "{name}: {why}")?);
         }
@@ -241,7 +170,7 @@ impl<
         label: &str,
         name: N,
         findings: &[Finding],
-    ) -> Result<(), ProgramFault> {
+    ) -> Result<(), ClientFault> {
         let alloc = self.rt.alloc();
         for finding in findings {
             let message = &finding.message;
@@ -255,12 +184,12 @@ impl<
     }
 
     /// Notes that a message was refused, and says what its answer means.
-    fn refused<N: Display + Drop>(
+    pub(crate) fn refused<N: Display + Drop>(
         &mut self,
         label: &str,
         name: N,
         answer: &str,
-    ) -> Result<(), ProgramFault> {
+    ) -> Result<(), ClientFault> {
         self.note_refused();
         if let Some(sentence) = answer_sentence(self.rt.alloc(), answer)? {
             self.say(format!(in self.rt.alloc(); "{label}{name}: {sentence}")?);
@@ -269,7 +198,11 @@ impl<
     }
 
     /// Prints why a message isn't sent.
-    pub fn report<N: Display + Drop>(&mut self, name: N, why: &str) -> Result<(), ProgramFault> {
+    pub(crate) fn report<N: Display + Drop>(
+        &mut self,
+        name: N,
+        why: &str,
+    ) -> Result<(), ClientFault> {
         self.note_refused();
         self.print(format!(in self.rt.alloc(); "! {name} {why}")?)
     }
@@ -284,31 +217,12 @@ impl<
     }
 
     /// Prints a line.
-    fn print(&self, line: String) -> Result<(), ProgramFault> {
+    pub(crate) fn print(&self, line: String) -> Result<(), ClientFault> {
         match self.rt.println(&line) {
             Ok(()) => Ok(()),
-            Err(_) => Err(ProgramFault::Client(ClientFault::Write)),
+            Err(_) => Err(ClientFault::Write),
         }
     }
-}
-
-/// A JSON text on one line. A line break stands between two words of it, for no string has one.
-pub fn on_one_line(alloc: Global, text: &str) -> Result<String, AllocError> {
-    let mut line = String::new(alloc);
-    for character in text.chars() {
-        line.push(if matches!(character, '\n' | '\r') {
-            ' '
-        } else {
-            character
-        })?;
-    }
-    Ok(line)
-}
-
-/// The URL of the operator of a point.
-pub fn url_of_point(alloc: Global, base: &str, point: &str) -> Result<String, AllocError> {
-    let base = base.trim_end_matches('/');
-    format!(in alloc; "{base}/{point}")
 }
 
 /// Whether a client stopped by what may be so at one point alone.

@@ -1,0 +1,2 @@
+mod UndoneLemmas
+mod VisitLemmas

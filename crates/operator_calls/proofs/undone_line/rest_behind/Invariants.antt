@@ -1,0 +1,8 @@
+-- What is left are the lines behind those so far.
+use Rattle.std.proofs.Common.{◌≡◌, ◌+◌, ℕ}
+use Rattle.operator_calls.specs.UndoneLine.{line_behind}
+use Rattle.operator_calls.proofs.undone_line.rest_behind.Given as goal
+
+abbrev pub invariant-loop-line : goal.invariant-loop-line
+invariant-loop-line l =
+    (k : ℕ) → line_behind l.rest k ≡ line_behind l.script (l._line + k)

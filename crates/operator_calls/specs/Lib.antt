@@ -1,0 +1,2 @@
+pub mod UndoneLine
+pub mod Visits

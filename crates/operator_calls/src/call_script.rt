@@ -1,0 +1,105 @@
+//! The script of a journal with calls behind it.
+
+ghost use Rattle.std.specs.Prelude.{◌≤◌, IfOk, IfSome, vec_len};
+ghost use Rattle.replay.specs.Limits.{max_script_bytes};
+
+use crate::given_call::GivenCall;
+use crate::visit::Visit;
+use ocpp_scalars::{Instant, push_instant};
+use replay::MAX_SCRIPT_BYTES;
+use std::alloc::{AllocError, Global};
+
+/// A longer frame has no room on a line of a script, and isn't checked.
+const LONGEST_FRAME: usize = 1_048_576 - 128;
+
+/// A journal's script with calls behind it.
+#[derive(Drop)]
+pub struct CallScript {
+    pub script: Vec<u8>,
+    /// How many lines of it are the journal's.
+    pub lines: u64,
+}
+
+/// A journal's script with the calls of visits behind it, each a line at this moment. None where that
+/// is longer than a script may be.
+pub fn script_of_calls(
+    journal: Vec<u8>,
+    moment: Instant,
+    calls: &[GivenCall],
+    visits: &[Visit],
+) -> Result<Option<CallScript>, AllocError>
+    ensures short { IfOk result (λ made. IfSome made (λ made.
+        vec_len made.script ≤ max_script_bytes)) }
+{
+    let lines = count_lines(journal.as_slice());
+    let mut script = journal;
+    for visit in visits {
+        push_visit(&mut script, moment, calls, visit)?;
+        if script.len() > MAX_SCRIPT_BYTES {
+            break;
+        }
+    }
+    if script.len() > MAX_SCRIPT_BYTES {
+        return Ok(None);
+    }
+    Ok(Some(CallScript { script, lines }))
+}
+
+/// Appends the calls of a visit.
+fn push_visit(
+    script: &mut Vec<u8>,
+    moment: Instant,
+    calls: &[GivenCall],
+    visit: &Visit,
+) -> Result<(), AllocError> {
+    for place in &visit.calls {
+        if let Some(call) = calls.get(*place) {
+            push_call(script, moment, visit.id.as_str(), call.frame.as_str())?;
+        }
+    }
+    Ok(())
+}
+
+/// Appends a call to a point as a line of a script. One that is too long for a line is an empty line.
+fn push_call(
+    script: &mut Vec<u8>,
+    moment: Instant,
+    point: &str,
+    frame: &str,
+) -> Result<(), AllocError> {
+    let alloc = *script.allocator();
+    let mut line = String::new(alloc);
+    if frame.len() <= LONGEST_FRAME {
+        push_instant(&mut line, moment)?;
+        line.push_str(" operator ")?;
+        line.push_str(point)?;
+        line.push_str(" ")?;
+        line.push_str(on_one_line(alloc, frame)?.as_str())?;
+    }
+    line.push_str("\n")?;
+    script.extend_from_slice(line.as_str().as_bytes())
+}
+
+/// A JSON text on one line. A line break stands between two words of it, for no string has one.
+pub(crate) fn on_one_line(alloc: Global, text: &str) -> Result<String, AllocError> {
+    let mut line = String::new(alloc);
+    for character in text.chars() {
+        line.push(if matches!(character, '\n' | '\r') {
+            ' '
+        } else {
+            character
+        })?;
+    }
+    Ok(line)
+}
+
+/// The number of lines, each of which ends with a line feed.
+fn count_lines(script: &[u8]) -> u64 {
+    let mut count = 0u64;
+    for byte in script {
+        if *byte == b'\n' {
+            count = count.saturating_add(1);
+        }
+    }
+    count
+}

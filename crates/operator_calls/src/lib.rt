@@ -1,0 +1,20 @@
+//! What an operator's client sends to which points (OCPP-J 1.6, chapter 3), and which calls bring a
+//! point back to the profiles that it had before a line of a journal.
+#![tactic(auto)]
+
+mod call_script;
+mod caller;
+mod given_call;
+mod operator_url;
+mod sending;
+mod undo;
+mod undone_line;
+mod visit;
+
+pub use call_script::{CallScript, script_of_calls};
+pub use caller::{Caller, Sending};
+pub use given_call::GivenCall;
+pub use operator_url::{is_without_point, url_of_point};
+pub use undo::{LostProfile, Undo, undo_to};
+pub use undone_line::{line_at, point_of_line};
+pub use visit::{Visit, visits_of_site};

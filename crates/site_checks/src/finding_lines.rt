@@ -1,0 +1,180 @@
+//! What is found, line by line.
+
+use crate::line_points::LinePoints;
+use findings::{Finding, Location, Severity};
+use std::alloc::{AllocError, Global};
+use std::fmt::Write;
+
+/// What stands before each finding in a script.
+const SCRIPT: &str = "script";
+
+/// What is found in a site file, line by line: faults first, which would be hard to find among the
+/// remarks on many points. Equal remarks on points are one line.
+pub fn site_page(alloc: Global, name: &str, findings: &[Finding]) -> Result<String, AllocError> {
+    let mut page = String::new(alloc);
+    push_of_severity(&mut page, name, findings, Severity::Fault)?;
+    push_of_severity(&mut page, name, findings, Severity::Warning)?;
+    push_remarks(&mut page, name, findings)?;
+    Ok(page)
+}
+
+/// Appends a line for each finding, behind the name of where it was found.
+pub fn push_findings(
+    page: &mut String,
+    name: &str,
+    findings: &[Finding],
+) -> Result<(), AllocError> {
+    for finding in findings {
+        push_finding(page, name, finding)?;
+    }
+    Ok(())
+}
+
+/// Appends a line for each finding in a script, in the order of its lines, with the points of these.
+/// Equal remarks on what points have at the end, which stands last, are one line.
+pub(crate) fn push_script_findings(
+    page: &mut String,
+    lines: &mut LinePoints<'_>,
+    findings: &[Finding],
+) -> Result<(), AllocError> {
+    let is_at_end = |finding: &Finding| matches!(finding.place, Location::End(_));
+    let first = findings
+        .iter()
+        .position(is_at_end)
+        .unwrap_or(findings.len());
+    let (in_lines, at_end) = findings.split_at(first);
+    for finding in in_lines {
+        push_in_line(page, lines, finding)?;
+    }
+    for (number, finding) in at_end.iter().enumerate() {
+        if finding.severity == Severity::Remark {
+            push_once(page, SCRIPT, at_end, number)?;
+        } else {
+            push_finding(page, SCRIPT, finding)?;
+        }
+    }
+    Ok(())
+}
+
+/// Appends a finding in a line of a script, with the point of that line.
+fn push_in_line(
+    page: &mut String,
+    lines: &mut LinePoints<'_>,
+    finding: &Finding,
+) -> Result<(), AllocError> {
+    let Location::Line(number) = finding.place else {
+        return push_finding(page, SCRIPT, finding);
+    };
+    let Some(point) = lines.point_at(*page.allocator(), number)? else {
+        return push_finding(page, SCRIPT, finding);
+    };
+    let message = finding.message.as_str();
+    let written = match finding.severity {
+        Severity::Fault => writeln!(page, "{SCRIPT}: line {number} ({point}): {message}"),
+        severity => writeln!(
+            page,
+            "{SCRIPT}: line {number} ({point}): {severity}: {message}"
+        ),
+    };
+    match written {
+        Ok(()) => Ok(()),
+        Err(_) => Err(AllocError),
+    }
+}
+
+/// Appends a line for each finding that matters so much.
+fn push_of_severity(
+    page: &mut String,
+    name: &str,
+    findings: &[Finding],
+    severity: Severity,
+) -> Result<(), AllocError> {
+    for finding in findings {
+        if finding.severity == severity {
+            push_finding(page, name, finding)?;
+        }
+    }
+    Ok(())
+}
+
+fn push_finding(page: &mut String, name: &str, finding: &Finding) -> Result<(), AllocError> {
+    match writeln!(page, "{name}: {finding}") {
+        Ok(()) => Ok(()),
+        Err(_) => Err(AllocError),
+    }
+}
+
+/// Appends a line for each remark, with those on later points that say the same.
+fn push_remarks(page: &mut String, name: &str, findings: &[Finding]) -> Result<(), AllocError> {
+    for (number, remark) in findings.iter().enumerate() {
+        if remark.severity == Severity::Remark {
+            push_once(page, name, findings, number)?;
+        }
+    }
+    Ok(())
+}
+
+/// Appends the remark of this number, unless it was made before on another point.
+fn push_once(
+    page: &mut String,
+    name: &str,
+    findings: &[Finding],
+    number: usize,
+) -> Result<(), AllocError> {
+    let Some(remark) = findings.get(number) else {
+        return Ok(());
+    };
+    let (earlier, rest) = findings.split_at(number);
+    if earlier.iter().any(|other| is_same_remark(remark, other)) {
+        return Ok(());
+    }
+    push_remark(page, name, remark, rest)
+}
+
+/// Whether both are remarks on points, in the same words.
+fn is_same_remark(remark: &Finding, other: &Finding) -> bool {
+    is_on_point(remark)
+        && is_on_point(other)
+        && other.severity == Severity::Remark
+        && remark.message.as_str() == other.message.as_str()
+}
+
+/// Whether a finding is on a point of the site file, or on what a point has at the end.
+fn is_on_point(finding: &Finding) -> bool {
+    matches!(finding.place, Location::Point { .. } | Location::End(_))
+}
+
+/// Appends a remark, with the last point of the rest on which it is made too, and the number of all.
+fn push_remark(
+    page: &mut String,
+    name: &str,
+    remark: &Finding,
+    rest: &[Finding],
+) -> Result<(), AllocError> {
+    let mut count = 0usize;
+    let mut last = remark;
+    for other in rest {
+        if is_same_remark(remark, other) {
+            count = count.saturating_add(1);
+            last = other;
+        }
+    }
+    if count < 2 {
+        return push_finding(page, name, remark);
+    }
+    let message = remark.message.as_str();
+    let written = match (&remark.place, &last.place) {
+        (Location::End(from), Location::End(to)) => writeln!(
+            page,
+            "{name}: {from} to {to}, {count} points, at the end: remark: {message}"
+        ),
+        (from, to) => writeln!(
+            page,
+            "{name}: {from} to {to}, {count} points: remark: {message}"
+        ),
+    };
+    match written {
+        Ok(()) => Ok(()),
+        Err(_) => Err(AllocError),
+    }
+}

@@ -1,0 +1,54 @@
+//! Which points the lines of a script are for or from.
+
+use replay::{ScriptLine, read_line, split_line};
+use site_rules::Site;
+use std::alloc::{AllocError, Global};
+
+/// The lines of a script, from one to the next.
+#[derive(Drop)]
+pub(crate) struct LinePoints<'a> {
+    site: &'a Site,
+    /// The line of this number, counted from 1, and those behind it.
+    rest: &'a [u8],
+    number: u64,
+}
+
+impl<'a> LinePoints<'a> {
+    /// Before the first line.
+    pub(crate) fn new(script: &'a [u8], site: &'a Site) -> LinePoints<'a> {
+        LinePoints {
+            site,
+            rest: script,
+            number: 1,
+        }
+    }
+
+    /// The identity of the point of a line, which is none of those before the last one that was asked
+    /// for. None where the line names no point of the site.
+    pub(crate) fn point_at(
+        &mut self,
+        alloc: Global,
+        number: u64,
+    ) -> Result<Option<String>, AllocError> {
+        for _line in self.number..number {
+            if self.rest.is_empty() {
+                return Ok(None);
+            }
+            self.rest = split_line(self.rest).1;
+            self.number = self.number.saturating_add(1);
+        }
+        if self.rest.is_empty() {
+            return Ok(None);
+        }
+        let Ok(ScriptLine::Text(sent) | ScriptLine::Hold(sent)) = read_line(
+            split_line(self.rest).0,
+            self.site,
+        ) else {
+            return Ok(None);
+        };
+        if self.site.place_of(sent.point()).is_none() {
+            return Ok(None);
+        }
+        Ok(Some(String::from_str(alloc, sent.point())?))
+    }
+}

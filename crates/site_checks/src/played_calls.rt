@@ -1,0 +1,102 @@
+//! Calls to points behind a script, and what is found in each by what its point has then.
+
+ghost use Rattle.std.specs.Prelude.{◌≤◌, length};
+ghost use Rattle.replay.specs.Limits.{max_script_bytes};
+
+use crate::played_lines::{find_at_point, find_in_changes, find_in_played};
+use crate::point_fuses::fuse_at;
+use findings::{Finding, ScriptCheck, Severity, check_fuse, check_sent};
+use show_pages::{Depth, Trace};
+use site_rules::Site;
+use std::alloc::{AllocError, Global};
+
+/// A script that was played up to the calls behind it, each of which is a line.
+#[derive(Drop)]
+pub struct PlayedCalls<'a> {
+    trace: Trace<'a>,
+}
+
+impl<'a> PlayedCalls<'a> {
+    /// Plays the first lines of a script, so many.
+    pub fn behind(
+        alloc: Global,
+        script: &'a [u8],
+        lines: u64,
+        site: Site,
+    ) -> Result<PlayedCalls<'a>, AllocError>
+        requires { length script.now ≤ max_script_bytes }
+    {
+        let mut trace = Trace::new(alloc, script, site, Depth::Refusals)?;
+        for _line in 0..lines {
+            match trace.next()? {
+                Some(played) => trace.take_in(played)?,
+                None => break,
+            }
+        }
+        Ok(PlayedCalls { trace })
+    }
+
+    /// Plays the next line, which is a call to a point. Returns what is found in it besides what the
+    /// call says by itself, and what is found in what the point has that it hadn't before.
+    pub fn find_in_next(
+        &mut self,
+        alloc: Global,
+        point: &str,
+        frame: &str,
+    ) -> Result<Vec<Finding>, AllocError> {
+        let trace = &mut self.trace;
+        let number = trace.playing().next_line();
+        let before = find_at_point(alloc, trace.playing().machine(), point)?;
+        let fuse_before = fuse_at(trace.playing().machine(), point);
+        let found = find_in_line(alloc, trace, number)?;
+        let after = find_at_point(alloc, trace.playing().machine(), point)?;
+        let by_itself = check_sent(alloc, frame)?;
+        let mut findings = without(alloc, found, by_itself.findings.as_slice())?;
+        let machine = trace.playing().machine();
+        let fuse_after = fuse_at(machine, point);
+        let mut standing = without(alloc, after, before.as_slice())?;
+        // What ceilings bring about beside the same fuse limit is no news.
+        standing.retain(|finding| {
+            finding.severity != Severity::Remark || fuse_after != fuse_before
+        });
+        findings.append(&mut standing)?;
+        let unit = machine.site().unit();
+        if let Some(finding) = check_fuse(alloc, unit, point, fuse_before, fuse_after)? {
+            findings.push(finding)?;
+        }
+        Ok(findings)
+    }
+}
+
+/// Plays the next line, which has this number. Returns what is found in it.
+fn find_in_line(
+    alloc: Global,
+    trace: &mut Trace<'_>,
+    number: u64,
+) -> Result<Vec<Finding>, AllocError> {
+    let mut check = ScriptCheck::new(alloc);
+    let mut printed = Vec::new(alloc);
+    if let Some(played) = trace.next()? {
+        find_in_played(alloc, trace, &mut check, &mut printed, played)?;
+    }
+    let mut found = check.finish(&[])?;
+    found.append(&mut printed)?;
+    find_in_changes(alloc, trace, number, &mut found)?;
+    Ok(found)
+}
+
+/// The findings whose message none of the others has.
+fn without(
+    alloc: Global,
+    findings: Vec<Finding>,
+    others: &[Finding],
+) -> Result<Vec<Finding>, AllocError> {
+    let mut left = Vec::new(alloc);
+    for finding in findings {
+        let message = finding.message.as_str();
+        if !others.iter().any(|other| other.message.as_str() == message) {
+            left.push(finding)?;
+        }
+    }
+    Ok(left)
+}

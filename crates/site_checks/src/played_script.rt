@@ -1,0 +1,133 @@
+//! What is found in a script or a journal as it is played, and what it leaves undone.
+
+ghost use Rattle.std.specs.Prelude.{◌≤◌, length};
+ghost use Rattle.replay.specs.Limits.{max_script_bytes};
+
+use crate::finding_lines::push_script_findings;
+use crate::line_points::LinePoints;
+use crate::played_lines::{find_at_point, find_in_changes, find_in_played};
+use crate::point_fuses::PointFuses;
+use findings::{Finding, ScriptCheck, check_boot, sort_by_line};
+use show_pages::{Depth, Trace, ending_text, trace_text};
+use site_core::Machine;
+use site_rules::Site;
+use site_status::{Boot, may_forget_since};
+use std::alloc::{AllocError, Global};
+
+/// What is played on a site.
+#[derive(Clone, Copy, Debug)]
+pub struct PlayedScript<'a> {
+    pub script: &'a [u8],
+    /// The boots that a folder keeps, each at the place of its point.
+    pub boots: &'a [Option<Boot>],
+    pub with_trace: bool,
+}
+
+/// Appends what is found in a script that is played on a site, and what it leaves undone. Returns
+/// what is found.
+pub fn push_played(
+    page: &mut String,
+    site: Site,
+    played: &PlayedScript<'_>,
+) -> Result<Vec<Finding>, AllocError>
+    requires { length played.now.script.now ≤ max_script_bytes }
+{
+    let alloc = *page.allocator();
+    let depth = if played.with_trace {
+        Depth::Lines
+    } else {
+        Depth::Refusals
+    };
+    let mut trace = Trace::new(alloc, played.script, site, depth)?;
+    let mut findings = find_in_lines(alloc, played.script, &mut trace)?;
+    find_in_changes(alloc, &trace, 0, &mut findings)?;
+    find_at_the_end(alloc, &trace, &mut findings)?;
+    find_in_boots(
+        alloc,
+        trace.playing().machine(),
+        played.boots,
+        &mut findings,
+    )?;
+    sort_by_line(&mut findings)?;
+    let mut lines = LinePoints::new(played.script, trace.playing().machine().site());
+    push_script_findings(page, &mut lines, findings.as_slice())?;
+    if played.with_trace {
+        page.push_str(trace_text(alloc, &trace)?.as_str())?;
+    }
+    page.push_str(ending_text(alloc, &trace)?.as_str())?;
+    Ok(findings)
+}
+
+/// Plays a script line by line. Returns what is found in its lines, and what is found in what they
+/// print.
+fn find_in_lines(
+    alloc: Global,
+    script: &[u8],
+    trace: &mut Trace<'_>,
+) -> Result<Vec<Finding>, AllocError> {
+    let mut check = ScriptCheck::new(alloc);
+    let mut printed = Vec::new(alloc);
+    let mut fuses = PointFuses::new(alloc, trace.playing().machine())?;
+    // Each line has a byte at least.
+    for _line in 0..script.len() {
+        let Some(played) = trace.next()? else {
+            break;
+        };
+        if let Some(raise) = fuses.follow(alloc, trace.playing().machine(), &played)? {
+            printed.push(raise)?;
+        }
+        find_in_played(alloc, trace, &mut check, &mut printed, played)?;
+    }
+    let mut findings = check.finish(trace.playing().held())?;
+    findings.append(&mut printed)?;
+    fuses.find_unlimited(alloc, trace.playing().machine(), &mut findings)?;
+    Ok(findings)
+}
+
+/// Adds what is found in what the points have when the script ends.
+fn find_at_the_end(
+    alloc: Global,
+    trace: &Trace<'_>,
+    findings: &mut Vec<Finding>,
+) -> Result<(), AllocError> {
+    let machine = trace.playing().machine();
+    let site = machine.site();
+    for place in 0..site.len() {
+        if let Some(point) = site.point(place) {
+            let mut more = find_at_point(alloc, machine, point.id)?;
+            findings.append(&mut more)?;
+        }
+    }
+    Ok(())
+}
+
+/// Adds which points booted and may have forgotten what they have when the script ends.
+fn find_in_boots(
+    alloc: Global,
+    machine: &Machine,
+    boots: &[Option<Boot>],
+    findings: &mut Vec<Finding>,
+) -> Result<(), AllocError> {
+    for (place, boot) in boots.iter().enumerate() {
+        let (Some(point), Some(boot)) = (machine.site().point(place), *boot) else {
+            continue;
+        };
+        if may_forget(alloc, machine, point.id, boot)? {
+            findings.push(check_boot(alloc, point.id, boot.moment)?)?;
+        }
+    }
+    Ok(())
+}
+
+/// Whether the point of an identity, which booted, may have forgotten what it has.
+fn may_forget(
+    alloc: Global,
+    machine: &Machine,
+    point: &str,
+    boot: Boot,
+) -> Result<bool, AllocError> {
+    let (Some(book), Some(outbox)) = (machine.book_of(point), machine.outbox_of(point)) else {
+        return Ok(false);
+    };
+    may_forget_since(alloc, boot, book, outbox, machine.audit_of(point))
+}

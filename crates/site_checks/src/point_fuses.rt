@@ -1,0 +1,98 @@
+//! The fuse limits of the points of a site, line after line.
+
+use findings::{Finding, check_raise, check_unlimited, fuse_limit};
+use replay::{PlayedLine, PointChange, ScriptLine};
+use site_core::Machine;
+use std::alloc::{AllocError, Global};
+
+/// The most that the ChargePointMaxProfiles of the point of an identity allow, where it has any.
+pub(crate) fn fuse_at(machine: &Machine, point: &str) -> Option<u32> {
+    fuse_limit(machine.book_of(point)?)
+}
+
+/// The fuse limit of a point.
+#[derive(Clone, Copy)]
+struct Fuse {
+    limit: Option<u32>,
+    /// How many profiles the point has.
+    profiles: usize,
+}
+
+/// The fuse limit of each point, in the order of the site file.
+#[derive(Drop)]
+pub(crate) struct PointFuses {
+    fuses: Vec<Fuse>,
+}
+
+impl PointFuses {
+    /// Before the first line no point has one.
+    pub(crate) fn new(alloc: Global, machine: &Machine) -> Result<PointFuses, AllocError> {
+        let mut fuses = Vec::new(alloc);
+        for _place in 0..machine.site().len() {
+            fuses.push(Fuse {
+                limit: None,
+                profiles: 0,
+            })?;
+        }
+        Ok(PointFuses { fuses })
+    }
+
+    /// Takes in what a line did to the fuse limit of its point. Returns a remark where a profile raised
+    /// that in another's place. Of one that comes beside another it is said what it lifts.
+    pub(crate) fn follow(
+        &mut self,
+        alloc: Global,
+        machine: &Machine,
+        played: &PlayedLine<'_>,
+    ) -> Result<Option<Finding>, AllocError> {
+        let Some(Ok(ScriptLine::Text(sent))) = &played.said else {
+            return Ok(None);
+        };
+        if played.outcome.change == PointChange::Nothing {
+            return Ok(None);
+        }
+        let (Some(place), Some(book)) = (
+            machine.site().place_of(sent.point()),
+            machine.book_of(sent.point()),
+        ) else {
+            return Ok(None);
+        };
+        let Some(fuse) = self.fuses.get_mut(place) else {
+            return Ok(None);
+        };
+        let before = *fuse;
+        *fuse = Fuse {
+            limit: fuse_limit(book),
+            profiles: book.view().rows.len(),
+        };
+        if fuse.profiles != before.profiles {
+            return Ok(None);
+        }
+        let unit = machine.site().unit();
+        check_raise(alloc, unit, played.number, before.limit, fuse.limit)
+    }
+
+    /// Adds which points have no fuse limit at the end, where most of them have one.
+    pub(crate) fn find_unlimited(
+        &self,
+        alloc: Global,
+        machine: &Machine,
+        findings: &mut Vec<Finding>,
+    ) -> Result<(), AllocError> {
+        let mut limited = 0usize;
+        for fuse in &self.fuses {
+            if fuse.limit.is_some() {
+                limited = limited.saturating_add(1);
+            }
+        }
+        if limited <= self.fuses.len() / 2 {
+            return Ok(());
+        }
+        for (place, fuse) in self.fuses.iter().enumerate() {
+            if let (Some(point), None) = (machine.site().point(place), fuse.limit) {
+                findings.push(check_unlimited(alloc, point.id)?)?;
+            }
+        }
+        Ok(())
+    }
+}
