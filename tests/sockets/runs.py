@@ -553,8 +553,7 @@ def killed_on_a_full_device(program):
             expect("what is kept", profiles - answered in (1, 2), True)  # what wasn't answered may be there
 
 
-# What `show` says of a number of lines, and `explain` of an install and a start.
-PRINTED_LINES = "check and call --undo count those that central journal prints"
+# What `explain` says of an install and a start.
 LATER = r"central: 2 changes at P1 are later than --start: --at 2025-01-01T00:00:00Z is without them\n"
 
 
@@ -576,8 +575,6 @@ def readers(program):
                 expect(f"what {command[0]} prints", (status, out), of_script(program, script, *command))
                 wanted = rf"central: journal: {count} lines, the last one of \S+\n{notes}" if command[0] in ("show", "explain") else notes
                 expect(f"what {command[0]} says", bool(re.fullmatch(wanted, said)), True)
-            said = read(program, data, "show", "--at", "1")[2].partition("\n")[0]
-            expect("whose lines are counted", said, f"central: --at counts the lines of {data.path}/journal; {PRINTED_LINES}")
 
 
 def tests():

@@ -6,7 +6,7 @@ use crate::program::moment::now;
 use crate::program::pages::{Screen, note_refused_lines, page_status, print_page, write_file};
 use crate::program::picture_name::{PictureForm, picture_form};
 use crate::program::program_fault::ProgramFault;
-use crate::program::script_end::{note_journal_lines, script_end};
+use crate::program::script_end::script_end;
 use crate::program::script_input::read_script_of;
 use crate::program::site_file::read_digested_site;
 use command_line::{Explaining, Source, Start, read_duration};
@@ -38,7 +38,6 @@ pub fn explain_file<R: Files<File = File> + Input + Print + Eprint + Clock + All
     let start = start_of(rt, explaining.start)?;
     let ask = ask_of(&explaining, start)?;
     let end = script_end(explaining.at)?;
-    note_journal_lines(rt, explaining.source, end);
     let (site, digest) = read_digested_site(rt, explaining.site)?;
     check_connector(&site, explaining.point, ask.connector)?;
     let presentation = Presentation {

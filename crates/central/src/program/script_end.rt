@@ -1,7 +1,6 @@
 //! How far `--at` says that a script or a journal is played.
 
 use crate::program::program_fault::ProgramFault;
-use command_line::Source;
 use data_folder::ScriptEnd;
 use ocpp_scalars::read_instant;
 
@@ -16,14 +15,5 @@ pub fn script_end(at: Option<&str>) -> Result<ScriptEnd, ProgramFault> {
     match read_instant(at) {
         Ok(moment) => Ok(ScriptEnd::Moment(moment)),
         Err(_) => Err(ProgramFault::NoScriptEnd),
-    }
-}
-
-/// Says whose lines `--at` counts, where it counts those of a folder's journal.
-pub fn note_journal_lines<R: Eprint>(rt: &R, source: Source<'_>, end: ScriptEnd) {
-    if let (Source::Journal(folder), ScriptEnd::Lines(_)) = (source, end) {
-        let _ = eprintln!(rt;
-            "central: --at counts the lines of {folder}/journal; check and call --undo count those that central journal prints"
-        );
     }
 }

@@ -2,7 +2,7 @@
 
 use crate::program::pages::{note_refused_lines, page_status, print_page};
 use crate::program::program_fault::ProgramFault;
-use crate::program::script_end::{note_journal_lines, script_end};
+use crate::program::script_end::script_end;
 use crate::program::script_input::read_script_of;
 use crate::program::site_file::read_digested_site;
 use command_line::{Showing, Source};
@@ -19,7 +19,6 @@ pub fn show_file<R: Files<File = File> + Input + Print + Eprint + AllocGlobal>(
     showing: Showing<'_>,
 ) -> Result<u8, ProgramFault> {
     let end = script_end(showing.at)?;
-    note_journal_lines(rt, showing.source, end);
     let (site, digest) = read_digested_site(rt, showing.site)?;
     let Source::Journal(folder) = showing.source else {
         return show_script(rt, showing, end, site);
