@@ -46,10 +46,15 @@ pub fn begin_boots<
 
 /// Keeps the boots of points for ever. Where they can't be kept, that is said once until they are, and
 /// it is tried again at the next change.
-fn keep_boots<C: Ledger, A: Ledger, R: Wait + Clock, M: Moments, J: Journal, K: BootKeeper>(
-    seats: &SeatContext<C, A, R, M, J, N>,
-    keeper: &K,
-) {
+fn keep_boots<
+    C: Ledger,
+    A: Ledger,
+    R: Wait + Clock,
+    M: Moments,
+    J: Journal<N>,
+    K: BootKeeper,
+    N: ChronicleName,
+>(seats: &SeatContext<C, A, R, M, J, N>, keeper: &K) {
     let mut is_said = false;
     for _change in seats.rt.forever() {
         seats.watch.changed_boots().wait(&seats.rt);

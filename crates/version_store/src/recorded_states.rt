@@ -15,6 +15,8 @@ pub struct NoName;
 
 impl ChronicleName for NoName {
     ghost name = { 0 };
+
+    ghost companion = { 0 };
 }
 
 /// A state without its requests for schedules.
