@@ -1,6 +1,6 @@
 //! The journal of a site that is run: what sessions note, written to a file and synced.
 
-ghost use Rattle.std.specs.Prelude.{IfOk, IfSome};
+ghost use Rattle.std.specs.Prelude.{◌≡◌, IfOk, IfSome};
 ghost use Rattle.journal_writer.specs.Account.{Covers};
 ghost use Rattle.site_journal.specs.MadeStep.{IsOfMadeStep};
 ghost use Rattle.version_store.specs.Recording.{IsAt};
@@ -10,7 +10,7 @@ use crate::restored_journal::RestoredJournal;
 use crate::said_lines::SaidLines;
 use crate::system_clock::SystemClock;
 use append_log::{LogFault, SystemFile};
-use chronicle::ChronicleName;
+use chronicle::{ChronicleName, Unnamed};
 use journal_writer::{NotedSteps, Receipt, WrittenSteps};
 use ocpp_scalars::{Instant as Moment, Moments, write_instant};
 use session::{Entry, Journal, JournalFault, MadeStep, Noted};
@@ -112,13 +112,16 @@ impl From<AllocError> for KeepFault {
 
 impl<R: Wait + Clock + Eprint + AllocGlobal + Drop, N: ChronicleName> JournalFile<R, N> {
     /// The journal that was restored, to which these lines are to be added. They lead to the last
-    /// of these states.
+    /// of these states. What it has at each sync is known under the last name.
     pub fn make(
         rt: R,
         restored: RestoredJournal,
         lines: &str,
         states: RecordedStates<N>,
-    ) -> Result<JournalFile<R, N>, AllocError> {
+        syncs: Unnamed,
+    ) -> Result<JournalFile<R, N>, AllocError>
+        requires { syncs.name ≡ N.companion }
+    {
         let alloc = rt.alloc();
         let RestoredJournal {
             mut log,
@@ -136,7 +139,7 @@ impl<R: Wait + Clock + Eprint + AllocGlobal + Drop, N: ChronicleName> JournalFil
             sync_time: Duration::ZERO,
         };
         let written = WrittenLines {
-            steps: WrittenSteps::new(alloc, log, states, FREE_ENTRIES)?,
+            steps: WrittenSteps::new(alloc, log, states, FREE_ENTRIES, syncs)?,
             reserve,
         };
         Ok(JournalFile {

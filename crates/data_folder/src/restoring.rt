@@ -7,7 +7,7 @@ use crate::named_file::NamedFile;
 use crate::opening::OpenJournal;
 use crate::restored_journal::RestoredJournal;
 use crate::system_clock::SystemClock;
-use chronicle::ChronicleName;
+use chronicle::{ChronicleName, Unnamed};
 use ocpp_scalars::{Instant, Moments};
 use site_core::Machine;
 use site_journal::{Unrestored, lose_links, push_header, restore};
@@ -44,7 +44,10 @@ pub fn restore_shared<
     digest: &[u8; 32],
     shared: &Shared<C, A, N>,
     pass: Pass<C, A>,
-) -> Result<(JournalFile<R, N>, Resumed), FolderFault> {
+    syncs: Unnamed,
+) -> Result<(JournalFile<R, N>, Resumed), FolderFault>
+    requires { syncs.name ≡ N.companion }
+{
     let mut pass = pass;
     let Some(now) = (SystemClock { rt }).now() else {
         return Err(FolderFault::Clock);
@@ -54,7 +57,7 @@ pub fn restore_shared<
     let resumed = count_resumed(book.present());
     let states = book.recorded();
     drop(book);
-    let journal = JournalFile::make(*rt, restored, added.as_str(), states)?;
+    let journal = JournalFile::make(*rt, restored, added.as_str(), states, syncs)?;
     let kept = journal.keep_all();
     // No thread writes its lines yet.
     journal.write_said();

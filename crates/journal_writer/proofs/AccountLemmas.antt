@@ -11,11 +11,15 @@ use Rattle.site_journal.specs.Line.{LineState, line_text}
 use Rattle.site_journal.specs.MadeStep.{IsOfMadeStep}
 use Rattle.site_journal.specs.NotedRun.{begins, notes, NotedRunsAreRestored}
 use Rattle.site_journal.specs.Restore.{restored, restored_lines}
-use Rattle.version_store.specs.Recording.{EndsAt, IsAt, RecordedState, forget}
+use Rattle.version_store.specs.Recording.{EndsAt, HasState, IsAt, IsNextOf, RecordedState, forget}
 use Rattle.journal_writer.specs.declared.numbered_entry.NumberedEntry.{NumberedEntry}
-use Rattle.journal_writer.specs.Account.{AccountsFor, nothing, more, EntriesAreRestored, HasLinesUpTo, IsNoted, NotedState, texts_of}
+use Rattle.journal_writer.specs.Account.{AccountsFor, nothing, more, EntriesAreRestored, FileState, GoesOn, IsNoted, NotedState, texts_of}
 
 -- ---- lists
+
+pub append_nil : {A : Type 0} (xs : List A) → xs ++ [] ≡ xs
+append_nil [] = refl
+append_nil {A} (x ∷ xs) = ap (λ (rest : List A). x ∷ rest) (append_nil xs)
 
 -- two ends of one list are one
 same_end : {A : Type 0} (before behind : List A) (x y : A) → before ++ x ∷ [] ≡ behind ++ y ∷ []
@@ -39,11 +43,8 @@ pub goes_on : (first middle last : RecordedState) (entries others : List Numbere
     → AccountsFor first entries middle → AccountsFor middle others last
     → AccountsFor first (entries ++ others) last
 goes_on first _ _ entries _ accounts (nothing states) =
-    subst (λ (es : List NumberedEntry). AccountsFor first es states) (sym (no_more entries)) accounts
-  where
-    no_more : (es : List NumberedEntry) → es ++ [] ≡ es
-    no_more [] = refl
-    no_more (e ∷ es) = ap (λ (rest : List NumberedEntry). e ∷ rest) (no_more es)
+    subst (λ (es : List NumberedEntry). AccountsFor first es states) (sym (append_nil entries))
+    accounts
 goes_on first _ _ entries _ accounts (more middle states later others entry behind leads) =
     subst (λ (es : List NumberedEntry). AccountsFor first es later) (moved entries)
     (more first states later (entries ++ others) entry
@@ -64,11 +65,11 @@ none_noted first last entries same none =
 pub step_noted : (first last before after : RecordedState) (entries items : List NumberedEntry)
     (entry : EntryState) (number : ℕ) → AccountsFor first entries last → last ≡ before
     → last.is_kept ≡ true → after.is_kept ≡ true
-    → IsOfMadeStep entry number (IsAt before) (IsAt after)
+    → IsNextOf before after → IsOfMadeStep entry number (IsAt before) (IsAt after)
     → items ≡ entries ++ (record { entry = entry; number = number }) ∷ []
     → AccountsFor first items after
-step_noted first last before after entries items entry number accounts same was_kept is_kept made
-    pushed =
+step_noted first last before after entries items entry number accounts same was_kept is_kept next
+    made pushed =
     subst (λ (es : List NumberedEntry). AccountsFor first es after) (sym pushed)
     (more first last after entries (record { entry = entry; number = number }) accounts (record {
       line = made.line;
@@ -77,6 +78,7 @@ step_noted first last before after entries items entry number accounts same was_
       new = made.new.present;
       was = subst (λ (r : RecordedState). IsAt r made.old.present) (sym same) made.was_before was_kept;
       is = made.is_after is_kept;
+      is_next = subst (λ (r : RecordedState). IsNextOf r after) (sym same) next;
       leads = made.leads;
     }))
 
@@ -86,37 +88,30 @@ pub texts_of_both : (entries others : List NumberedEntry)
 texts_of_both entries others =
     flat_map-append (λ (e : NumberedEntry). entry_text e.entry e.number) entries others
 
--- a file has its lines up to the states that it begins with
-pub begun_so : (states : RecordedState) (bytes : List ℕ) → HasLinesUpTo states bytes
-begun_so states bytes = record {
-  begun = bytes;
-  first = states;
+-- a file goes on from what it has
+pub from_itself : (file : FileState) → GoesOn file file
+from_itself file = record {
   entries = [];
-  bytes_are = sym (no_bytes bytes);
-  accounts = nothing states;
+  bytes_are = sym (append_nil file.bytes);
+  accounts = nothing file.states;
 }
-  where
-    no_bytes : (bs : List ℕ) → bs ++ [] ≡ bs
-    no_bytes [] = refl
-    no_bytes (b ∷ bs) = ap (λ (rest : List ℕ). b ∷ rest) (no_bytes bs)
 
 -- and with the lines of others, up to where these lead
-pub lines_added : (old new : Contents) (states : RecordedState) (taken : NotedState)
-    (lines : List ℕ) → HasLinesUpTo states (file_of old) → taken.first ≡ states → IsNoted taken
-    → lines ≡ texts_of taken.entries → new ≡ with_added old lines
-    → HasLinesUpTo taken.last (file_of new)
-lines_added old new states taken lines has next noted lines_are added = record {
-  begun = has.begun;
-  first = has.first;
+pub lines_added : (start : FileState) (old new : Contents) (states : RecordedState)
+    (taken : NotedState) (lines : List ℕ)
+    → GoesOn start (record { bytes = file_of old; states = states }) → taken.first ≡ states
+    → IsNoted taken → lines ≡ texts_of taken.entries → new ≡ with_added old lines
+    → GoesOn start (record { bytes = file_of new; states = taken.last })
+lines_added start old new states taken lines has next noted lines_are added = record {
   entries = has.entries ++ taken.entries;
   bytes_are =
       ap (λ (c : Contents). file_of c) added
       ∙ sym (append_assoc old.synced old.appended lines)
       ∙ ap (λ t. t ++ lines) has.bytes_are
-      ∙ ap (λ t. (has.begun ++ texts_of has.entries) ++ t) lines_are
-      ∙ append_assoc has.begun (texts_of has.entries) (texts_of taken.entries)
-      ∙ ap (λ t. has.begun ++ t) (sym (texts_of_both has.entries taken.entries));
-  accounts = goes_on has.first states taken.last has.entries taken.entries has.accounts
+      ∙ ap (λ t. (start.bytes ++ texts_of has.entries) ++ t) lines_are
+      ∙ append_assoc start.bytes (texts_of has.entries) (texts_of taken.entries)
+      ∙ ap (λ t. start.bytes ++ t) (sym (texts_of_both has.entries taken.entries));
+  accounts = goes_on start.states states taken.last has.entries taken.entries has.accounts
       (subst (λ (r : RecordedState). AccountsFor r taken.entries taken.last) next noted);
 }
 

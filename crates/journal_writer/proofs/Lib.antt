@@ -1,1 +1,2 @@
 pub mod AccountLemmas
+pub mod SurvivalLemmas

@@ -6,9 +6,10 @@ mod laws;
 mod noted_steps;
 mod numbered_entry;
 mod receipt;
+mod synced_file;
 mod written_steps;
 
-pub use laws::entries_are_restored;
+pub use laws::{answered_survives, entries_are_restored};
 pub use noted_steps::NotedSteps;
 pub use numbered_entry::NumberedEntry;
 pub use receipt::Receipt;

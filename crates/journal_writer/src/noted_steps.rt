@@ -65,7 +65,8 @@ impl<N: ChronicleName> NotedSteps<N> {
     }
 
     /// Notes a step, where it is the next one: before it was recorded what was recorded with the
-    /// last one. False where it isn't, or there is no room: then nothing is noted.
+    /// last one, and it recorded one state more. False where it isn't, or there is no room: then
+    /// nothing is noted.
     pub fn note(&mut self, step: MadeStep<N>) -> bool
         requires { IsOfMadeStep step.entry step.number (IsAt step.before) (IsAt step.after) }
         ensures noted { result ≡ true → self.new ≡ record {
@@ -82,7 +83,7 @@ impl<N: ChronicleName> NotedSteps<N> {
             before,
             after,
         } = step;
-        if !after.is_kept() || !self.last.is_same(&before) {
+        if !self.last.is_same(&before) || !after.is_next_of(&before) {
             return false;
         }
         match self.entries.push(NumberedEntry { entry, number }) {

@@ -1,8 +1,9 @@
 //! What shows that lines are on the disk.
 
-ghost use Rattle.std.specs.Prelude.{◌≡◌, true, IfSome};
-ghost use Rattle.journal_writer.specs.Account.{Covers};
+ghost use Rattle.std.specs.Prelude.{◌≡◌, true, Some, IfSome};
+ghost use Rattle.journal_writer.specs.Account.{Covers, HasSync, IsAmong, receipt_of};
 
+use crate::synced_file::{KnownSyncs, Syncs};
 use chronicle::ChronicleName;
 use std::marker::Model;
 use version_store::RecordedStates;
@@ -12,22 +13,30 @@ use version_store::RecordedStates;
 #[derive(Drop)]
 pub struct Receipt<N: ChronicleName> {
     recorded: RecordedStates<N>,
+    syncs: Option<KnownSyncs<N>>,
 }
 
 impl<N: ChronicleName> Model for Receipt<N> {
-    ghost use Rattle.std.specs.Prelude.{List};
-    ghost use Rattle.site_core.specs.State.{MachineState};
+    ghost use Rattle.std.specs.Prelude.{option_map};
+    ghost use Rattle.journal_writer.specs.Account.{IsGiven, ReceiptState, receipt_of};
 
-    ghost Value = { List MachineState };
+    ghost Value = { ReceiptState };
 
-    ghost view = { λ r. r.recorded.states };
+    ghost view = { λ r. receipt_of r.recorded (option_map (λ f. f.entries) r.syncs) };
+
+    ghost invariant = { λ r. IsGiven r.recorded (option_map (λ f. f.entries) r.syncs) };
 }
 
 impl<N: ChronicleName> Receipt<N> {
-    pub(crate) fn new(recorded: RecordedStates<N>) -> Receipt<N>
-        ensures { result ≡ recorded.states }
+    /// That of a file whose last sync was with these states.
+    pub(crate) fn new(recorded: RecordedStates<N>, syncs: KnownSyncs<N>) -> Receipt<N>
+        requires { HasSync syncs.entries recorded }
+        ensures { result ≡ receipt_of recorded (Some syncs.entries) }
     {
-        Receipt { recorded }
+        Receipt {
+            recorded,
+            syncs: Some(syncs),
+        }
     }
 
     /// That of a book whose states aren't recorded. `None` where they are.
@@ -39,6 +48,7 @@ impl<N: ChronicleName> Receipt<N> {
         }
         Some(Receipt {
             recorded: recorded.copy(),
+            syncs: None,
         })
     }
 
@@ -48,6 +58,10 @@ impl<N: ChronicleName> Receipt<N> {
     {
         Receipt {
             recorded: self.recorded.copy(),
+            syncs: match &self.syncs {
+                Some(syncs) => Some(syncs.copy()),
+                None => None,
+            },
         }
     }
 
@@ -56,5 +70,14 @@ impl<N: ChronicleName> Receipt<N> {
         ensures { result ≡ true → Covers self.now recorded.now }
     {
         self.recorded.is_at_least(recorded)
+    }
+
+    /// Shows that a file has on its disk what this receipt was given for, if it was given for one.
+    pub(crate) fn compare(&self, syncs: &Syncs<N>)
+        ensures { self.now.synced.states.is_kept ≡ true → IsAmong self.now syncs.now.entries }
+    {
+        if let Some(known) = &self.syncs {
+            syncs.compare(known);
+        }
     }
 }

@@ -1,5 +1,5 @@
 -- The state that a step led to is recorded, or needn't be. As many states are the same.
-use Rattle.std.proofs.Common.{◌≡◌, ℕ, ◌<◌, ◌≤◌, true, false, List, [], ◌∷◌, ◌++◌, length, refl, sym, ap, ◌∙◌, subst, ⊎_elim, arith, Option, Some, is_some, option_map}
+use Rattle.std.proofs.Common.{◌≡◌, ℕ, ◌+◌, ◌<◌, ◌≤◌, true, false, List, [], ◌∷◌, ◌++◌, length, refl, sym, ap, ◌∙◌, subst, ⊎_elim, arith, Option, Some, is_some, option_map}
 use mathlib.Core.List.{IsPrefix}
 use Rattle.site_core.specs.declared.step.Step.{Step}
 use Rattle.site_core.specs.declared.reply.Reply.{Reply}
@@ -88,6 +88,24 @@ longer_count xs ys one other counts others longer le few =
     let here = counts.exact few in
     let there = others.exact (omega (arith, le, few)) in
     longer (omega (arith, here, there, le))
+
+one_behind : {A : Type 0} (xs ys : List A) → IsPrefix xs ys → length ys ≡ length xs + 1
+    → (y : A) × (ys ≡ xs ++ y ∷ [])
+one_behind [] [] begins one = absurd (omega (arith, one))
+one_behind [] (y ∷ []) begins one = (y, refl)
+one_behind [] (y ∷ z ∷ ys) begins one = absurd (omega (arith, one))
+one_behind (x ∷ xs) [] begins one = absurd (cc begins.1)
+one_behind (x ∷ xs) (y ∷ ys) begins one =
+    let rest = one_behind xs ys (begins.0, cc begins.1) (omega (arith, one)) in
+    (rest.0, cc (begins.1, rest.1))
+
+pub next_count : (xs ys : List MachineState) (one other : ℕ) → IsCountOf xs one
+    → IsCountOf ys other → (length ys ≤ length xs → IsPrefix ys xs) → other + 1 ≡ one
+    → one < last_count → (state : MachineState) × (xs ≡ ys ++ state ∷ [])
+next_count xs ys one other counts others longer next few =
+    let here = counts.exact few in
+    let there = others.exact (omega (arith, next, few)) in
+    one_behind ys xs (longer (omega (arith, here, there, next))) (omega (arith, here, there, next))
 
 -- where states are recorded, as the code has them
 pub kept_states : {A : Type 0} (entries : A → List MachineState) (found : Option A) (front : A)

@@ -49,6 +49,11 @@ HasState states state =
 abbrev pub IsAt : RecordedState → MachineState → Type 0
 IsAt recorded state = recorded.is_kept ≡ true → EndsAt recorded.states state
 
+-- the states of the one, and one more
+abbrev pub IsNextOf : RecordedState → RecordedState → Type 0
+IsNextOf recorded later =
+    (state : MachineState) × (later.states ≡ recorded.states ++ state ∷ [])
+
 -- before any change
 abbrev pub opening_states : SiteState → List MachineState
 opening_states site = forget (opening site) ∷ []

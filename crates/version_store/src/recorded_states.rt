@@ -3,7 +3,7 @@
 ghost use Rattle.std.specs.Prelude.{◌≡◌, ◌∷◌, ◌++◌, [], true, false, IsTrue, is_some};
 ghost use mathlib.Core.List.{IsPrefix};
 ghost use Rattle.site_core.specs.State.{opening};
-ghost use Rattle.version_store.specs.Recording.{IsAt, forget, opening_states};
+ghost use Rattle.version_store.specs.Recording.{IsAt, IsNextOf, forget, opening_states};
 
 use chronicle::{Chronicle, ChronicleName, EntryFrom, Front, Unnamed};
 use site_core::Machine;
@@ -160,6 +160,18 @@ impl<N: ChronicleName> RecordedStates<N> {
         };
         states.compare(others);
         other.count <= self.count && self.count < u64::MAX
+    }
+
+    /// Whether states are recorded, and these are the other ones and one more.
+    pub fn is_next_of(&self, other: &RecordedStates<N>) -> bool
+        ensures next { result ≡ true → IsNextOf other.now self.now }
+        ensures kept { result ≡ true → self.now.is_kept ≡ true }
+    {
+        let (Some(states), Some(others)) = (&self.states, &other.states) else {
+            return false;
+        };
+        states.compare(others);
+        other.count < self.count && self.count - other.count == 1 && self.count < u64::MAX
     }
 
     /// Whether states are recorded, and these are the other ones: as many, as far as a number counts.

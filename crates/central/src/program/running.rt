@@ -108,7 +108,7 @@ pub fn run_file<
         return Err(ProgramFault::OutOfMemory);
     };
     let blanks = (Blank::new(passes), Blank::new(passes));
-    run_counted::<Brand, Brand, Brand, R>(rt, plan, blanks, Unnamed::new())
+    run_counted::<Brand, Brand, Brand, R>(rt, plan, blanks, (Unnamed::new(), Unnamed::new()))
 }
 
 /// The keys of a file, if one is given.
@@ -158,8 +158,8 @@ fn listen<R: Eprint + Net<Listener = TcpListener, Stream = TcpStream>>(
     }
 }
 
-/// Runs a site, whose changes and answers these two ledgers count, and whose states are recorded in
-/// this chronicle.
+/// Runs a site, whose changes and answers these two ledgers count, and whose states and syncs are
+/// recorded in these two chronicles.
 fn run_counted<
     C: Ledger + Send + Sync + Drop + 'static,
     A: Ledger + Send + Sync + Drop + 'static,
@@ -178,13 +178,18 @@ fn run_counted<
         + Sync
         + Drop
         + 'static,
->(rt: &R, plan: Plan<'_>, blanks: (Blank, Blank), states: Unnamed) -> Result<(), ProgramFault>
+>(
+    rt: &R,
+    plan: Plan<'_>,
+    blanks: (Blank, Blank),
+    chronicles: (Unnamed, Unnamed),
+) -> Result<(), ProgramFault>
     requires workers { 1 ≤ plan.workers }
     requires changes { (blanks.0.name ≡ C.name) × (blanks.0.parts ≡ C.parts)
         × (blanks.0.parts ≡ plan.seats + 1) }
     requires answers { (blanks.1.name ≡ A.name) × (blanks.1.parts ≡ A.parts)
         × (blanks.1.parts ≡ plan.seats + 1) }
-    requires states { states.name ≡ N.name }
+    requires chronicles { (chronicles.0.name ≡ N.name) × (chronicles.1.name ≡ N.companion) }
 {
     let Plan {
         site,
@@ -199,6 +204,7 @@ fn run_counted<
         status,
         status_address,
     } = plan;
+    let (states, syncs) = chronicles;
     let book: SeatedBook<C, A, N> = SeatedBook::make_with(rt.alloc(), blanks, site, seats, states)?;
     let SeatedBook {
         shared,
@@ -213,7 +219,7 @@ fn run_counted<
             return Err(ProgramFault::Serve(fault));
         }
     }
-    let (journal, resumed) = restore_shared(rt, opened, &digest, &shared, restoring)?;
+    let (journal, resumed) = restore_shared(rt, opened, &digest, &shared, restoring, syncs)?;
     print_resumed(rt, resumed)?;
     let context = context_of(rt, shared, journal, options)?;
     begin_lines(rt, &context)?;

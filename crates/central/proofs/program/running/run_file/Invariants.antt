@@ -1,4 +1,4 @@
--- The ledgers are those of the two blanks, and the chronicle is the one that has no name yet.
+-- The ledgers are those of the two blanks, and the chronicles are those that have no name yet.
 use Rattle.central.proofs.program.running.run_file.Given as goal
 
 abbrev pub ghosts-run_counted-C-Ledger : goal.ghosts-run_counted-C-Ledger
@@ -8,4 +8,4 @@ abbrev pub ghosts-run_counted-A-Ledger : goal.ghosts-run_counted-A-Ledger
 ghosts-run_counted-A-Ledger g a = record { name = a.blanks.1.name; parts = a.blanks.1.parts }
 
 abbrev pub ghosts-run_counted-N-ChronicleName : goal.ghosts-run_counted-N-ChronicleName
-ghosts-run_counted-N-ChronicleName g a = record { name = a.states.name }
+ghosts-run_counted-N-ChronicleName g a = record { name = a.chronicles.0.name; companion = a.chronicles.1.name }
