@@ -80,13 +80,13 @@ left_begins receipt contents left goes part rest entries_are stands may =
     let others = texts_of rest in (
       others ++ (stands.0 ++ may.behind),
       may.is
-      ∙ ap (λ t. t ++ may.behind) stands.1
-      ∙ ap (λ t. (t ++ stands.0) ++ may.behind) goes.bytes_are
-      ∙ ap (λ (es : List NumberedEntry). ((start ++ texts_of es) ++ stands.0) ++ may.behind) entries_are
-      ∙ ap (λ t. ((start ++ t) ++ stands.0) ++ may.behind) (texts_of_both part rest)
-      ∙ ap (λ t. (t ++ stands.0) ++ may.behind) (sym (append_assoc start texts others))
-      ∙ append_assoc ((start ++ texts) ++ others) stands.0 may.behind
-      ∙ append_assoc (start ++ texts) others (stands.0 ++ may.behind),
+          ∙ ap (λ t. t ++ may.behind) stands.1
+          ∙ ap (λ t. (t ++ stands.0) ++ may.behind) goes.bytes_are
+          ∙ ap (λ (es : List NumberedEntry). ((start ++ texts_of es) ++ stands.0) ++ may.behind) entries_are
+          ∙ ap (λ t. ((start ++ t) ++ stands.0) ++ may.behind) (texts_of_both part rest)
+          ∙ ap (λ t. (t ++ stands.0) ++ may.behind) (sym (append_assoc start texts others))
+          ∙ append_assoc ((start ++ texts) ++ others) stands.0 may.behind
+          ∙ append_assoc (start ++ texts) others (stands.0 ++ may.behind),
     )
 
 pub survives : NotedRunsAreRestored → AnsweredSurvives
@@ -98,15 +98,15 @@ survives law receipt contents left old state goes stands may was has =
       leads = inl before;
     })
     (λ reaches.
-      let first = receipt.start.states in
-      let are = led law first reaches.last reaches.part old state reaches.accounts was reaches.is in
-      let begins = left_begins receipt contents left goes reaches.part reaches.rest
-      reaches.entries_are stands may in record {
-        lines = are.lines;
-        left_are = (
-          begins.0,
-          begins.1 ∙ ap (λ t. (receipt.start.bytes ++ t) ++ begins.0) are.texts_are,
-        );
-        leads = inr are.leads;
-      })
+    let first = receipt.start.states in
+    let are = led law first reaches.last reaches.part old state reaches.accounts was reaches.is in
+    let begins = left_begins receipt contents left goes reaches.part reaches.rest
+    reaches.entries_are stands may in record {
+      lines = are.lines;
+      left_are = (
+        begins.0,
+        begins.1 ∙ ap (λ t. (receipt.start.bytes ++ t) ++ begins.0) are.texts_are,
+      );
+      leads = inr are.leads;
+    })
     (reached receipt.start.states receipt.synced.states goes.entries state goes.accounts has)

@@ -137,5 +137,5 @@ stands_since written files receipt is among =
       first,
       all_at (StandsSince written.start written.contents.synced) among.before receipt.synced
           among.behind (subst (λ (fs : List FileState). AllByRecursion
-              (StandsSince written.start written.contents.synced) fs) (sym rest) is.stand),
+          (StandsSince written.start written.contents.synced) fs) (sym rest) is.stand),
     )

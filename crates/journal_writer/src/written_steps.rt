@@ -117,7 +117,8 @@ impl<F: AppendedFile + Drop, N: ChronicleName> WrittenSteps<F, N> {
         }) }
     {
         self.accounted.log.write_and_sync()?;
-        self.syncs.add_from::<AccountedLog<F, N>, InFile>(&self.accounted);
+        self.syncs
+            .add_from::<AccountedLog<F, N>, InFile>(&self.accounted);
         Ok(Receipt::new(self.accounted.states.copy(), self.syncs.front()))
     }
 

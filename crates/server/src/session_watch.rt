@@ -22,15 +22,14 @@ pub(crate) struct SessionWatch<'a, C: Ledger, A: Ledger, R, M, J, N: ChronicleNa
     pub(crate) link: Option<u64>,
 }
 
-impl<C: Ledger, A: Ledger, R: Wait + Clock, M: Moments, J: Journal<N>, N: ChronicleName> SessionWatch<
-    '_,
-    C,
-    A,
-    R,
-    M,
-    J,
-    N,
-> {
+impl<
+    C: Ledger,
+    A: Ledger,
+    R: Wait + Clock,
+    M: Moments,
+    J: Journal<N>,
+    N: ChronicleName,
+> SessionWatch<'_, C, A, R, M, J, N> {
     /// It has begun.
     pub(crate) fn begin(&self, core: &SessionCore) {
         let seats = self.seats;

@@ -1,12 +1,12 @@
 -- Of one state more these are the others and that.
-use Rattle.std.proofs.Common.{sym, subst, arith}
+use Rattle.std.proofs.Common.{true, sym, subst, arith}
 use Rattle.std.proofs.lemmas.Bool.Decides.{nat_tests}
 use Rattle.version_store.specs.Recording.{IsNextOf, RecordedState}
 use Rattle.version_store.proofs.RecorderLemmas.{kept_states, next_count}
 use Rattle.version_store.proofs.recorded_states.RecordedStates.is_next_of.Goals as goal
 
-pub returns-then-other-self-clause-next : goal.returns-then-other-self-clause-next
-returns-then-other-self-clause-next g c = λ next.
+pub returns-then-self-other-eq1-clause-next : goal.returns-then-self-other-eq1-clause-next
+returns-then-self-other-eq1-clause-next g c = λ next.
     let here = c.in-Some-Some.states.entries in
     let there = c.in-Some-Some.others.entries in
     let self = kept_states (λ f. f.entries) c.self.inside.states c.in-Some-Some.states
