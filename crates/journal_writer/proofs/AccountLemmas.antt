@@ -1,5 +1,5 @@
 -- What entries lead to, one after another.
-use Rattle.std.proofs.Common.{◌≡◌, ℕ, List, [], ◌∷◌, ◌++◌, Result, Ok, Err, refl, sym, ap, ◌∙◌, subst, append_assoc}
+use Rattle.std.proofs.Common.{◌≡◌, ℕ, true, List, [], ◌∷◌, ◌++◌, Result, Ok, Err, refl, sym, ap, ◌∙◌, subst, append_assoc}
 use Rattle.std.specs.Prelude.{flat_map}
 use Rattle.append_log.specs.Contents.{Contents, file_of, with_added}
 use Rattle.std.proofs.lemmas.Grind.{flat_map-append}
@@ -11,7 +11,7 @@ use Rattle.site_journal.specs.Line.{LineState, line_text}
 use Rattle.site_journal.specs.MadeStep.{IsOfMadeStep}
 use Rattle.site_journal.specs.NotedRun.{begins, notes, NotedRunsAreRestored}
 use Rattle.site_journal.specs.Restore.{restored, restored_lines}
-use Rattle.version_store.specs.Recording.{EndsAt, HasState, IsAt, IsNextOf, RecordedState, forget}
+use Rattle.version_store.specs.Recording.{EndsAt, IsAt, IsNextOf, RecordedState, forget}
 use Rattle.journal_writer.specs.declared.numbered_entry.NumberedEntry.{NumberedEntry}
 use Rattle.journal_writer.specs.Account.{AccountsFor, nothing, more, EntriesAreRestored, FileState, GoesOn, IsNoted, NotedState, texts_of}
 

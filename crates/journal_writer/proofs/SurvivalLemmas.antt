@@ -1,13 +1,11 @@
 -- What a crash leaves of a file leads to each state that a receipt shows.
-use Rattle.std.proofs.Common.{◌≡◌, ◌⊎◌, inl, inr, ⊎_elim, ℕ, List, [], ◌∷◌, ◌++◌, Ok, refl, sym, ap, ◌∙◌, append_assoc}
-use Rattle.std.specs.Prelude.{flat_map}
+use Rattle.std.proofs.Common.{◌≡◌, ◌⊎◌, inl, inr, ⊎_elim, ℕ, List, [], ◌∷◌, ◌++◌, refl, sym, ap, ◌∙◌, append_assoc}
 use Rattle.append_log.specs.Contents.{Contents, IsFirstPart, MayLeave}
 use Rattle.site_core.specs.State.{MachineState}
-use Rattle.site_journal.specs.Line.{LineState, line_text}
 use Rattle.site_journal.specs.NotedRun.{NotedRunsAreRestored}
-use Rattle.version_store.specs.Recording.{EndsAt, HasState, IsNextOf, RecordedState, forget}
+use Rattle.version_store.specs.Recording.{EndsAt, HasState, RecordedState, forget}
 use Rattle.journal_writer.specs.declared.numbered_entry.NumberedEntry.{NumberedEntry}
-use Rattle.journal_writer.specs.Account.{AccountsFor, nothing, more, AreRestored, AnsweredSurvives, FileState, GoesOn, ReceiptState, Survives, texts_of}
+use Rattle.journal_writer.specs.Account.{AccountsFor, nothing, more, AnsweredSurvives, GoesOn, ReceiptState, texts_of}
 use Rattle.journal_writer.proofs.AccountLemmas.{append_nil, led, texts_of_both}
 
 -- one of a list with one more is that, or was in the list

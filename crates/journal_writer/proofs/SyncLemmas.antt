@@ -1,15 +1,13 @@
 -- What a file had at its syncs is still there.
-use Rattle.std.proofs.Common.{◌≡◌, ◌×◌, ℕ, List, [], ◌∷◌, ◌++◌, Result, Ok, Err, refl, sym, ap, ◌∙◌, subst, append_assoc}
-use Rattle.std.specs.Prelude.{true, Option, Some, None}
+use Rattle.std.proofs.Common.{◌≡◌, ℕ, List, [], ◌∷◌, ◌++◌, refl, sym, ap, ◌∙◌, subst, append_assoc}
+use Rattle.std.specs.Prelude.{Option, Some, None}
 use Rattle.std.specs.List.{AllByRecursion}
 use mathlib.Core.List.{IsPrefix}
-use Rattle.append_log.specs.Contents.{Contents, IsFirstPart, file_of, only_synced}
-use Rattle.append_log.specs.Log.{after_trial}
-use Rattle.append_log.specs.declared.log_fault.LogFault.{LogFault}
-use Rattle.append_log.specs.declared.log_fault.LogFault.TheVariants.{Full, Failed, FailedBefore}
-use Rattle.version_store.specs.Recording.{RecordedState}
-use Rattle.journal_writer.specs.Account.{FileState, GoesOn, HasSync, IsAmong, IsGiven, IsWritten, NotedState, ReceiptState, StandsSince, WrittenState, first_of, last_of, nothing_at, receipt_of, written_of}
-use Rattle.journal_writer.proofs.AccountLemmas.{append_nil}
+use Rattle.append_log.specs.Contents.{Contents, IsFirstPart, file_of, only_synced, with_added}
+use Rattle.site_core.specs.State.{MachineState}
+use Rattle.version_store.specs.Recording.{RecordedState, forget}
+use Rattle.journal_writer.specs.Account.{Covers, FileState, GoesOn, HasSync, IsAmong, IsGiven, IsNoted, IsWritten, NotedState, ReceiptState, StandsSince, WrittenState, first_of, last_of, nothing_at, receipt_of, texts_of, written_of}
+use Rattle.journal_writer.proofs.AccountLemmas.{append_nil, from_itself, lines_added}
 
 -- ---- more bytes
 
@@ -39,22 +37,8 @@ all_at P (y ∷ before) x behind all = all_at P before x behind all.1
 
 -- ---- a sync
 
--- nothing is synced by a call that fails
-pub unsynced : {T : Type 0} (written : WrittenState) (files : List FileState) (fault : LogFault)
-    → IsWritten written files
-    → IsWritten (record written { contents = after_trial {T} written.contents (Err fault) }) files
-unsynced written files (Full error) is = is
-unsynced written files (Failed error) is = record {
-  lines = is.lines;
-  next = is.next;
-  syncs = is.syncs;
-  files_are = is.files_are;
-  stand = is.stand;
-}
-unsynced written files FailedBefore is = is
-
 -- what the file has on its disk after a sync
-synced_now : (written : WrittenState) → FileState
+abbrev pub synced_now : (written : WrittenState) → FileState
 synced_now written = record { bytes = file_of written.contents; states = written.states }
 
 pub is_synced : (written : WrittenState) (files : List FileState) → IsWritten written files
@@ -71,18 +55,6 @@ is_synced written files is =
           (stand_on written.start written.contents.synced written.contents.appended is.syncs is.stand)
           (record { goes_on = is.lines; stands = ([], sym (append_nil now)) });
     }
-
--- a receipt may be given then
-pub has_sync : (written : WrittenState) (files : List FileState) → IsWritten written files
-    → HasSync (files ++ synced_now written ∷ []) written.states
-has_sync written files is = record {
-  start = written.start;
-  before = is.syncs;
-  synced = synced_now written;
-  files_are = ap (λ (fs : List FileState). fs ++ synced_now written ∷ []) is.files_are;
-  states_are = refl;
-  goes_on = is.lines;
-}
 
 -- ---- as the code has it
 
@@ -119,7 +91,7 @@ is_among recorded known files sync begins =
       before = sync.before;
       behind = begins.0;
       files_are =
-          begins.1
+          sym begins.1
           ∙ ap (λ (fs : List FileState). fs ++ begins.0) sync.files_are
           ∙ ap (λ (fs : List FileState). sync.start ∷ fs)
           (append_assoc sync.before (sync.synced ∷ []) begins.0);
@@ -139,3 +111,115 @@ stands_since written files receipt is among =
           among.behind (subst (λ (fs : List FileState). AllByRecursion
           (StandsSince written.start written.contents.synced) fs) (sym rest) is.stand),
     )
+
+-- what a receipt shows covers whatever it begins with
+pub covers : (recorded others : RecordedState) (files : Option (List FileState))
+    (receipt : ReceiptState) → receipt_of recorded files ≡ receipt → IsGiven recorded files
+    → IsPrefix others.states recorded.states → Covers receipt others
+covers recorded others files receipt view given begins = λ state kept ends. (
+  ends.0,
+  begins.0,
+  ap (λ (r : ReceiptState). r.synced.states.states) (sym view)
+      ∙ ap (λ (r : RecordedState). r.states) (states_of recorded files given)
+      ∙ sym begins.1
+      ∙ ap (λ (s : List MachineState). s ++ begins.0) ends.1
+      ∙ append_assoc ends.0 (forget state ∷ []) begins.0,
+)
+
+pub known_among : (recorded : RecordedState) (files : Option (List FileState))
+    (receipt : ReceiptState) (known all : List FileState) → receipt_of recorded files ≡ receipt
+    → IsGiven recorded files → files ≡ Some known → IsPrefix known all → IsAmong receipt all
+known_among recorded files receipt known all view given is begins =
+    let seen : receipt ≡ receipt_of recorded (Some known) =
+    sym view ∙ ap (λ (f : Option (List FileState)). receipt_of recorded f) is in
+    subst (λ (r : ReceiptState). IsAmong r all) (sym seen)
+    (is_among recorded known all
+    (subst (λ (f : Option (List FileState)). IsGiven recorded f) is given) begins)
+
+-- ---- a file's calls
+
+-- a file begins with what it has at the start
+pub begun_so : (contents : Contents) (states : RecordedState) (taken : NotedState)
+    (files : List FileState)
+    → files ≡ (record { bytes = file_of contents; states = states }) ∷ [] → taken.first ≡ states
+    → IsWritten (written_of contents states taken files) files
+begun_so contents states taken files are next =
+    let start : FileState = record { bytes = file_of contents; states = states } in
+    subst (λ (fs : List FileState). IsWritten (written_of contents states taken fs) fs) (sym are)
+    (record {
+      lines = from_itself start;
+      next = next;
+      syncs = [];
+      files_are = refl;
+      stand = tt;
+    })
+
+-- lines are added
+pub added_so : (old new : Contents) (states copied : RecordedState) (taken cleared : NotedState)
+    (files : List FileState) (lines : List ℕ) → IsWritten (written_of old states taken files) files
+    → IsNoted taken → lines ≡ texts_of taken.entries → new ≡ with_added old lines
+    → copied ≡ taken.last → cleared.first ≡ taken.last
+    → IsWritten (written_of new copied cleared files) files
+added_so old new states copied taken cleared files lines is noted lines_are added last first =
+    let start = first_of (nothing_at states) files in
+    let same : first_of (nothing_at copied) files ≡ start =
+    ap (λ (fs : List FileState). first_of (nothing_at copied) fs) is.files_are in
+    let synced : new.synced ≡ old.synced = ap (λ (c : Contents). c.synced) added in
+    subst (λ (s : FileState). IsWritten
+    (record { start = s; contents = new; states = copied; taken = cleared }) files) (sym same)
+    (record {
+      lines = subst (λ (r : RecordedState). GoesOn start
+          (record { bytes = file_of new; states = r })) (sym last)
+          (lines_added start old new states taken lines is.lines is.next noted lines_are added);
+      next = first ∙ sym last;
+      syncs = is.syncs;
+      files_are = is.files_are;
+      stand = subst (λ (b : List ℕ). AllByRecursion (StandsSince start b) is.syncs) (sym synced)
+          is.stand;
+    })
+
+-- all is synced
+pub synced_so : (old new : Contents) (states : RecordedState) (taken : NotedState)
+    (files others : List FileState) → IsWritten (written_of old states taken files) files
+    → new ≡ only_synced (file_of old)
+    → others ≡ files ++ (record { bytes = file_of new; states = states }) ∷ []
+    → IsWritten (written_of new states taken others) others
+synced_so old new states taken files others is made added =
+    let written = written_of old states taken files in
+    let now = synced_now written in
+    let bytes : file_of new ≡ file_of old =
+    ap (λ (c : Contents). file_of c) made ∙ append_nil (file_of old) in
+    let others_are : others ≡ files ++ now ∷ [] =
+    added ∙ ap (λ (b : List ℕ). files ++ (record { bytes = b; states = states }) ∷ []) bytes in
+    let start : first_of (nothing_at states) (files ++ now ∷ []) ≡ written.start =
+    ap (λ (fs : List FileState). first_of (nothing_at states) (fs ++ now ∷ [])) is.files_are in
+    subst (λ (fs : List FileState). IsWritten (written_of new states taken fs) fs) (sym others_are)
+    (subst (λ (s : FileState). IsWritten
+    (record { start = s; contents = new; states = states; taken = taken })
+    (files ++ now ∷ [])) (sym start)
+    (subst (λ (c : Contents). IsWritten
+    (record { start = written.start; contents = c; states = states; taken = taken })
+    (files ++ now ∷ [])) (sym made) (is_synced written files is)))
+
+-- and what is given then shows just that
+pub receipt_so : (old new : Contents) (states copied : RecordedState)
+    (files others front : List FileState) (receipt : ReceiptState)
+    → new ≡ only_synced (file_of old)
+    → others ≡ files ++ (record { bytes = file_of new; states = states }) ∷ []
+    → copied ≡ states → front ≡ others → receipt ≡ receipt_of copied (Some front)
+    → receipt ≡ record {
+      start = first_of (nothing_at states) others;
+      synced = record { bytes = new.synced; states = states };
+    }
+receipt_so old new states copied files others front receipt made added same known given =
+    let file : FileState = record { bytes = file_of new; states = states } in
+    let bytes : file_of new ≡ new.synced =
+    ap (λ (c : Contents). file_of c) made ∙ append_nil (file_of old)
+    ∙ sym (ap (λ (c : Contents). c.synced) made) in
+    given
+    ∙ ap (λ (r : RecordedState). receipt_of r (Some front)) same
+    ∙ ap (λ (fs : List FileState). receipt_of states (Some fs)) known
+    ∙ ap (λ (f : FileState). record { start = first_of (nothing_at states) others; synced = f })
+    (ap (λ (fs : List FileState). last_of (nothing_at states) fs) added
+    ∙ last_is (nothing_at states) file files
+    ∙ ap (λ (b : List ℕ). record { bytes = b; states = states }) bytes)

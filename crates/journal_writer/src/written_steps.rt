@@ -1,6 +1,6 @@
 //! The file of a journal, and the steps that are written to it.
 
-ghost use Rattle.std.specs.Prelude.{◌≡◌, ◌×◌, [], true, false, IfOk, OnOk};
+ghost use Rattle.std.specs.Prelude.{◌≡◌, [], true, false, IfOk, OnOk};
 ghost use Rattle.append_log.specs.Contents.{IsFirstPart, file_of};
 ghost use Rattle.append_log.specs.Log.{after_trial, contents};
 ghost use Rattle.journal_writer.specs.Account.{GoesOn};
