@@ -8,7 +8,7 @@ use Rattle.site_core.specs.Step.{is_event}
 use Rattle.site_core.specs.StoredHistory.{StoredEvent}
 use Rattle.version_store.specs.Store.{StoreState}
 use Rattle.version_store.specs.Calls.{Adds, Makes, RepliesAlone, event_alone}
-use Rattle.version_store.specs.Recording.{IsAt, IsCountOf, RecordedState, RequestLeads, is_of_request, last_count, or_none}
+use Rattle.version_store.specs.Recording.{IsAt, IsCountOf, RecordedState, RequestLeads, forget, is_of_request, last_count, or_none}
 use Rattle.version_store.specs.Theory.Forgetting.{request_forgotten}
 
 -- ---- requests
