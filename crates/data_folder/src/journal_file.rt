@@ -13,8 +13,8 @@ use append_log::{LogFault, SystemFile};
 use chronicle::{ChronicleName, Unnamed};
 use journal_writer::{NotedSteps, Receipt, WrittenSteps};
 use ocpp_scalars::{Instant as Moment, Moments, write_instant};
-use session::{Entry, Journal, JournalFault, MadeStep, Noted};
-use site_journal::Line;
+use session::{Entry, Journal, JournalFault, Noted};
+use site_journal::{Line, MadeStep};
 use site_status::{JournalReport, JournalState};
 use std::alloc::{AllocError, AllocGlobal, Global};
 use std::fmt::Display;
@@ -401,9 +401,21 @@ impl<R: Wait + Clock + Eprint + AllocGlobal + Drop, N: ChronicleName> Journal<N>
         Ok(Some(entry))
     }
 
-    fn note(&self, step: MadeStep<N>)
-        requires { IsOfMadeStep step.entry step.number (IsAt step.before) (IsAt step.after) }
+    fn note(
+        &self,
+        entry: Entry,
+        number: u64,
+        before: &RecordedStates<N>,
+        after: &RecordedStates<N>,
+    )
+        requires { IsOfMadeStep entry number (IsAt before.now) (IsAt after.now) }
     {
+        let step = MadeStep {
+            entry,
+            number,
+            before: before.copy(),
+            after: after.copy(),
+        };
         let mut noted = self.noted.lock(&self.rt);
         self.is_kept.store(false, Ordering::SeqCst);
         if !noted.steps.note(step) {

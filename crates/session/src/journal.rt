@@ -11,7 +11,7 @@ ghost use Rattle.version_store.specs.Recording.{IsAt};
 use chronicle::ChronicleName;
 use journal_writer::Receipt;
 use ocpp_scalars::Instant;
-use site_journal::{Entry, MadeStep, Noted};
+use site_journal::{Entry, Noted};
 use std::alloc::AllocError;
 use version_store::RecordedStates;
 
@@ -30,10 +30,11 @@ pub trait Journal<N: ChronicleName> {
         ensures { IfOk result (λ entry. IfSome entry
             (λ e. IsEntryOf e (line_at moment point.now (noted_state noted.entry)))) };
 
-    /// Notes a step. Whoever notes it has had the book since before the step, so this waits for
-    /// nothing that takes long.
-    fn note(&self, step: MadeStep<N>)
-        requires { IsOfMadeStep step.entry step.number (IsAt step.before) (IsAt step.after) };
+    /// Notes a step by its entry and the number that it drew, between what was recorded of the book
+    /// before it and with it. Whoever notes it has had the book since before the step, so this waits
+    /// for nothing that takes long.
+    fn note(&self, entry: Entry, number: u64, before: &RecordedStates<N>, after: &RecordedStates<N>)
+        requires { IsOfMadeStep entry number (IsAt before.now) (IsAt after.now) };
 
     /// Waits until all is kept that led to what was recorded by some moment, whoever noted it. The
     /// session doesn't have the book. On an error no message may leave that depends on any of it.
@@ -73,8 +74,14 @@ impl<N: ChronicleName> Journal<N> for NoJournal {
         Ok(None)
     }
 
-    fn note(&self, _step: MadeStep<N>)
-        requires { IsOfMadeStep _step.entry _step.number (IsAt _step.before) (IsAt _step.after) }
+    fn note(
+        &self,
+        _entry: Entry,
+        _number: u64,
+        _before: &RecordedStates<N>,
+        _after: &RecordedStates<N>,
+    )
+        requires { IsOfMadeStep _entry _number (IsAt _before.now) (IsAt _after.now) }
     {}
 
     fn receipt(&self, recorded: &RecordedStates<N>) -> Result<Receipt<N>, JournalFault> {

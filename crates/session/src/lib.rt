@@ -20,7 +20,7 @@ pub use serving::{
     serve_session, serve_socket,
 };
 pub use session_core::{Peer, SessionCore};
-pub use site_journal::{Entry, MadeStep, Noted};
+pub use site_journal::{Entry, Noted};
 pub use step::perform;
 pub use texts::{Asked, SentText, Unread, asked_of, hold_of, number_of, response_of};
 pub use todo::{Owed, Todo};

@@ -17,8 +17,7 @@ use journal_writer::Receipt;
 use ocpp_scalars::{Instant, Moments};
 use profile::Unit;
 use session::{
-    Ended, Entry, Journal, JournalFault, MadeStep, Noted, SessionCore, serve_noted_socket,
-    serve_socket,
+    Ended, Entry, Journal, JournalFault, Noted, SessionCore, serve_noted_socket, serve_socket,
 };
 use site_journal::Line;
 use site_rules::read_site;
@@ -697,11 +696,16 @@ impl<R: Abort + Wait, N: ChronicleName> Journal<N> for Lines<'_, R> {
         Ok(Some(Entry::new(self.alloc, &line)?))
     }
 
-    fn note(&self, step: MadeStep<N>)
-        requires { IsOfMadeStep step.entry step.number (IsAt step.before) (IsAt step.after) }
+    fn note(
+        &self,
+        entry: Entry,
+        number: u64,
+        _before: &RecordedStates<N>,
+        _after: &RecordedStates<N>,
+    )
+        requires { IsOfMadeStep entry number (IsAt _before.now) (IsAt _after.now) }
     {
         let mut noted = self.noted.lock(self.rt);
-        let MadeStep { entry, number, .. } = step;
         entry.push(&mut noted, number).expect(self.rt, "error");
     }
 

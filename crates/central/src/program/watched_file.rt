@@ -8,7 +8,7 @@ use data_folder::JournalFile;
 use journal_writer::Receipt;
 use ocpp_scalars::Instant;
 use server::WatchedJournal;
-use session::{Entry, Journal, JournalFault, MadeStep, Noted};
+use session::{Entry, Journal, JournalFault, Noted};
 use site_status::JournalReport;
 use std::alloc::AllocGlobal;
 use std::rt::Clock;
@@ -32,10 +32,16 @@ impl<R: Wait + Clock + Eprint + AllocGlobal + Drop, N: ChronicleName> Journal<N>
         self.file.prepare(moment, point, noted)
     }
 
-    fn note(&self, step: MadeStep<N>)
-        requires { IsOfMadeStep step.entry step.number (IsAt step.before) (IsAt step.after) }
+    fn note(
+        &self,
+        entry: Entry,
+        number: u64,
+        before: &RecordedStates<N>,
+        after: &RecordedStates<N>,
+    )
+        requires { IsOfMadeStep entry number (IsAt before.now) (IsAt after.now) }
     {
-        self.file.note(step)
+        self.file.note(entry, number, before, after)
     }
 
     fn receipt(&self, recorded: &RecordedStates<N>) -> Result<Receipt<N>, JournalFault> {

@@ -14,7 +14,7 @@ use crate::outcome::{Outcome, Performed};
 use chronicle::ChronicleName;
 use ocpp_scalars::{Instant, Moments};
 use site_core::{Reply, Step};
-use site_journal::{Entry, MadeStep, Noted, noted_by, noted_steps_are_restored, number_drawn};
+use site_journal::{Entry, Noted, noted_by, noted_steps_are_restored, number_drawn};
 use std::sync::Wait;
 use std::sync::ledger::Ledger;
 use texts::SentText;
@@ -103,12 +103,7 @@ pub(crate) fn note_made<C: Ledger, A: Ledger, J: Journal<N>, N: ChronicleName>(
 )
     requires { IsOfMadeStep entry number (IsAt before) (IsPresent book.now) }
 {
-    journal.note(MadeStep {
-        entry,
-        number,
-        before,
-        after: book.recorded(),
-    });
+    journal.note(entry, number, &before, &book.recorded());
 }
 
 /// The reply of a step that was made.
