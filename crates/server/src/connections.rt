@@ -48,7 +48,7 @@ pub(crate) fn serve_connections<
     R: Threads + Wait + Sync,
     M: Moments + Sync,
     J: Journal<N> + Sync,
-    N: ChronicleName,
+    N: ChronicleName + Send + Sync,
 >(
     context: &Context<'_, C, A, R, M, J, N>,
     listener: TcpListener,
@@ -87,7 +87,7 @@ fn begin_all<
     R: Wait + Sync,
     M: Moments + Sync,
     J: Journal<N> + Sync,
-    N: ChronicleName,
+    N: ChronicleName + Send + Sync,
 >(
     scope: &Scope<'s, E>,
     context: &'s Context<'_, C, A, R, M, J, N>,
@@ -119,7 +119,7 @@ fn begin<
     R: Wait + Sync,
     M: Moments + Sync,
     J: Journal<N> + Sync,
-    N: ChronicleName,
+    N: ChronicleName + Send + Sync,
 >(
     scope: &Scope<'s, E>,
     context: &'s Context<'_, C, A, R, M, J, N>,
