@@ -345,10 +345,11 @@ impl<N: ChronicleName> NotedEntries<N> {
     fn receipt_for(&self, recorded: &RecordedStates<N>) -> Option<Receipt<N>>
         ensures { IfSome result (λ receipt. Covers receipt recorded.now) }
     {
-        match &self.receipt {
-            Some(receipt) if receipt.covers(recorded) => Some(receipt.copy()),
-            _ => None,
+        let receipt = self.receipt.as_ref()?;
+        if receipt.covers(recorded) {
+            return Some(receipt.copy());
         }
+        None
     }
 
     /// The file was written and synced, which took this time. So many of its bytes are on the disk.
@@ -401,13 +402,7 @@ impl<R: Wait + Clock + Eprint + AllocGlobal + Drop, N: ChronicleName> Journal<N>
         Ok(Some(entry))
     }
 
-    fn note(
-        &self,
-        entry: Entry,
-        number: u64,
-        before: &RecordedStates<N>,
-        after: &RecordedStates<N>,
-    )
+    fn note(&self, entry: Entry, number: u64, before: &RecordedStates<N>, after: &RecordedStates<N>)
         requires { IsOfMadeStep entry number (IsAt before.now) (IsAt after.now) }
     {
         let step = MadeStep {

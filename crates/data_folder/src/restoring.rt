@@ -1,5 +1,7 @@
 //! The book of a site that is run, from the journal of its folder.
 
+ghost use Rattle.std.specs.Prelude.{◌≡◌};
+
 use crate::folder_fault::FolderFault;
 use crate::journal_file::JournalFile;
 use crate::journal_lines::{JournalLines, Lines};
