@@ -8,4 +8,4 @@ mod name;
 
 pub use chronicle::{Chronicle, EntryFrom, Itself, Unnamed};
 pub use front::Front;
-pub use name::ChronicleName;
+pub use name::{ChronicleName, Companion};

@@ -1,14 +1,30 @@
 //! Which chronicle a value is of.
 
-use std::marker::Brand;
+use std::marker::{Brand, PhantomData};
 
-/// A name of a chronicle. `Brand` stands for the one that its caller's proof picks.
+/// A name of a chronicle, and that of a second one that goes with it. `Brand` stands for those that
+/// its caller's proof picks.
 pub trait ChronicleName {
     ghost use Rattle.std.specs.Prelude.{ℕ};
 
     ghost name: { ℕ };
+
+    ghost companion: { ℕ };
 }
 
 impl ChronicleName for Brand {
     ghost name = { 0 };
+
+    ghost companion = { 0 };
+}
+
+/// The name of the chronicle that goes with the one of N.
+pub struct Companion<N> {
+    marker: PhantomData<N>,
+}
+
+impl<N: ChronicleName> ChronicleName for Companion<N> {
+    ghost name = { N.companion };
+
+    ghost companion = { N.companion };
 }

@@ -7,6 +7,7 @@ ghost use Rattle.version_store.specs.Answers.{awaits};
 ghost use Rattle.compile_pool.specs.Workers.{IsOfJob, PostsOrDrops};
 
 use crate::gate::Gate;
+use chronicle::ChronicleName;
 use crossbeam_channel::Receiver;
 use meaning::Ask;
 use point_book::PointBook;
@@ -31,7 +32,11 @@ fn compile_job(alloc: Global, job: Job) -> (u64, Compiled)
 
 /// Posts what was compiled. What the book refuses is dropped: its request was answered or handed
 /// out meanwhile.
-fn post_or_drop<C: Ledger, A: Ledger>(book: &mut Book<C, A>, number: u64, compiled: Compiled)
+fn post_or_drop<C: Ledger, A: Ledger, N: ChronicleName>(
+    book: &mut Book<C, A, N>,
+    number: u64,
+    compiled: Compiled,
+)
     ensures { PostsOrDrops book.old number compiled book.new }
 {
     let _ = book.post(number, compiled);
@@ -39,10 +44,10 @@ fn post_or_drop<C: Ledger, A: Ledger>(book: &mut Book<C, A>, number: u64, compil
 
 /// Compiles a job outside the lock, posts the answer under it, and wakes who waits. So does a
 /// worker, and a session whose job can't be sent to one.
-pub fn answer_job<C: Ledger, A: Ledger, R: Wait>(
+pub fn answer_job<C: Ledger, A: Ledger, R: Wait, N: ChronicleName>(
     rt: &R,
     alloc: Global,
-    shared: &Shared<C, A>,
+    shared: &Shared<C, A, N>,
     job: Job,
 ) {
     let (number, compiled) = compile_job(alloc, job);
@@ -54,9 +59,9 @@ pub fn answer_job<C: Ledger, A: Ledger, R: Wait>(
 
 /// Answers a request that nobody waits for any more by that memory ran out, which is right for each,
 /// so that no worker begins it. It keeps an answer that it has.
-pub fn answer_unmade<C: Ledger, A: Ledger, R: Wait>(
+pub fn answer_unmade<C: Ledger, A: Ledger, R: Wait, N: ChronicleName>(
     rt: &R,
-    shared: &Shared<C, A>,
+    shared: &Shared<C, A, N>,
     number: u64,
     book: Arc<PointBook>,
     ask: Ask,
@@ -68,7 +73,10 @@ pub fn answer_unmade<C: Ledger, A: Ledger, R: Wait>(
 
 /// A job that is to be compiled, since its request has no answer yet. Else it comes back as an
 /// error: its session has ended, or the central system is stopped.
-fn job_to_begin<C: Ledger, A: Ledger>(book: &Book<C, A>, job: Job) -> Result<Job, Job>
+fn job_to_begin<C: Ledger, A: Ledger, N: ChronicleName>(
+    book: &Book<C, A, N>,
+    job: Job,
+) -> Result<Job, Job>
     ensures begun { IfOk result (λ begun. begun ≡ job) }
     ensures awaited { IfOk result (λ begun. awaits book.now.present job.number ≡ true) }
     ensures unwanted { IfErr result (λ back. awaits book.now.present job.number ≡ false) }
@@ -82,11 +90,11 @@ fn job_to_begin<C: Ledger, A: Ledger>(book: &Book<C, A>, job: Job) -> Result<Job
 
 /// Answers jobs, one after the other, until all senders of the channel are gone. One that nobody
 /// waits for any more is dropped.
-pub fn worker<C: Ledger, A: Ledger, R: Wait, G: Gate>(
+pub fn worker<C: Ledger, A: Ledger, R: Wait, G: Gate, N: ChronicleName>(
     rt: &R,
     alloc: Global,
     jobs: &Receiver<Job>,
-    shared: &Shared<C, A>,
+    shared: &Shared<C, A, N>,
     gate: &G,
 ) {
     for _turn in rt.forever() {
@@ -109,12 +117,13 @@ pub fn run_pool<
     A: Ledger + Send + Sync,
     R: Threads + Wait + Sync,
     G: Gate + Sync,
+    N: ChronicleName + Send + Sync,
 >(
     rt: &R,
     alloc: Global,
     workers: usize,
     jobs: &Receiver<Job>,
-    shared: &Shared<C, A>,
+    shared: &Shared<C, A, N>,
     gate: &G,
 ) -> usize
     requires { 1 ≤ workers }

@@ -1,21 +1,29 @@
 //! The journal of a site that is run: what sessions note, written to a file and synced.
 
+ghost use Rattle.std.specs.Prelude.{◌≡◌, IfOk, IfSome};
+ghost use Rattle.journal_writer.specs.Account.{Covers};
+ghost use Rattle.site_journal.specs.MadeStep.{IsOfMadeStep};
+ghost use Rattle.version_store.specs.Recording.{IsAt};
+
 use crate::reserve_file::ReserveFile;
 use crate::restored_journal::RestoredJournal;
 use crate::said_lines::SaidLines;
 use crate::system_clock::SystemClock;
-use append_log::{Log, LogFault, SystemFile};
+use append_log::{LogFault, SystemFile};
+use chronicle::{ChronicleName, Unnamed};
+use journal_writer::{NotedSteps, Receipt, WrittenSteps};
 use ocpp_scalars::{Instant as Moment, Moments, write_instant};
 use session::{Entry, Journal, JournalFault, Noted};
-use site_journal::Line;
+use site_journal::{Line, MadeStep};
 use site_status::{JournalReport, JournalState};
 use std::alloc::{AllocError, AllocGlobal, Global};
 use std::fmt::Display;
+use std::io;
 use std::rt::Clock;
 use std::sync::atomic::{AtomicBool, Ordering};
 use std::sync::{Condvar, Mutex, Wait};
 use std::time::{Duration, Instant};
-use std::{io, mem};
+use version_store::RecordedStates;
 
 /// Room for so many entries is kept free: more than all sessions together have prepared and not
 /// noted yet. So a step that was made is always noted.
@@ -27,18 +35,18 @@ const RETRY_SECONDS: u64 = 1;
 /// A journal that sessions share. Each notes what it changes while it has the book. Whoever waits
 /// for it writes and syncs for all that wait. Where the device is full nothing is noted any more,
 /// and it is tried again until there is room; where it isn't known what stands in the file, it is
-/// broken for good.
+/// broken for good. The states that its lines have to account for are recorded in the chronicle N.
 #[derive(Drop)]
-pub struct JournalFile<R> {
+pub struct JournalFile<R, N: ChronicleName> {
     rt: R,
     alloc: Global,
     /// The file's name, for what is said of it.
     path: String,
-    noted: Mutex<NotedEntries>,
+    noted: Mutex<NotedEntries<N>>,
     /// Whether all that was noted is on the disk, and it isn't broken. It is set by whoever has
     /// `noted`, and read without: most messages change nothing.
     is_kept: AtomicBool,
-    written: Mutex<WrittenLines>,
+    written: Mutex<WrittenLines<N>>,
     /// Whoever waits for another that writes waits here.
     writer_done: Condvar,
     /// Whoever waits for the journal to be broken waits here.
@@ -46,20 +54,12 @@ pub struct JournalFile<R> {
     said: SaidLines,
 }
 
-/// An entry, with the number that its step drew.
-#[derive(Drop)]
-struct NumberedEntry {
-    entry: Entry,
-    number: u64,
-}
-
 /// What is noted and not taken to be written yet.
 #[derive(Drop)]
-struct NotedEntries {
-    entries: Vec<NumberedEntry>,
-    /// How many entries were noted in all, and how many of these are on the disk.
-    noted: u64,
-    kept: u64,
+struct NotedEntries<N: ChronicleName> {
+    steps: NotedSteps<N>,
+    /// What shows which lines are on the disk.
+    receipt: Option<Receipt<N>>,
     /// Whether a session writes and syncs for all that wait.
     has_writer: bool,
     state: JournalState,
@@ -71,23 +71,18 @@ struct NotedEntries {
 
 /// What was taken to be written, and how far it is.
 #[derive(Drop)]
-struct WrittenLines {
-    log: Log<SystemFile>,
+struct WrittenLines<N: ChronicleName> {
+    steps: WrittenSteps<SystemFile, N>,
     reserve: ReserveFile,
-    /// Entries that were taken and have no text yet. Room for entries is kept free.
-    taken: Vec<NumberedEntry>,
-    /// How many were taken in all.
-    taken_count: u64,
 }
 
-/// What came of an attempt to keep all that was noted.
+/// What else came of an attempt that put all on the disk that was noted.
 #[derive(Drop)]
 enum Kept {
-    /// It is on the disk.
     All,
-    /// It is on the disk, and the device has room again.
+    /// The device has room again.
     AllAndRoom,
-    /// It is on the disk, in the place of the reserve: the device is full.
+    /// It stands in the place of the reserve: the device is full.
     AllButFull(io::Error),
 }
 
@@ -96,15 +91,12 @@ enum Kept {
 enum KeepFault {
     Log(LogFault),
     OutOfMemory,
+    /// What was noted doesn't go on with what is written. It never comes to that.
+    StepMissing,
 }
 
-/// An attempt to keep all that was noted.
-#[derive(Drop)]
-struct Attempt {
-    kept: Result<Kept, KeepFault>,
-    /// Whether something else may be noted since, or nothing more.
-    is_news: bool,
-}
+/// What is said of a journal in which a step is missing.
+const STEP_MISSING: &str = "a step was made that wasn't noted";
 
 impl From<LogFault> for KeepFault {
     fn from(fault: LogFault) -> KeepFault {
@@ -118,13 +110,18 @@ impl From<AllocError> for KeepFault {
     }
 }
 
-impl<R: Wait + Clock + Eprint + AllocGlobal + Drop> JournalFile<R> {
-    /// The journal that was restored, to which these lines are to be added.
+impl<R: Wait + Clock + Eprint + AllocGlobal + Drop, N: ChronicleName> JournalFile<R, N> {
+    /// The journal that was restored, to which these lines are to be added. They lead to the last
+    /// of these states. What it has at each sync is known under the last name.
     pub fn make(
         rt: R,
         restored: RestoredJournal,
         lines: &str,
-    ) -> Result<JournalFile<R>, AllocError> {
+        states: RecordedStates<N>,
+        syncs: Unnamed,
+    ) -> Result<JournalFile<R, N>, AllocError>
+        requires { syncs.name ≡ N.companion }
+    {
         let alloc = rt.alloc();
         let RestoredJournal {
             mut log,
@@ -133,9 +130,8 @@ impl<R: Wait + Clock + Eprint + AllocGlobal + Drop> JournalFile<R> {
         } = restored;
         log.add(lines.as_bytes())?;
         let noted = NotedEntries {
-            entries: Vec::with_capacity(alloc, FREE_ENTRIES)?,
-            noted: 0,
-            kept: 0,
+            steps: NotedSteps::new(alloc, states.copy(), FREE_ENTRIES)?,
+            receipt: None,
             has_writer: false,
             state: JournalState::Open,
             bytes: log.file().synced_bytes(),
@@ -143,10 +139,8 @@ impl<R: Wait + Clock + Eprint + AllocGlobal + Drop> JournalFile<R> {
             sync_time: Duration::ZERO,
         };
         let written = WrittenLines {
-            log,
+            steps: WrittenSteps::new(alloc, log, states, FREE_ENTRIES, syncs)?,
             reserve,
-            taken: Vec::with_capacity(alloc, FREE_ENTRIES)?,
-            taken_count: 0,
         };
         Ok(JournalFile {
             rt,
@@ -163,33 +157,35 @@ impl<R: Wait + Clock + Eprint + AllocGlobal + Drop> JournalFile<R> {
 
     /// Writes and syncs all that was noted by now.
     pub fn keep_all(&self) -> Result<(), JournalFault> {
-        let mut written = self.written.lock(&self.rt);
-        let kept = self.keep_with(&mut written);
-        drop(written);
-        self.say(kept)
+        self.keep_with(&mut self.written.lock(&self.rt))
     }
 
-    /// Waits until so many entries are on the disk. One session writes and syncs for all that wait:
-    /// when it is done, those whose entries it wrote go on, and one of the others writes.
-    fn keep_up_to(&self, wanted: u64) -> Result<(), JournalFault> {
+    /// Waits until all lines are on the disk that lead to these states. One session writes and syncs
+    /// for all that wait: when it is done, those whose entries it wrote go on, and one of the others
+    /// writes.
+    fn keep_up_to(&self, recorded: &RecordedStates<N>) -> Result<Receipt<N>, JournalFault>
+        ensures { IfOk result (λ receipt. Covers receipt recorded.now) }
+    {
         let noted = self.noted.lock(&self.rt);
         let mut noted = self.writer_done.wait_while(&self.rt, noted, |noted| {
-            noted.has_writer && noted.kept < wanted
+            noted.has_writer && !noted.has_kept(recorded)
         });
-        if noted.kept >= wanted {
-            return Ok(());
+        if let Some(receipt) = noted.receipt_for(recorded) {
+            return Ok(receipt);
         }
         if noted.state == JournalState::Broken {
             return Err(JournalFault::Unwritable);
         }
         noted.has_writer = true;
         drop(noted);
-        let mut written = self.written.lock(&self.rt);
-        let kept = self.keep_with(&mut written);
-        drop(written);
-        self.noted.lock(&self.rt).has_writer = false;
+        let kept = self.keep_all();
+        let mut noted = self.noted.lock(&self.rt);
+        noted.has_writer = false;
+        let receipt = noted.receipt_for(recorded);
+        drop(noted);
         self.writer_done.notify_all();
-        self.say(kept)
+        kept?;
+        receipt.ok_or(JournalFault::Unwritable)
     }
 
     /// Returns once the journal is broken. Until then it is tried again now and then to write where
@@ -220,29 +216,48 @@ impl<R: Wait + Clock + Eprint + AllocGlobal + Drop> JournalFile<R> {
 
     /// Writes and syncs all that was noted by now, for all that wait. What may be noted since is told
     /// before somebody else has the file.
-    fn keep_with(&self, written: &mut WrittenLines) -> Attempt {
-        let kept = self.try_to_keep(written);
-        let is_news = match state_after(&kept) {
-            Some(state) => self.turns(state),
-            None => false,
-        };
-        Attempt { kept, is_news }
+    fn keep_with(&self, written: &mut WrittenLines<N>) -> Result<(), JournalFault> {
+        match self.try_to_keep(written) {
+            Ok(Kept::All) => Ok(()),
+            Ok(Kept::AllAndRoom) => {
+                self.turn(JournalState::Open, &"there is room again");
+                Ok(())
+            }
+            Ok(Kept::AllButFull(error)) => {
+                self.turn(JournalState::Full, &error);
+                Ok(())
+            }
+            Err(KeepFault::OutOfMemory) => Err(JournalFault::OutOfMemory),
+            Err(KeepFault::Log(LogFault::FailedBefore)) => Err(JournalFault::Unwritable),
+            Err(KeepFault::Log(LogFault::Full(error))) => {
+                self.turn(JournalState::Full, &error);
+                Err(JournalFault::Unwritable)
+            }
+            Err(KeepFault::Log(LogFault::Failed(error))) => {
+                self.turn(JournalState::Broken, &error);
+                Err(JournalFault::Unwritable)
+            }
+            Err(KeepFault::StepMissing) => {
+                self.turn(JournalState::Broken, &STEP_MISSING);
+                Err(JournalFault::Unwritable)
+            }
+        }
     }
 
     /// Writes and syncs all that was noted by now.
-    fn try_to_keep(&self, written: &mut WrittenLines) -> Result<Kept, KeepFault> {
+    fn try_to_keep(&self, written: &mut WrittenLines<N>) -> Result<Kept, KeepFault> {
         // Those that there was no memory for come first.
-        written.put_into_words()?;
-        self.take_noted(written);
-        written.put_into_words()?;
+        written.steps.add_lines(FREE_ENTRIES)?;
+        self.take_noted(written)?;
+        written.steps.add_lines(FREE_ENTRIES)?;
         let before = (written.synced(), Instant::now(&self.rt).ok());
-        let kept = written.write_and_sync()?;
+        let (receipt, kept) = written.write_and_sync()?;
         let synced = written.synced();
         let mut noted = self.noted.lock(&self.rt);
-        noted.kept = written.taken_count;
-        if noted.kept == noted.noted && noted.state != JournalState::Broken {
+        if receipt.covers(noted.steps.last()) && noted.state != JournalState::Broken {
             self.is_kept.store(true, Ordering::SeqCst);
         }
+        noted.receipt = Some(receipt);
         if synced != before.0 {
             noted.count_sync(synced, self.time_since(before.1));
         }
@@ -263,42 +278,33 @@ impl<R: Wait + Clock + Eprint + AllocGlobal + Drop> JournalFile<R> {
         now.checked_duration_since(moment).unwrap_or_default()
     }
 
-    /// Takes what was noted by now. What was taken before has its text.
-    fn take_noted(&self, written: &mut WrittenLines) {
+    /// Takes what was noted by now. What was taken before has its lines.
+    fn take_noted(&self, written: &mut WrittenLines<N>) -> Result<(), KeepFault> {
         let mut noted = self.noted.lock(&self.rt);
-        mem::swap(&mut noted.entries, &mut written.taken);
-        written.taken_count = noted.noted;
-    }
-
-    /// Says what came of an attempt, where it is news.
-    fn say(&self, attempt: Attempt) -> Result<(), JournalFault> {
-        let Attempt { kept, is_news } = attempt;
-        match kept {
-            Ok(Kept::All) => Ok(()),
-            Ok(Kept::AllAndRoom) => {
-                self.say_news(is_news, &"there is room again");
-                Ok(())
-            }
-            Ok(Kept::AllButFull(error)) => {
-                self.say_news(is_news, &error);
-                Ok(())
-            }
-            Err(KeepFault::OutOfMemory) => Err(JournalFault::OutOfMemory),
-            Err(KeepFault::Log(LogFault::FailedBefore)) => Err(JournalFault::Unwritable),
-            Err(KeepFault::Log(LogFault::Full(error) | LogFault::Failed(error))) => {
-                self.say_news(is_news, &error);
-                Err(JournalFault::Unwritable)
-            }
+        if written.steps.take(&mut noted.steps) {
+            Ok(())
+        } else {
+            Err(KeepFault::StepMissing)
         }
     }
 
-    /// Says, with the moment, what became of the file, if that is news.
-    fn say_news<W: Display>(&self, is_news: bool, what: &W) {
-        if !is_news {
-            return;
+    /// From now on this may be noted, or nothing more, for a reason that is said if it is news.
+    fn turn<W: Display>(&self, state: JournalState, why: &W) {
+        self.turn_noted(&mut self.noted.lock(&self.rt), state, why);
+    }
+
+    /// The same, for whoever has what was noted. What is broken stays so, and whoever waits for that
+    /// finds the reason among the lines that are said.
+    fn turn_noted<W: Display>(&self, noted: &mut NotedEntries<N>, state: JournalState, why: &W) {
+        if noted.state != state && noted.state != JournalState::Broken {
+            noted.state = state;
+            if let Ok(line) = self.line_of(why) {
+                self.said.add(&self.rt, line);
+            }
         }
-        if let Ok(line) = self.line_of(what) {
-            self.said.add(&self.rt, line);
+        if noted.state == JournalState::Broken {
+            self.is_kept.store(false, Ordering::SeqCst);
+            self.broken.notify_all();
         }
     }
 
@@ -324,38 +330,28 @@ impl<R: Wait + Clock + Eprint + AllocGlobal + Drop> JournalFile<R> {
     pub(crate) fn write_said(&self) {
         self.said.write_waiting(&self.rt);
     }
-
-    /// Takes note of whether anything may be noted. Returns whether that is new. What is broken stays
-    /// so, and whoever waits for that is told.
-    fn turns(&self, state: JournalState) -> bool {
-        let mut noted = self.noted.lock(&self.rt);
-        let is_new = noted.state != state && noted.state != JournalState::Broken;
-        if is_new {
-            noted.state = state;
-        }
-        if noted.state == JournalState::Broken {
-            self.is_kept.store(false, Ordering::SeqCst);
-            self.broken.notify_all();
-        }
-        is_new
-    }
 }
 
-/// What may be noted after an attempt, where that may have changed.
-fn state_after(kept: &Result<Kept, KeepFault>) -> Option<JournalState> {
-    match kept {
-        Ok(Kept::AllAndRoom) => Some(JournalState::Open),
-        Ok(Kept::AllButFull(_)) | Err(KeepFault::Log(LogFault::Full(_))) => {
-            Some(JournalState::Full)
-        }
-        Err(KeepFault::Log(LogFault::Failed(_))) => Some(JournalState::Broken),
-        Ok(Kept::All) | Err(KeepFault::OutOfMemory | KeepFault::Log(LogFault::FailedBefore)) => {
-            None
+impl<N: ChronicleName> NotedEntries<N> {
+    /// Whether all lines are on the disk that lead to these states.
+    fn has_kept(&self, recorded: &RecordedStates<N>) -> bool {
+        match &self.receipt {
+            Some(receipt) => receipt.covers(recorded),
+            None => false,
         }
     }
-}
 
-impl NotedEntries {
+    /// What shows that they are, if they are.
+    fn receipt_for(&self, recorded: &RecordedStates<N>) -> Option<Receipt<N>>
+        ensures { IfSome result (λ receipt. Covers receipt recorded.now) }
+    {
+        let receipt = self.receipt.as_ref()?;
+        if receipt.covers(recorded) {
+            return Some(receipt.copy());
+        }
+        None
+    }
+
     /// The file was written and synced, which took this time. So many of its bytes are on the disk.
     fn count_sync(&mut self, bytes: u64, time: Duration) {
         self.bytes = bytes;
@@ -364,39 +360,28 @@ impl NotedEntries {
     }
 }
 
-impl WrittenLines {
+impl<N: ChronicleName> WrittenLines<N> {
     /// How many bytes of the file are on the disk.
     fn synced(&self) -> u64 {
-        self.log.file().synced_bytes()
-    }
-
-    /// Makes the text of what was taken, behind the lines that aren't on the disk yet. Afterwards
-    /// there is room for entries. Where memory runs out no entry is lost, and it may be tried again.
-    fn put_into_words(&mut self) -> Result<(), AllocError> {
-        let mut lines = String::new(*self.taken.allocator());
-        for numbered in &self.taken {
-            numbered.entry.push(&mut lines, numbered.number)?;
-        }
-        self.log.add(lines.as_bytes())?;
-        self.taken.clear();
-        self.taken.reserve(FREE_ENTRIES)
+        self.steps.file().synced_bytes()
     }
 
     /// Writes the lines that aren't in the file, and syncs it. Where the device is full the reserve
     /// is given up for them.
-    fn write_and_sync(&mut self) -> Result<Kept, KeepFault> {
-        match self.log.write_and_sync() {
-            Ok(()) => Ok(Kept::All),
+    fn write_and_sync(&mut self) -> Result<(Receipt<N>, Kept), KeepFault> {
+        match self.steps.write_and_sync() {
+            Ok(receipt) => Ok((receipt, Kept::All)),
             Err(LogFault::Full(error)) if self.reserve.give_up() => {
-                self.log.write_and_sync()?;
-                Ok(Kept::AllButFull(error))
+                let receipt = self.steps.write_and_sync()?;
+                Ok((receipt, Kept::AllButFull(error)))
             }
             Err(fault) => Err(KeepFault::Log(fault)),
         }
     }
 }
 
-impl<R: Wait + Clock + Eprint + AllocGlobal + Drop> Journal for JournalFile<R> {
+impl<R: Wait + Clock + Eprint + AllocGlobal + Drop, N: ChronicleName> Journal<N>
+    for JournalFile<R, N> {
     fn prepare(
         &self,
         moment: Moment,
@@ -413,39 +398,49 @@ impl<R: Wait + Clock + Eprint + AllocGlobal + Drop> Journal for JournalFile<R> {
         if noted.state != JournalState::Open {
             return Err(JournalFault::Unwritable);
         }
-        noted.entries.reserve(FREE_ENTRIES)?;
+        noted.steps.reserve(FREE_ENTRIES)?;
         Ok(Some(entry))
     }
 
-    fn note(&self, entry: Entry, number: u64) {
+    fn note(&self, entry: Entry, number: u64, before: &RecordedStates<N>, after: &RecordedStates<N>)
+        requires { IsOfMadeStep entry number (IsAt before.now) (IsAt after.now) }
+    {
+        let step = MadeStep {
+            entry,
+            number,
+            before: before.copy(),
+            after: after.copy(),
+        };
         let mut noted = self.noted.lock(&self.rt);
         self.is_kept.store(false, Ordering::SeqCst);
-        let numbered = NumberedEntry { entry, number };
-        if noted.entries.push(numbered).is_err() {
-            noted.state = JournalState::Broken;
-            self.broken.notify_all();
+        if !noted.steps.note(step) {
+            self.turn_noted(&mut noted, JournalState::Broken, &STEP_MISSING);
         }
-        noted.noted = noted.noted.saturating_add(1);
+    }
+
+    fn receipt(&self, recorded: &RecordedStates<N>) -> Result<Receipt<N>, JournalFault> {
+        let noted = self.noted.lock(&self.rt);
+        if noted.state == JournalState::Broken {
+            return Err(JournalFault::Unwritable);
+        }
+        if let Some(receipt) = noted.receipt_for(recorded) {
+            return Ok(receipt);
+        }
+        drop(noted);
+        self.keep_up_to(recorded)
     }
 
     fn write_out(&self) -> Result<(), JournalFault> {
         if self.is_kept.load(Ordering::SeqCst) {
             return Ok(());
         }
-        let noted = self.noted.lock(&self.rt);
-        let (wanted, kept, state) = (noted.noted, noted.kept, noted.state);
-        drop(noted);
-        if state == JournalState::Broken {
-            return Err(JournalFault::Unwritable);
-        }
-        if kept >= wanted {
-            return Ok(());
-        }
-        self.keep_up_to(wanted)
+        let recorded = self.noted.lock(&self.rt).steps.last().copy();
+        self.receipt(&recorded)?;
+        Ok(())
     }
 }
 
-impl<R: Wait> JournalFile<R> {
+impl<R: Wait, N: ChronicleName> JournalFile<R, N> {
     /// How it is now. Waits for no file and no device.
     pub fn report(&self) -> JournalReport {
         let noted = self.noted.lock(&self.rt);

@@ -21,7 +21,7 @@ use std::rt::Files;
 const BEFORE_A_CALL: &str = "[2,\"\",\"Heartbeat\",{}]";
 
 /// A longer message has no room on a line of a script.
-const LONGEST_FRAME: usize = 1_048_576 - 128;
+pub const LONGEST_FRAME: usize = 1_048_576 - 128;
 
 /// Prints the journal of a folder as a script.
 pub fn print_journal<R: Files<File = File> + Print + Eprint + AllocGlobal>(

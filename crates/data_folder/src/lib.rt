@@ -21,7 +21,7 @@ pub use boots_file::{open_boots, read_boots};
 pub use folder_fault::FolderFault;
 pub use followed_journal::{FollowedJournal, Following, follow_journal};
 pub use journal_file::JournalFile;
-pub use journal_script::{print_journal, read_journal_script};
+pub use journal_script::{LONGEST_FRAME, print_journal, read_journal_script};
 pub use named_file::or_stop;
 pub use opening::{OpenJournal, open_journal};
 pub use restoring::{Resumed, restore_shared};

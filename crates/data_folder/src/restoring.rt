@@ -1,5 +1,7 @@
 //! The book of a site that is run, from the journal of its folder.
 
+ghost use Rattle.std.specs.Prelude.{◌≡◌};
+
 use crate::folder_fault::FolderFault;
 use crate::journal_file::JournalFile;
 use crate::journal_lines::{JournalLines, Lines};
@@ -7,6 +9,7 @@ use crate::named_file::NamedFile;
 use crate::opening::OpenJournal;
 use crate::restored_journal::RestoredJournal;
 use crate::system_clock::SystemClock;
+use chronicle::{ChronicleName, Unnamed};
 use ocpp_scalars::{Instant, Moments};
 use site_core::Machine;
 use site_journal::{Unrestored, lose_links, push_header, restore};
@@ -36,13 +39,17 @@ pub fn restore_shared<
     C: Ledger,
     A: Ledger,
     R: Files<File = File> + Eprint + AllocGlobal + Clock + Wait + Copy + Drop,
+    N: ChronicleName,
 >(
     rt: &R,
     opened: OpenJournal,
     digest: &[u8; 32],
-    shared: &Shared<C, A>,
+    shared: &Shared<C, A, N>,
     pass: Pass<C, A>,
-) -> Result<(JournalFile<R>, Resumed), FolderFault> {
+    syncs: Unnamed,
+) -> Result<(JournalFile<R, N>, Resumed), FolderFault>
+    requires { syncs.name ≡ N.companion }
+{
     let mut pass = pass;
     let Some(now) = (SystemClock { rt }).now() else {
         return Err(FolderFault::Clock);
@@ -50,8 +57,9 @@ pub fn restore_shared<
     let mut book = shared.lock(rt);
     let (restored, added) = restore_book(rt, opened, digest, &mut book, &mut pass, now)?;
     let resumed = count_resumed(book.present());
+    let states = book.recorded();
     drop(book);
-    let journal = JournalFile::make(*rt, restored, added.as_str())?;
+    let journal = JournalFile::make(*rt, restored, added.as_str(), states, syncs)?;
     let kept = journal.keep_all();
     // No thread writes its lines yet.
     journal.write_said();
@@ -65,11 +73,16 @@ pub fn restore_shared<
 /// points. A journal that is new, or was written with another site file, gets a line that names this
 /// one. A last line that is torn is cut: nothing that it says was answered. Returns the journal, and
 /// the lines that are to be added to it.
-fn restore_book<C: Ledger, A: Ledger, R: Files<File = File> + AllocGlobal + Eprint>(
+fn restore_book<
+    C: Ledger,
+    A: Ledger,
+    R: Files<File = File> + AllocGlobal + Eprint,
+    N: ChronicleName,
+>(
     rt: &R,
     opened: OpenJournal,
     digest: &[u8; 32],
-    book: &mut Book<C, A>,
+    book: &mut Book<C, A, N>,
     pass: &mut Pass<C, A>,
     now: Instant,
 ) -> Result<(RestoredJournal, String), FolderFault> {
@@ -92,11 +105,11 @@ fn restore_book<C: Ledger, A: Ledger, R: Files<File = File> + AllocGlobal + Epri
 }
 
 /// Restores a book from the lines of a journal.
-fn restore_lines<C: Ledger, A: Ledger, R: AllocGlobal + Eprint>(
+fn restore_lines<C: Ledger, A: Ledger, R: AllocGlobal + Eprint, N: ChronicleName>(
     rt: &R,
     file: &mut NamedFile,
     journal: &mut JournalLines,
-    book: &mut Book<C, A>,
+    book: &mut Book<C, A, N>,
     pass: &mut Pass<C, A>,
 ) -> Result<(), FolderFault> {
     for _part in 0..u64::MAX {

@@ -2,6 +2,7 @@
 
 use crate::seat_context::SeatContext;
 use crate::seldom::Seldom;
+use chronicle::ChronicleName;
 use crossbeam_channel::Sender;
 use ocpp_scalars::Moments;
 use std::io::{Read, Write};
@@ -31,11 +32,14 @@ const NO_SEAT: &[u8] =
 
 /// Accepts connections for ever, and sends each to a free seat. Where none is free, it is answered
 /// so and closed.
-pub(crate) fn accept_connections<C: Ledger, A: Ledger, R: Wait + Clock, M: Moments, J>(
-    seats: &SeatContext<C, A, R, M, J>,
-    listener: &TcpListener,
-    streams: &Sender<TcpStream>,
-) {
+pub(crate) fn accept_connections<
+    C: Ledger,
+    A: Ledger,
+    R: Wait + Clock,
+    M: Moments,
+    J,
+    N: ChronicleName,
+>(seats: &SeatContext<C, A, R, M, J, N>, listener: &TcpListener, streams: &Sender<TcpStream>) {
     let rt = &seats.rt;
     let (mut full, mut failed) = (Seldom::new(), Seldom::new());
     for _connection in rt.forever() {
@@ -57,8 +61,8 @@ pub(crate) fn accept_connections<C: Ledger, A: Ledger, R: Wait + Clock, M: Momen
 
 /// Takes a seat for a connection. Where none is free, the handshake that lasts longest gives way, once
 /// it has had its time.
-fn take_seat<C: Ledger, A: Ledger, R: Wait + Clock, M, J>(
-    seats: &SeatContext<C, A, R, M, J>,
+fn take_seat<C: Ledger, A: Ledger, R: Wait + Clock, M, J, N: ChronicleName>(
+    seats: &SeatContext<C, A, R, M, J, N>,
 ) -> bool {
     let rt = &seats.rt;
     if seats.free.take(rt) {
@@ -79,8 +83,8 @@ fn take_seat<C: Ledger, A: Ledger, R: Wait + Clock, M, J>(
 
 /// The next connection. None where it couldn't be accepted, after a pause: a file descriptor may be
 /// free then.
-fn accept_next<C: Ledger, A: Ledger, R: Wait + Clock, M: Moments, J>(
-    seats: &SeatContext<C, A, R, M, J>,
+fn accept_next<C: Ledger, A: Ledger, R: Wait + Clock, M: Moments, J, N: ChronicleName>(
+    seats: &SeatContext<C, A, R, M, J, N>,
     listener: &TcpListener,
     failed: &mut Seldom,
 ) -> Option<TcpStream> {
@@ -100,8 +104,8 @@ fn accept_next<C: Ledger, A: Ledger, R: Wait + Clock, M: Moments, J>(
 }
 
 /// Says that all seats are taken.
-fn say_full<C: Ledger, A: Ledger, R: Wait + Clock, M: Moments, J>(
-    seats: &SeatContext<C, A, R, M, J>,
+fn say_full<C: Ledger, A: Ledger, R: Wait + Clock, M: Moments, J, N: ChronicleName>(
+    seats: &SeatContext<C, A, R, M, J, N>,
     full: &mut Seldom,
 ) {
     if full.is_due(&seats.rt) {

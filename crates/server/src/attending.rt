@@ -7,6 +7,7 @@ use crate::incoming_stream::{IncomingStream, seconds_since};
 use crate::pace::Pace;
 use crate::session_watch::SessionWatch;
 use bytes::Bytes;
+use chronicle::ChronicleName;
 use ocpp_scalars::Moments;
 use session::{
     Context, Ended, Heard, Journal, SentCall, SessionCore, WatchedSocket, send_call, serve_next,
@@ -47,9 +48,16 @@ struct SentMoment {
 
 /// Serves messages until the socket is closed or fails, the client is silent for too long, or a call
 /// to it has no reply in time.
-pub(crate) fn attend_session<C: Ledger, A: Ledger, R: Wait + Clock, M: Moments, J: Journal>(
-    context: &Context<'_, C, A, R, M, J>,
-    watch: &SessionWatch<'_, C, A, R, M, J>,
+pub(crate) fn attend_session<
+    C: Ledger,
+    A: Ledger,
+    R: Wait + Clock,
+    M: Moments,
+    J: Journal<N>,
+    N: ChronicleName,
+>(
+    context: &Context<'_, C, A, R, M, J, N>,
+    watch: &SessionWatch<'_, C, A, R, M, J, N>,
     socket: &mut WebSocket<IncomingStream<'_, R>, NoMask>,
     core: &SessionCore,
     pass: &mut Pass<C, A>,
@@ -81,9 +89,9 @@ pub(crate) fn attend_session<C: Ledger, A: Ledger, R: Wait + Clock, M: Moments, 
 }
 
 /// Serves the next message, or does what is due where none comes. An error ends the session.
-fn attend_next<C: Ledger, A: Ledger, R: Wait + Clock, M: Moments, J: Journal>(
-    context: &Context<'_, C, A, R, M, J>,
-    watch: &SessionWatch<'_, C, A, R, M, J>,
+fn attend_next<C: Ledger, A: Ledger, R: Wait + Clock, M: Moments, J: Journal<N>, N: ChronicleName>(
+    context: &Context<'_, C, A, R, M, J, N>,
+    watch: &SessionWatch<'_, C, A, R, M, J, N>,
     watched: &mut WatchedSocket<'_, IncomingStream<'_, R>, NoMask, R>,
     core: &SessionCore,
     attention: &mut Attention,
@@ -157,8 +165,15 @@ fn keep_alive<R: Wait + Clock>(
 
 /// Sends the call that waits for a point, which has nothing to say itself. Returns which. A
 /// point that has just connected is left the time for its BootNotification.
-fn send_to_silent<C: Ledger, A: Ledger, R: Wait + Clock, M: Moments, J: Journal>(
-    context: &Context<'_, C, A, R, M, J>,
+fn send_to_silent<
+    C: Ledger,
+    A: Ledger,
+    R: Wait + Clock,
+    M: Moments,
+    J: Journal<N>,
+    N: ChronicleName,
+>(
+    context: &Context<'_, C, A, R, M, J, N>,
     socket: &mut WebSocket<IncomingStream<'_, R>, NoMask>,
     core: &SessionCore,
     attention: &mut Attention,
@@ -185,9 +200,9 @@ impl Attention {
     }
 
     /// The number of the last call, where it has no reply, though it was sent long enough ago.
-    fn overdue<C: Ledger, A: Ledger, R: Wait + Clock, M: Moments, J: Journal>(
+    fn overdue<C: Ledger, A: Ledger, R: Wait + Clock, M: Moments, J: Journal<N>, N: ChronicleName>(
         &mut self,
-        context: &Context<'_, C, A, R, M, J>,
+        context: &Context<'_, C, A, R, M, J, N>,
         core: &SessionCore,
     ) -> Option<u64> {
         let call = self.sent?;

@@ -2,6 +2,7 @@
 
 use crate::seat_context::SeatContext;
 use crate::serving::ServeFault;
+use chronicle::ChronicleName;
 use ocpp_scalars::Moments;
 use session::Journal;
 use site_rules::Site;
@@ -31,9 +32,10 @@ pub fn begin_boots<
     A: Ledger + Send + Sync + Drop + 'static,
     R: Threads + Wait + Clock + Send + Sync + Drop + 'static,
     M: Moments + Send + Sync + Drop + 'static,
-    J: Journal + Send + Sync + Drop + 'static,
+    J: Journal<N> + Send + Sync + Drop + 'static,
     K: BootKeeper + Send + Drop + 'static,
->(context: &Arc<SeatContext<C, A, R, M, J>, Global>, keeper: K) -> Result<(), ServeFault> {
+    N: ChronicleName + Send + Sync + Drop + 'static,
+>(context: &Arc<SeatContext<C, A, R, M, J, N>, Global>, keeper: K) -> Result<(), ServeFault> {
     let own = Arc::try_clone(context)?;
     let begun = thread::Builder::new().spawn(&context.rt, move || keep_boots(&own, &keeper));
     match begun {
@@ -44,10 +46,15 @@ pub fn begin_boots<
 
 /// Keeps the boots of points for ever. Where they can't be kept, that is said once until they are, and
 /// it is tried again at the next change.
-fn keep_boots<C: Ledger, A: Ledger, R: Wait + Clock, M: Moments, J: Journal, K: BootKeeper>(
-    seats: &SeatContext<C, A, R, M, J>,
-    keeper: &K,
-) {
+fn keep_boots<
+    C: Ledger,
+    A: Ledger,
+    R: Wait + Clock,
+    M: Moments,
+    J: Journal<N>,
+    K: BootKeeper,
+    N: ChronicleName,
+>(seats: &SeatContext<C, A, R, M, J, N>, keeper: &K) {
     let mut is_said = false;
     for _change in seats.rt.forever() {
         seats.watch.changed_boots().wait(&seats.rt);
@@ -65,8 +72,8 @@ fn keep_boots<C: Ledger, A: Ledger, R: Wait + Clock, M: Moments, J: Journal, K: 
 
 /// Keeps the boots of points as they are now. The book is locked to be copied, and nothing is locked
 /// while the lines are made and kept.
-fn keep_now<C: Ledger, A: Ledger, R: Wait, M, J, K: BootKeeper>(
-    seats: &SeatContext<C, A, R, M, J>,
+fn keep_now<C: Ledger, A: Ledger, R: Wait, M, J, K: BootKeeper, N: ChronicleName>(
+    seats: &SeatContext<C, A, R, M, J, N>,
     keeper: &K,
 ) -> io::Result<()> {
     let boots = seats.watch.boots(&seats.rt, seats.alloc)?;
@@ -94,8 +101,8 @@ fn boot_lines(alloc: Global, site: &Site, boots: &[Option<Boot>]) -> Result<Stri
 }
 
 /// Says that the boots can't be kept.
-fn say_unkept<C: Ledger, A: Ledger, R: Wait, M: Moments, J>(
-    seats: &SeatContext<C, A, R, M, J>,
+fn say_unkept<C: Ledger, A: Ledger, R: Wait, M: Moments, J, N: ChronicleName>(
+    seats: &SeatContext<C, A, R, M, J, N>,
     error: &io::Error,
 ) {
     let what = format!(in seats.alloc; "they can't be kept over a restart: {error}");

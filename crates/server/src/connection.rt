@@ -5,6 +5,7 @@ ghost use Rattle.session.specs.Serving.{KeepsPass};
 use crate::entry::Entry;
 use crate::handshake::{ClientRequest, shake_hands};
 use crate::path::{PathPeer, peer_of_path};
+use chronicle::ChronicleName;
 use ocpp_scalars::Moments;
 use session::{Context, Journal, SessionCore, serve_session};
 use std::alloc::AllocError;
@@ -22,8 +23,9 @@ pub(crate) fn serve_connection<
     A: Ledger,
     R: Wait,
     M: Moments,
-    J: Journal,
->(context: &Context<'_, C, A, R, M, J>, stream: S, pass: Pass<C, A>) -> Pass<C, A>
+    J: Journal<N>,
+    N: ChronicleName,
+>(context: &Context<'_, C, A, R, M, J, N>, stream: S, pass: Pass<C, A>) -> Pass<C, A>
     ensures { KeepsPass pass result }
 {
     let Ok((socket, asked)) = shake_hands(context.alloc, Entry::Open, stream) else {
@@ -51,8 +53,8 @@ pub(crate) struct Admitted {
 }
 
 /// The session that a client asks for, if it speaks OCPP 1.6 and names a point of the site.
-pub(crate) fn admit<C: Ledger, A: Ledger, R: Wait, M: Moments, J: Journal>(
-    context: &Context<'_, C, A, R, M, J>,
+pub(crate) fn admit<C: Ledger, A: Ledger, R: Wait, M: Moments, J: Journal<N>, N: ChronicleName>(
+    context: &Context<'_, C, A, R, M, J, N>,
     asked: &ClientRequest,
 ) -> Result<Option<Admitted>, AllocError> {
     let peer = peer_of_path(asked.path.as_str());

@@ -3,6 +3,7 @@
 ghost use Rattle.std.specs.Prelude.{◌≡◌, ◌≤◌, IfOk, length, vec_len, vec_capacity};
 
 use crate::connection::serve_connection;
+use chronicle::ChronicleName;
 use ocpp_scalars::Moments;
 use session::{Context, Journal};
 use std::alloc::AllocError;
@@ -46,9 +47,10 @@ pub(crate) fn serve_connections<
     A: Ledger + Send + Sync,
     R: Threads + Wait + Sync,
     M: Moments + Sync,
-    J: Journal + Sync,
+    J: Journal<N> + Sync,
+    N: ChronicleName + Send + Sync,
 >(
-    context: &Context<'_, C, A, R, M, J>,
+    context: &Context<'_, C, A, R, M, J, N>,
     listener: TcpListener,
     passes: Vec<Pass<C, A>>,
 ) -> Result<Served<C, A>, AllocError>
@@ -84,10 +86,11 @@ fn begin_all<
     A: Ledger + Send + Sync,
     R: Wait + Sync,
     M: Moments + Sync,
-    J: Journal + Sync,
+    J: Journal<N> + Sync,
+    N: ChronicleName + Send + Sync,
 >(
     scope: &Scope<'s, E>,
-    context: &'s Context<'_, C, A, R, M, J>,
+    context: &'s Context<'_, C, A, R, M, J, N>,
     listener: TcpListener,
     passes: Vec<Pass<C, A>>,
     room: Vec<Session<C, A>>,
@@ -115,10 +118,11 @@ fn begin<
     A: Ledger + Send + Sync,
     R: Wait + Sync,
     M: Moments + Sync,
-    J: Journal + Sync,
+    J: Journal<N> + Sync,
+    N: ChronicleName + Send + Sync,
 >(
     scope: &Scope<'s, E>,
-    context: &'s Context<'_, C, A, R, M, J>,
+    context: &'s Context<'_, C, A, R, M, J, N>,
     listener: &TcpListener,
     pass: Pass<C, A>,
     is_accepting: &mut bool,

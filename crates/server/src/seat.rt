@@ -10,6 +10,7 @@ use crate::incoming_stream::IncomingStream;
 use crate::seat_context::SeatContext;
 use crate::session_watch::SessionWatch;
 use crate::unadmitted::{note_unknown, note_unshaken};
+use chronicle::ChronicleName;
 use compile_pool::Jobs;
 use crossbeam_channel::Receiver;
 use ocpp_scalars::Moments;
@@ -36,8 +37,15 @@ type SeatSocket<'a, R> = WebSocket<IncomingStream<'a, R>, NoMask>;
 
 /// Serves one connection after another, each with the seat's pass, until no more are sent. Gives
 /// back the pass, which counts no less than before.
-pub fn keep_seat<C: Ledger, A: Ledger, R: Threads + Wait + Clock + Sync, M: Moments, J: Journal>(
-    seats: &SeatContext<C, A, R, M, J>,
+pub fn keep_seat<
+    C: Ledger,
+    A: Ledger,
+    R: Threads + Wait + Clock + Sync,
+    M: Moments,
+    J: Journal<N>,
+    N: ChronicleName,
+>(
+    seats: &SeatContext<C, A, R, M, J, N>,
     jobs: Jobs<'_>,
     streams: &Receiver<TcpStream>,
     pass: Pass<C, A>,
@@ -65,9 +73,16 @@ pub fn keep_seat<C: Ledger, A: Ledger, R: Threads + Wait + Clock + Sync, M: Mome
 }
 
 /// Serves a connection from its handshake until it ends. Gives back the pass.
-fn serve_incoming<C: Ledger, A: Ledger, R: Threads + Wait + Clock + Sync, M: Moments, J: Journal>(
-    seats: &SeatContext<C, A, R, M, J>,
-    context: &Context<'_, C, A, R, M, J>,
+fn serve_incoming<
+    C: Ledger,
+    A: Ledger,
+    R: Threads + Wait + Clock + Sync,
+    M: Moments,
+    J: Journal<N>,
+    N: ChronicleName,
+>(
+    seats: &SeatContext<C, A, R, M, J, N>,
+    context: &Context<'_, C, A, R, M, J, N>,
     stream: TcpStream,
     pass: Pass<C, A>,
 ) -> Pass<C, A>
@@ -101,8 +116,16 @@ fn serve_incoming<C: Ledger, A: Ledger, R: Threads + Wait + Clock + Sync, M: Mom
 }
 
 /// Shakes hands with a client. While that lasts, it may have to give way.
-fn shake_in_time<'a, C: Ledger, A: Ledger, R: Threads + Wait + Clock + Sync, M, J>(
-    seats: &SeatContext<C, A, R, M, J>,
+fn shake_in_time<
+    'a,
+    C: Ledger,
+    A: Ledger,
+    R: Threads + Wait + Clock + Sync,
+    M,
+    J,
+    N: ChronicleName,
+>(
+    seats: &SeatContext<C, A, R, M, J, N>,
     stream: IncomingStream<'a, R>,
 ) -> Result<(SeatSocket<'a, R>, ClientRequest), Unshaken> {
     let entry = Entry::Guarded {
@@ -143,9 +166,16 @@ fn limits() -> WebSocketConfig {
 
 /// Serves a session after its handshake. A point's older connection is shut once this one has its
 /// link, and this one is shut once a later one has. Gives back the pass.
-fn serve_admitted<C: Ledger, A: Ledger, R: Wait + Clock, M: Moments, J: Journal>(
-    seats: &SeatContext<C, A, R, M, J>,
-    context: &Context<'_, C, A, R, M, J>,
+fn serve_admitted<
+    C: Ledger,
+    A: Ledger,
+    R: Wait + Clock,
+    M: Moments,
+    J: Journal<N>,
+    N: ChronicleName,
+>(
+    seats: &SeatContext<C, A, R, M, J, N>,
+    context: &Context<'_, C, A, R, M, J, N>,
     socket: SeatSocket<'_, R>,
     admitted: Admitted,
     pass: Pass<C, A>,

@@ -7,6 +7,7 @@ use crate::pace::AheadClients;
 use crate::present_streams::PresentStreams;
 use crate::site_watch::SiteWatch;
 use crate::unfinished_handshakes::UnfinishedHandshakes;
+use chronicle::ChronicleName;
 use ocpp_scalars::Moments;
 use session::Journal;
 use site_keys::Keys;
@@ -15,7 +16,7 @@ use std::alloc::{AllocError, Global};
 use std::rt::Clock;
 use std::sync::ledger::Ledger;
 use std::sync::{Arc, Mutex, Wait};
-use version_store::Shared;
+use version_store::{NoName, Shared};
 
 /// What whoever runs a site may choose.
 #[derive(Debug, Drop)]
@@ -31,10 +32,10 @@ pub struct SeatOptions {
 
 /// What all threads share that serve a site.
 #[derive(Drop)]
-pub struct SeatContext<C: Ledger, A: Ledger, R, M, J> {
+pub struct SeatContext<C: Ledger, A: Ledger, R, M, J, N: ChronicleName = NoName> {
     pub(crate) rt: R,
     pub(crate) alloc: Global,
-    pub(crate) shared: Arc<Shared<C, A>, Global>,
+    pub(crate) shared: Arc<Shared<C, A, N>, Global>,
     pub(crate) clock: M,
     pub(crate) journal: J,
     pub(crate) present: PresentStreams,
@@ -54,17 +55,18 @@ impl<
     A: Ledger,
     R: Wait + Clock + Drop,
     M: Moments + Drop,
-    J: Journal + Drop,
-> SeatContext<C, A, R, M, J> {
+    J: Journal<N> + Drop,
+    N: ChronicleName,
+> SeatContext<C, A, R, M, J, N> {
     /// What threads share that serve this book, by this clock and with this journal.
     pub fn make(
         rt: R,
         alloc: Global,
-        shared: Shared<C, A>,
+        shared: Shared<C, A, N>,
         clock: M,
         journal: J,
         options: SeatOptions,
-    ) -> Result<SeatContext<C, A, R, M, J>, AllocError> {
+    ) -> Result<SeatContext<C, A, R, M, J, N>, AllocError> {
         let book = shared.lock(&rt);
         let copied = book.present().copy();
         drop(book);

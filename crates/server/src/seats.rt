@@ -7,6 +7,7 @@ use crate::seat::keep_seat;
 use crate::seat_context::SeatContext;
 use crate::serving::ServeFault;
 use crate::workers::{JobSenders, begin_workers};
+use chronicle::{ChronicleName, Unnamed};
 use crossbeam_channel::{Receiver, bounded};
 use ocpp_scalars::Moments;
 use session::Journal;
@@ -19,7 +20,7 @@ use std::sync::ledger::{Blank, Ledger};
 use std::sync::{Arc, Wait};
 use std::thread;
 use std::thread::Threads;
-use version_store::{Pass, Shared};
+use version_store::{NoName, Pass, Shared};
 
 /// The most connections at a time.
 pub const MAX_SEATS: u64 = 1_000;
@@ -29,8 +30,8 @@ const SEAT_STACK: usize = 2 * 1_048_576;
 
 /// The book of a site that is to be served by seats, and its passes.
 #[derive(Drop)]
-pub struct SeatedBook<C: Ledger, A: Ledger> {
-    pub shared: Shared<C, A>,
+pub struct SeatedBook<C: Ledger, A: Ledger, N: ChronicleName = NoName> {
+    pub shared: Shared<C, A, N>,
     /// The pass of whoever restores the book before it is served.
     pub restoring: Pass<C, A>,
     /// A pass for each seat.
@@ -70,6 +71,40 @@ impl<C: Ledger, A: Ledger> SeatedBook<C, A> {
     }
 }
 
+impl<C: Ledger, A: Ledger, N: ChronicleName> SeatedBook<C, A, N> {
+    /// The same, whose states are recorded in a chronicle.
+    pub fn make_with(
+        alloc: Global,
+        blanks: (Blank, Blank),
+        site: Site,
+        seats: u64,
+        states: Unnamed,
+    ) -> Result<SeatedBook<C, A, N>, AllocError>
+        requires changes { (blanks.0.name ≡ C.name) × (blanks.0.parts ≡ C.parts)
+            × (blanks.0.parts ≡ seats + 1) }
+        requires answers { (blanks.1.name ≡ A.name) × (blanks.1.parts ≡ A.parts)
+            × (blanks.1.parts ≡ seats + 1) }
+        requires states { states.name ≡ N.name }
+        ensures { IfOk result (λ book. length book.seats.items ≡ seats) }
+    {
+        let (changes, answers) = blanks;
+        // It never fails: each ledger has so many parts.
+        let Some(count) = seats.checked_add(1) else {
+            return Err(AllocError);
+        };
+        let (shared, passes) = Shared::make_with(alloc, changes, answers, site, count, states)?;
+        let mut passes = passes;
+        let Some(restoring) = passes.pop() else {
+            unreachable!()
+        };
+        Ok(SeatedBook {
+            shared,
+            restoring,
+            seats: passes,
+        })
+    }
+}
+
 /// Begins to serve a site on a listener, with a seat for each pass: a thread that keeps the pass
 /// and serves one connection after another. Workers on other threads compile. It goes on when this
 /// returns, for as long as the program runs. Returns how many seats there are: fewer where a thread
@@ -79,9 +114,10 @@ pub fn run_seats<
     A: Ledger + Send + Sync + Drop + 'static,
     R: Threads + Wait + Clock + Eprint + Copy + Send + Sync + Drop + 'static,
     M: Moments + Send + Sync + Drop + 'static,
-    J: Journal + Send + Sync + Drop + 'static,
+    J: Journal<N> + Send + Sync + Drop + 'static,
+    N: ChronicleName + Send + Sync + Drop + 'static,
 >(
-    context: &Arc<SeatContext<C, A, R, M, J>, Global>,
+    context: &Arc<SeatContext<C, A, R, M, J, N>, Global>,
     listener: TcpListener,
     passes: Vec<Pass<C, A>>,
     workers: usize,
@@ -121,7 +157,8 @@ fn begin_writer<
     R: Wait + Threads + Eprint + Send + Sync + Drop + 'static,
     M: Send + Sync + Drop + 'static,
     J: Send + Sync + Drop + 'static,
->(context: &Arc<SeatContext<C, A, R, M, J>, Global>) -> Result<(), ServeFault> {
+    N: ChronicleName + Send + Sync + Drop + 'static,
+>(context: &Arc<SeatContext<C, A, R, M, J, N>, Global>) -> Result<(), ServeFault> {
     let own = Arc::try_clone(context)?;
     let writer = thread::Builder::new().spawn(&context.rt, move || own.notices.write_all(&own.rt));
     match writer {
@@ -136,9 +173,10 @@ fn begin_seats<
     A: Ledger + Send + Sync + Drop + 'static,
     R: Threads + Wait + Clock + Copy + Send + Sync + Drop + 'static,
     M: Moments + Send + Sync + Drop + 'static,
-    J: Journal + Send + Sync + Drop + 'static,
+    J: Journal<N> + Send + Sync + Drop + 'static,
+    N: ChronicleName + Send + Sync + Drop + 'static,
 >(
-    context: &Arc<SeatContext<C, A, R, M, J>, Global>,
+    context: &Arc<SeatContext<C, A, R, M, J, N>, Global>,
     jobs: &JobSenders,
     queue: &Receiver<TcpStream>,
     passes: Vec<Pass<C, A>>,
@@ -162,9 +200,10 @@ fn begin_seat<
     A: Ledger + Send + Sync + Drop + 'static,
     R: Threads + Wait + Clock + Copy + Send + Sync + Drop + 'static,
     M: Moments + Send + Sync + Drop + 'static,
-    J: Journal + Send + Sync + Drop + 'static,
+    J: Journal<N> + Send + Sync + Drop + 'static,
+    N: ChronicleName + Send + Sync + Drop + 'static,
 >(
-    context: &Arc<SeatContext<C, A, R, M, J>, Global>,
+    context: &Arc<SeatContext<C, A, R, M, J, N>, Global>,
     jobs: &JobSenders,
     queue: &Receiver<TcpStream>,
     pass: Pass<C, A>,

@@ -2,6 +2,7 @@
 
 use crate::seat_context::SeatContext;
 use crate::site_watch::Reply;
+use chronicle::ChronicleName;
 use messages::ActionKind;
 use ocpp_scalars::{Instant, Moments};
 use session::{Journal, SentCall, SessionCore, Told};
@@ -13,22 +14,22 @@ use std::sync::ledger::Ledger;
 
 /// Whoever watches a session of a point or of an operator.
 #[derive(Drop)]
-pub(crate) struct SessionWatch<'a, C: Ledger, A: Ledger, R, M, J> {
-    pub(crate) seats: &'a SeatContext<C, A, R, M, J>,
+pub(crate) struct SessionWatch<'a, C: Ledger, A: Ledger, R, M, J, N: ChronicleName> {
+    pub(crate) seats: &'a SeatContext<C, A, R, M, J, N>,
     /// The place of its point in the site.
     pub(crate) place: usize,
     /// The link of a point. An operator has none.
     pub(crate) link: Option<u64>,
 }
 
-impl<C: Ledger, A: Ledger, R: Wait + Clock, M: Moments, J: Journal> SessionWatch<
-    '_,
-    C,
-    A,
-    R,
-    M,
-    J,
-> {
+impl<
+    C: Ledger,
+    A: Ledger,
+    R: Wait + Clock,
+    M: Moments,
+    J: Journal<N>,
+    N: ChronicleName,
+> SessionWatch<'_, C, A, R, M, J, N> {
     /// It has begun.
     pub(crate) fn begin(&self, core: &SessionCore) {
         let seats = self.seats;

@@ -6,6 +6,7 @@ use crate::serving::ServeFault;
 use crate::status_service::StatusService;
 use crate::status_stream::StatusStream;
 use crate::watched_journal::WatchedJournal;
+use chronicle::ChronicleName;
 use http_server::{Config, Connection, serve};
 use ocpp_scalars::Moments;
 use std::alloc::{AllocError, Global};
@@ -34,23 +35,30 @@ const LONGEST_BODY: usize = 0;
 
 /// What the threads of a status port share.
 #[derive(Drop)]
-pub struct StatusPort<C: Ledger, A: Ledger, R, M, J> {
+pub struct StatusPort<C: Ledger, A: Ledger, R, M, J, N: ChronicleName> {
     pub(crate) rt: R,
     pub(crate) alloc: Global,
     /// The address that is listened at, as it was given, where only requests for this machine are
     /// answered. None where it is open to others, who may have any name for it.
     pub(crate) address: Option<String>,
     /// What is watched. None while the site is being restored.
-    pub(crate) seats: Mutex<Option<SharedSeats<C, A, R, M, J>>>,
+    pub(crate) seats: Mutex<Option<SharedSeats<C, A, R, M, J, N>>>,
 }
 
 /// What the seats of a site share.
-pub(crate) type SharedSeats<C, A, R, M, J> = Arc<SeatContext<C, A, R, M, J>, Global>;
+pub(crate) type SharedSeats<C, A, R, M, J, N> = Arc<SeatContext<C, A, R, M, J, N>, Global>;
 
-impl<C: Ledger, A: Ledger, R: Wait + Drop, M: Drop, J: Drop> StatusPort<C, A, R, M, J> {
+impl<C: Ledger, A: Ledger, R: Wait + Drop, M: Drop, J: Drop, N: ChronicleName> StatusPort<
+    C,
+    A,
+    R,
+    M,
+    J,
+    N,
+> {
     /// The port of a site that is being restored, at this address if it answers only requests for this
     /// machine.
-    pub fn new(rt: R, alloc: Global, address: Option<String>) -> StatusPort<C, A, R, M, J> {
+    pub fn new(rt: R, alloc: Global, address: Option<String>) -> StatusPort<C, A, R, M, J, N> {
         StatusPort {
             rt,
             alloc,
@@ -60,14 +68,17 @@ impl<C: Ledger, A: Ledger, R: Wait + Drop, M: Drop, J: Drop> StatusPort<C, A, R,
     }
 
     /// The site is restored: from now on this is watched.
-    pub fn watch(&self, seats: &Arc<SeatContext<C, A, R, M, J>, Global>) -> Result<(), AllocError> {
+    pub fn watch(
+        &self,
+        seats: &Arc<SeatContext<C, A, R, M, J, N>, Global>,
+    ) -> Result<(), AllocError> {
         let seats = Arc::try_clone(seats)?;
         *self.seats.lock(&self.rt) = Some(seats);
         Ok(())
     }
 
     /// What is watched, if the site is restored.
-    pub(crate) fn seats(&self) -> Result<Option<SharedSeats<C, A, R, M, J>>, AllocError> {
+    pub(crate) fn seats(&self) -> Result<Option<SharedSeats<C, A, R, M, J, N>>, AllocError> {
         let seats = self.seats.lock(&self.rt);
         match &*seats {
             Some(seats) => Ok(Some(Arc::try_clone(seats)?)),
@@ -83,7 +94,11 @@ pub fn begin_status<
     R: Threads + Wait + Clock + RandomSource + Copy + Send + Sync + Drop + 'static,
     M: Moments + Send + Sync + Drop + 'static,
     J: WatchedJournal + Send + Sync + Drop + 'static,
->(port: &Arc<StatusPort<C, A, R, M, J>, Global>, listener: TcpListener) -> Result<(), ServeFault> {
+    N: ChronicleName + Send + Sync + Drop + 'static,
+>(
+    port: &Arc<StatusPort<C, A, R, M, J, N>, Global>,
+    listener: TcpListener,
+) -> Result<(), ServeFault> {
     let Ok(listener) = Arc::new(port.alloc, listener) else {
         return Err(ServeFault::OutOfMemory);
     };
@@ -106,7 +121,8 @@ fn answer_all<
     R: Wait + Clock + RandomSource + Drop,
     M: Moments + Drop,
     J: WatchedJournal + Drop,
->(port: &StatusPort<C, A, R, M, J>, listener: &TcpListener) {
+    N: ChronicleName,
+>(port: &StatusPort<C, A, R, M, J, N>, listener: &TcpListener) {
     for _connection in port.rt.forever() {
         match listener.accept() {
             Ok((stream, _)) => {
@@ -125,7 +141,8 @@ fn answer_connection<
     R: Wait + Clock + RandomSource + Drop,
     M: Moments + Drop,
     J: WatchedJournal + Drop,
->(port: &StatusPort<C, A, R, M, J>, stream: &TcpStream) -> io::Result<()> {
+    N: ChronicleName,
+>(port: &StatusPort<C, A, R, M, J, N>, stream: &TcpStream) -> io::Result<()> {
     let now = Instant::now(&port.rt)?;
     let Some(deadline) = now.checked_add(Duration::from_secs(LONGEST_STATUS)) else {
         return Ok(());

@@ -6,6 +6,7 @@ use crate::site_watch::Seen;
 use crate::status_port::StatusPort;
 use crate::watched_journal::WatchedJournal;
 use bytes::Bytes;
+use chronicle::ChronicleName;
 use http::{HeaderName, HeaderValue, Method, Request, StatusCode};
 use http_server::{Response, Service};
 use ocpp_scalars::Moments;
@@ -19,12 +20,18 @@ use std::sync::ledger::Ledger;
 
 /// Answers the requests of a status port.
 #[derive(Drop)]
-pub(crate) struct StatusService<'a, C: Ledger, A: Ledger, R, M, J> {
-    pub(crate) port: &'a StatusPort<C, A, R, M, J>,
+pub(crate) struct StatusService<'a, C: Ledger, A: Ledger, R, M, J, N: ChronicleName> {
+    pub(crate) port: &'a StatusPort<C, A, R, M, J, N>,
 }
 
-impl<C: Ledger, A: Ledger, R: Wait + Drop, M: Moments + Drop, J: WatchedJournal + Drop> Service
-    for StatusService<'_, C, A, R, M, J> {
+impl<
+    C: Ledger,
+    A: Ledger,
+    R: Wait + Drop,
+    M: Moments + Drop,
+    J: WatchedJournal + Drop,
+    N: ChronicleName,
+> Service for StatusService<'_, C, A, R, M, J, N> {
     ghost answers = { λ _ _ _ _. Unit {0} };
 
     fn call(
@@ -67,7 +74,8 @@ impl<
     R: Wait + Drop,
     M: Moments + Drop,
     J: WatchedJournal + Drop,
-> StatusService<'_, C, A, R, M, J> {
+    N: ChronicleName,
+> StatusService<'_, C, A, R, M, J, N> {
     /// Whether a request is for this machine, where that is wanted.
     fn is_for_us(&self, request: &Request<Bytes>) -> bool {
         match &self.port.address {
@@ -95,8 +103,8 @@ impl<
 }
 
 /// What is answered at a path that wants to know what the site has.
-fn answer_by<C: Ledger, A: Ledger, R: Wait, M: Moments, J>(
-    seats: &SeatContext<C, A, R, M, J>,
+fn answer_by<C: Ledger, A: Ledger, R: Wait, M: Moments, J, N: ChronicleName>(
+    seats: &SeatContext<C, A, R, M, J, N>,
     journal: JournalReport,
     path: StatusPath<'_>,
 ) -> Result<StatusAnswer, AllocError> {

@@ -3,6 +3,7 @@
 use crate::handshake::{ClientRequest, Unshaken};
 use crate::refused_request::push_path;
 use crate::seat_context::SeatContext;
+use chronicle::ChronicleName;
 use ocpp_scalars::Moments;
 use std::alloc::{AllocError, Global};
 use std::net::SocketAddr;
@@ -12,8 +13,8 @@ use std::sync::ledger::Ledger;
 
 /// Says that a connection wasn't let in. One that failed by itself, as a probe of the port does, is
 /// none of these.
-pub(crate) fn note_unshaken<C: Ledger, A: Ledger, R: Wait + Clock, M: Moments, J>(
-    seats: &SeatContext<C, A, R, M, J>,
+pub(crate) fn note_unshaken<C: Ledger, A: Ledger, R: Wait + Clock, M: Moments, J, N: ChronicleName>(
+    seats: &SeatContext<C, A, R, M, J, N>,
     unshaken: Unshaken,
     from: Option<SocketAddr>,
 ) {
@@ -24,8 +25,8 @@ pub(crate) fn note_unshaken<C: Ledger, A: Ledger, R: Wait + Clock, M: Moments, J
 
 /// Says that a connection was closed since the site has no point of its path, or since its client
 /// didn't offer OCPP 1.6.
-pub(crate) fn note_unknown<C: Ledger, A: Ledger, R: Wait + Clock, M: Moments, J>(
-    seats: &SeatContext<C, A, R, M, J>,
+pub(crate) fn note_unknown<C: Ledger, A: Ledger, R: Wait + Clock, M: Moments, J, N: ChronicleName>(
+    seats: &SeatContext<C, A, R, M, J, N>,
     asked: &ClientRequest,
     from: Option<SocketAddr>,
 ) {
@@ -43,8 +44,8 @@ fn push_unknown(what: &mut String, asked: &ClientRequest) -> Result<(), AllocErr
     push_path(what, asked.path.as_str())
 }
 
-fn note_refused<C: Ledger, A: Ledger, R: Wait + Clock, M: Moments, J>(
-    seats: &SeatContext<C, A, R, M, J>,
+fn note_refused<C: Ledger, A: Ledger, R: Wait + Clock, M: Moments, J, N: ChronicleName>(
+    seats: &SeatContext<C, A, R, M, J, N>,
     from: Option<SocketAddr>,
     what: Result<String, AllocError>,
 ) {

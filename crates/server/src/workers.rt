@@ -4,6 +4,7 @@ ghost use Rattle.std.specs.Prelude.{◌≡◌, ◌≤◌, ◌+◌, ◌/◌};
 
 use crate::seat_context::SeatContext;
 use crate::serving::ServeFault;
+use chronicle::ChronicleName;
 use compile_pool::{Jobs, MAX_JOBS, Open, run_pool};
 use crossbeam_channel::{Sender, bounded};
 use std::alloc::{AllocError, Global};
@@ -49,8 +50,9 @@ pub(crate) fn begin_workers<
     R: Threads + Wait + Copy + Send + Sync + Drop + 'static,
     M: Send + Sync + Drop + 'static,
     J: Send + Sync + Drop + 'static,
+    N: ChronicleName + Send + Sync + Drop + 'static,
 >(
-    context: &Arc<SeatContext<C, A, R, M, J>, Global>,
+    context: &Arc<SeatContext<C, A, R, M, J, N>, Global>,
     workers: usize,
 ) -> Result<JobSenders, ServeFault>
     requires { 1 ≤ workers }
@@ -70,8 +72,9 @@ fn begin_pool<
     R: Threads + Wait + Copy + Send + Sync + Drop + 'static,
     M: Send + Sync + Drop + 'static,
     J: Send + Sync + Drop + 'static,
+    N: ChronicleName + Send + Sync + Drop + 'static,
 >(
-    context: &Arc<SeatContext<C, A, R, M, J>, Global>,
+    context: &Arc<SeatContext<C, A, R, M, J, N>, Global>,
     workers: usize,
     most_waiting: usize,
 ) -> Result<Sender<Job>, ServeFault>

@@ -13,6 +13,7 @@ use Rattle.site_core.specs.declared.step.Step.TheVariants as steps
 use Rattle.site_core.specs.declared.reply.Reply.{Reply}
 use Rattle.site_core.specs.declared.reply.Reply.TheVariants as replies
 use Rattle.site_core.specs.Equal.{AreOne, same_request}
+use Rattle.site_core.specs.State.{MachineState}
 use Rattle.site_core.specs.Step.{Made}
 use Rattle.version_store.specs.Passes.{PassState}
 use Rattle.version_store.specs.Store.{StoreState, IsStore}
@@ -21,6 +22,7 @@ use Rattle.site_journal.specs.Entry.{EntryState, IsEntryOf}
 use Rattle.site_journal.specs.Line.{NotedState, noted_state}
 use Rattle.site_journal.specs.Line as kinds
 use Rattle.site_journal.specs.declared.line.Noted.{Noted}
+use Rattle.site_journal.specs.MadeStep.{IsOfMadeStep}
 use Rattle.site_journal.specs.NotedStep.{ChangesAreRestored, ConfirmsAreRestored, VerdictsAreRestored, LinksAreRestored, SendsAreRestored, LossesAreRestored, IsStep, LeadsTo, line_at, noted_by}
 use Rattle.site_journal.specs.Restore.{is_change, number_drawn}
 use Rattle.texts.specs.declared.asked.Asked.TheVariants as asked
@@ -32,7 +34,7 @@ use Rattle.session.specs.declared.outcome.Outcome.TheVariants as outcomes
 use Rattle.session.specs.declared.outcome.Performed.{Performed}
 use Rattle.session.specs.declared.outcome.Performed.TheVariants.{Outcome}
 use Rattle.session.specs.Audit.{IsVerdictNoted, reply_noted}
-use Rattle.session.specs.Noting.{IsOfMadeStep, IsEntryAt, IsEntryFor, IsEntryToNote, AsksFor, IsNotable, is_confirm}
+use Rattle.session.specs.Noting.{IsEntryAt, IsEntryFor, IsEntryToNote, AsksFor, IsNotable, is_confirm}
 use Rattle.session.specs.Perform.{Performs}
 use Rattle.session.proofs.UnreadReply.{is_unread}
 use Rattle.session.proofs.VerdictLemmas.{AreComputed, verdict_leads}
@@ -50,10 +52,12 @@ made_step old new step told (inr alone) =
 
 -- ---- links
 
-attached_made : (point : List ℕ) (entry : EntryState) (link : ℕ) (old new : StoreState)
+attached_made : (earlier later : MachineState → Type 0)
+    (point : List ℕ) (entry : EntryState) (link : ℕ) (old new : StoreState)
     → LinksAreRestored → IsEntryAt point (kinds.attached 0) entry → IsStore old
-    → Makes old (steps.Attach point) (replies.Attached link) new → IsOfMadeStep entry link
-attached_made point entry link old new law at store makes = record {
+    → Makes old (steps.Attach point) (replies.Attached link) new → earlier old.present → later new.present
+    → IsOfMadeStep entry link earlier later
+attached_made earlier later point entry link old new law at store makes earlier_is later_is = record {
   line = line_at at.0 point (kinds.attached 0);
   entry_is = at.1;
   old = old;
@@ -64,30 +68,36 @@ attached_made point entry link old new law at store makes = record {
   makes = makes;
   leads = law old.present at.0 point link (after (replies.Attached link) new)
       (made_step old new (steps.Attach point) (replies.Attached link) makes) refl;
+  was_before = earlier_is;
+  is_after = later_is;
 }
 
 -- a link that a point got, as the code has it
-pub attached_noted : (point there : List ℕ) (maybe : Option EntryState) (entry : EntryState)
+pub attached_noted : (earlier later : MachineState → Type 0)
+    (point there : List ℕ) (maybe : Option EntryState) (entry : EntryState)
     (link : ℕ) (result : Result ℕ Refusal) (locked old new : StoreState) (was pass : PassState)
     → LinksAreRestored → IfSome maybe (IsEntryAt there (kinds.attached 0)) → maybe ≡ Some entry
     → there ≡ point → IsStore locked → old ≡ locked
     → IfOk result (λ (l : ℕ). Calls old was (steps.Attach point) (replies.Attached l) new pass)
-    → result ≡ Ok link → IsOfMadeStep entry link
-attached_noted point there maybe entry link result locked old new was pass law at entry_is same store
-    locked_is calls result_is =
+    → result ≡ Ok link → earlier old.present → later new.present
+    → IsOfMadeStep entry link earlier later
+attached_noted earlier later point there maybe entry link result locked old new was pass law at entry_is same store
+    locked_is calls result_is earlier_is later_is =
     let made = subst (λ (r : Result ℕ Refusal). IfOk r (λ (l : ℕ).
     Calls old was (steps.Attach point) (replies.Attached l) new pass)) result_is calls in
-    attached_made point entry link old new law
+    attached_made earlier later point entry link old new law
     (subst (λ p. IsEntryAt p (kinds.attached 0) entry) same
     (subst (λ (e : Option EntryState). IfSome e (IsEntryAt there (kinds.attached 0))) entry_is at))
-    (subst IsStore (sym locked_is) store) made.makes
+    (subst IsStore (sym locked_is) store) made.makes earlier_is later_is
 
-sent_made : (moment : ℕ) (point : List ℕ) (link : ℕ) (entry : EntryState) (call : Call)
+sent_made : (earlier later : MachineState → Type 0)
+    (moment : ℕ) (point : List ℕ) (link : ℕ) (entry : EntryState) (call : Call)
     (old new : StoreState)
     → SendsAreRestored → IsEntryOf entry (line_at moment point (kinds.sent link 0)) → IsStore old
     → Makes old (steps.Send point link) (replies.Sent call) new
-    → IsOfMadeStep entry call.number
-sent_made moment point link entry call old new law entry_is store makes = record {
+    → earlier old.present → later new.present
+    → IsOfMadeStep entry call.number earlier later
+sent_made earlier later moment point link entry call old new law entry_is store makes earlier_is later_is = record {
   line = line_at moment point (kinds.sent link 0);
   entry_is = entry_is;
   old = old;
@@ -98,31 +108,38 @@ sent_made moment point link entry call old new law entry_is store makes = record
   makes = makes;
   leads = law old.present moment point link call (after (replies.Sent call) new)
       (made_step old new (steps.Send point link) (replies.Sent call) makes) refl;
+  was_before = earlier_is;
+  is_after = later_is;
 }
 
 -- a call that went out
-pub sent_noted : (moment : ℕ) (point there : List ℕ) (link : ℕ) (maybe : Option EntryState)
+pub sent_noted : (earlier later : MachineState → Type 0)
+    (moment : ℕ) (point there : List ℕ) (link : ℕ) (maybe : Option EntryState)
     (entry : EntryState) (call : Call) (result : Result (Option Call) Refusal)
     (locked old new : StoreState)
     → SendsAreRestored
     → IfSome maybe (λ (e : EntryState). IsEntryOf e (line_at moment there (kinds.sent link 0)))
     → maybe ≡ Some entry → there ≡ point → IsStore locked → old ≡ locked
     → IfOk result (λ (c : Option Call). Makes old (steps.Send point link) (sending c) new)
-    → result ≡ Ok (Some call) → IsOfMadeStep entry call.number
-sent_noted moment point there link maybe entry call result locked old new law at entry_is same store
-    locked_is makes result_is =
-    sent_made moment point link entry call old new law
+    → result ≡ Ok (Some call) → earlier old.present → later new.present
+    → IsOfMadeStep entry call.number earlier later
+sent_noted earlier later moment point there link maybe entry call result locked old new law at entry_is same store
+    locked_is makes result_is earlier_is later_is =
+    sent_made earlier later moment point link entry call old new law
     (subst (λ p. IsEntryOf entry (line_at moment p (kinds.sent link 0))) same
     (subst (λ (m : Option EntryState). IfSome m (λ (e : EntryState).
     IsEntryOf e (line_at moment there (kinds.sent link 0)))) entry_is at))
     (subst IsStore (sym locked_is) store)
     (subst (λ (r : Result (Option Call) Refusal). IfOk r (λ (c : Option Call).
     Makes old (steps.Send point link) (sending c) new)) result_is makes)
+    earlier_is later_is
 
-lost_made : (point : List ℕ) (link : ℕ) (entry : EntryState) (old new : StoreState)
+lost_made : (earlier later : MachineState → Type 0)
+    (point : List ℕ) (link : ℕ) (entry : EntryState) (old new : StoreState)
     → LossesAreRestored → IsEntryAt point (kinds.lost link) entry → IsStore old
-    → Makes old (steps.Lost point link) replies.LinkLost new → IsOfMadeStep entry 0
-lost_made point link entry old new law at store makes = record {
+    → Makes old (steps.Lost point link) replies.LinkLost new → earlier old.present → later new.present
+    → IsOfMadeStep entry 0 earlier later
+lost_made earlier later point link entry old new law at store makes earlier_is later_is = record {
   line = line_at at.0 point (kinds.lost link);
   entry_is = at.1;
   old = old;
@@ -133,24 +150,29 @@ lost_made point link entry old new law at store makes = record {
   makes = makes;
   leads = law old.present at.0 point link (after replies.LinkLost new)
       (made_step old new (steps.Lost point link) replies.LinkLost makes);
+  was_before = earlier_is;
+  is_after = later_is;
 }
 
 -- a link that was lost
-pub lost_noted : (point there : List ℕ) (link : ℕ) (maybe : Option EntryState)
+pub lost_noted : (earlier later : MachineState → Type 0)
+    (point there : List ℕ) (link : ℕ) (maybe : Option EntryState)
     (entry : EntryState) (result : Result (Unit {0}) Refusal) (done : Unit {0})
     (locked old new : StoreState)
     → LossesAreRestored → IfSome maybe (IsEntryAt there (kinds.lost link)) → maybe ≡ Some entry
     → there ≡ point → IsStore locked → old ≡ locked
     → IfOk result (λ (d : Unit {0}). Makes old (steps.Lost point link) replies.LinkLost new)
-    → result ≡ Ok done → IsOfMadeStep entry 0
-lost_noted point there link maybe entry result done locked old new law at entry_is same store
-    locked_is makes result_is =
-    lost_made point link entry old new law
+    → result ≡ Ok done → earlier old.present → later new.present
+    → IsOfMadeStep entry 0 earlier later
+lost_noted earlier later point there link maybe entry result done locked old new law at entry_is same store
+    locked_is makes result_is earlier_is later_is =
+    lost_made earlier later point link entry old new law
     (subst (λ p. IsEntryAt p (kinds.lost link) entry) same
     (subst (λ (e : Option EntryState). IfSome e (IsEntryAt there (kinds.lost link))) entry_is at))
     (subst IsStore (sym locked_is) store)
     (subst (λ (r : Result (Unit {0}) Refusal). IfOk r (λ (d : Unit {0}).
     Makes old (steps.Lost point link) replies.LinkLost new)) result_is makes)
+    earlier_is later_is
 
 -- the verdict is the one on the reply that is noted
 on_noted : (text : Sent) (moment : ℕ) (point : List ℕ) (judged : Judgement) (short : Bool)
@@ -177,16 +199,18 @@ verdict_line old moment point call frame text judged made short law one computed
     step
 
 -- a verdict that was kept
-pub verdict_noted : (text : Sent) (short : Bool) (moment : ℕ) (there point : List ℕ) (call : ℕ)
+pub verdict_noted : (earlier later : MachineState → Type 0)
+    (text : Sent) (short : Bool) (moment : ℕ) (there point : List ℕ) (call : ℕ)
     (frame : List ℕ) (judged : Judgement) (maybe : Option EntryState) (entry : EntryState)
     (locked old new : StoreState)
     → VerdictsAreRestored → AreOne same_request → AreComputed
     → frame ≡ reply_noted short text.frame → IsVerdictNoted text judged short
     → IfSome maybe (λ (e : EntryState). IsEntryOf e (line_at moment there (kinds.verdict call frame)))
     → maybe ≡ Some entry → there ≡ point → IsStore locked → old ≡ locked
-    → Makes old (steps.Judge point call judged) replies.VerdictKept new → IsOfMadeStep entry call
-verdict_noted text short moment there point call frame judged maybe entry locked old new law one
-    computed frame_is right at entry_is same store locked_is makes = record {
+    → Makes old (steps.Judge point call judged) replies.VerdictKept new → earlier old.present → later new.present
+    → IsOfMadeStep entry call earlier later
+verdict_noted earlier later text short moment there point call frame judged maybe entry locked old new law one
+    computed frame_is right at entry_is same store locked_is makes earlier_is later_is = record {
       line = line_at moment there (kinds.verdict call frame);
       entry_is = subst (λ (m : Option EntryState). IfSome m (λ (e : EntryState).
           IsEntryOf e (line_at moment there (kinds.verdict call frame)))) entry_is at;
@@ -201,6 +225,8 @@ verdict_noted text short moment there point call frame judged maybe entry locked
           (verdict_line old moment point call frame text judged (after replies.VerdictKept new)
           short law one computed frame_is right
           (made_step old new (steps.Judge point call judged) replies.VerdictKept makes));
+      was_before = earlier_is;
+      is_after = later_is;
     }
 
 -- ---- messages
@@ -276,10 +302,12 @@ asks_by_a_call : (text : Sent) (step : Step) → is_confirm step ≡ false → A
 asks_by_a_call text (steps.Confirm point link call accepted) is asks = absurd (cc)
 asks_by_a_call text step is asks = asks
 
-change_made : (entry : EntryState) (told : Reply) (new : StoreState) (number : ℕ)
-    → ChangesAreRestored → IsNotable entry false (Outcome (outcomes.Made told)) new
-    → number_drawn told new.present.numbers.version ≡ Some number → IsOfMadeStep entry number
-change_made entry told new number law notable drawn =
+change_made : (earlier later : MachineState → Type 0)
+    (entry : EntryState) (told : Reply) (new : StoreState) (number : ℕ)
+    → ChangesAreRestored → IsNotable entry false (Outcome (outcomes.Made told)) earlier new
+    → number_drawn told new.present.numbers.version ≡ Some number → later new.present
+    → IsOfMadeStep entry number earlier later
+change_made earlier later entry told new number law notable drawn later_is =
     let it = notable.entry_is in
     let no_confirm = sym notable.confirms_is in
     let noted = noted_message notable.step it.text.sender it.text.frame it.noted no_confirm it.noted_is in
@@ -296,33 +324,41 @@ change_made entry told new number law notable drawn =
       makes = makes;
       leads = law notable.old.present it.text asks.0 asks.1 notable.step (after told new) number
           asks.2 noted.0 (made_step notable.old new notable.step told makes) drawn;
+      was_before = notable.was_before;
+      is_after = later_is;
     }
 
 -- what was performed and is noted, as the code has it
-abbrev AreNotable : Option EntryState → Bool → Performed → StoreState → Type 0
-AreNotable maybe confirms performed new =
-    IfSome maybe (λ (e : EntryState). IsNotable e confirms performed new)
+abbrev AreNotable : Option EntryState → Bool → Performed → (MachineState → Type 0) → StoreState
+    → Type 0
+AreNotable maybe confirms performed earlier new =
+    IfSome maybe (λ (e : EntryState). IsNotable e confirms performed earlier new)
 
-pub change_noted : (maybe : Option EntryState) (entry : EntryState) (confirms : Bool)
+pub change_noted : (earlier later : MachineState → Type 0)
+    (maybe : Option EntryState) (entry : EntryState) (confirms : Bool)
     (performed : Performed) (told : Reply) (new : StoreState) (number : ℕ)
-    → ChangesAreRestored → AreNotable maybe confirms performed new
+    → ChangesAreRestored → AreNotable maybe confirms performed earlier new
     → maybe ≡ Some entry → confirms ≡ false → performed ≡ Outcome (outcomes.Made told)
-    → number_drawn told new.present.numbers.version ≡ Some number → IsOfMadeStep entry number
-change_noted maybe entry confirms performed told new number law notable entry_is confirms_is
-    performed_is drawn =
-    change_made entry told new number law
-    (subst (λ (p : Performed). IsNotable entry false p new) performed_is
-    (subst (λ b. IsNotable entry b performed new) confirms_is
-    (subst (λ (m : Option EntryState). AreNotable m confirms performed new) entry_is notable)))
-    drawn
+    → number_drawn told new.present.numbers.version ≡ Some number → later new.present
+    → IsOfMadeStep entry number earlier later
+change_noted earlier later maybe entry confirms performed told new number law notable entry_is
+    confirms_is performed_is drawn later_is =
+    change_made earlier later entry told new number law
+    (subst (λ (p : Performed). IsNotable entry false p earlier new) performed_is
+    (subst (λ b. IsNotable entry b performed earlier new) confirms_is
+    (subst (λ (m : Option EntryState). AreNotable m confirms performed earlier new) entry_is
+    notable)))
+    drawn later_is
 
 -- a confirm is what it performs, and is noted with its reply
-confirm_made : (step : Step) (entry : EntryState) (told : Reply) (old new : StoreState)
+confirm_made : (earlier later : MachineState → Type 0)
+    (step : Step) (entry : EntryState) (told : Reply) (old new : StoreState)
     (was pass : PassState) → ConfirmsAreRestored → IsEntryToNote step entry
     → is_confirm step ≡ true → IsStore old
-    → Performs old was step (Outcome (outcomes.Made told)) new pass → IsOfMadeStep entry 0
-confirm_made (steps.Confirm point link call accepted) entry told old new was pass law it is store
-    performs =
+    → Performs old was step (Outcome (outcomes.Made told)) new pass → earlier old.present → later new.present
+    → IsOfMadeStep entry 0 earlier later
+confirm_made earlier later (steps.Confirm point link call accepted) entry told old new was pass law it
+    is store performs earlier_is later_is =
     let own = it.asks.1 in
     let same : it.noted ≡ kinds.reply link it.text.frame = cc (it.noted_is) in
     record {
@@ -338,18 +374,24 @@ confirm_made (steps.Confirm point link call accepted) entry told old new was pas
           (subst (λ p. asked_of it.text ≡ asked.Confirm p call accepted) own it.asks.2)
           (subst (λ p. IsStep old.present (steps.Confirm p link call accepted) (after told new)) own
           (made_step old new (steps.Confirm point link call accepted) told performs.0));
+      was_before = earlier_is;
+      is_after = later_is;
     }
-confirm_made step entry told old new was pass law it is store performs = absurd (cc)
+confirm_made earlier later step entry told old new was pass law it is store performs earlier_is
+    later_is = absurd (cc)
 
-pub confirm_noted : (maybe : Option EntryState) (entry : EntryState) (confirms : Bool)
+pub confirm_noted : (earlier later : MachineState → Type 0)
+    (maybe : Option EntryState) (entry : EntryState) (confirms : Bool)
     (performed : Performed) (told : Reply) (new : StoreState)
-    → ConfirmsAreRestored → AreNotable maybe confirms performed new
+    → ConfirmsAreRestored → AreNotable maybe confirms performed earlier new
     → maybe ≡ Some entry → confirms ≡ true → performed ≡ Outcome (outcomes.Made told)
-    → IsOfMadeStep entry 0
-confirm_noted maybe entry confirms performed told new law notable entry_is confirms_is
-    performed_is =
-    let it = subst (λ (p : Performed). IsNotable entry true p new) performed_is
-    (subst (λ b. IsNotable entry b performed new) confirms_is
-    (subst (λ (m : Option EntryState). AreNotable m confirms performed new) entry_is notable)) in
-    confirm_made it.step entry told it.old new it.was it.pass law it.entry_is
-    (sym it.confirms_is) it.store it.performs
+    → later new.present
+    → IsOfMadeStep entry 0 earlier later
+confirm_noted earlier later maybe entry confirms performed told new law notable entry_is confirms_is
+    performed_is later_is =
+    let it = subst (λ (p : Performed). IsNotable entry true p earlier new) performed_is
+    (subst (λ b. IsNotable entry b performed earlier new) confirms_is
+    (subst (λ (m : Option EntryState). AreNotable m confirms performed earlier new) entry_is
+    notable)) in
+    confirm_made earlier later it.step entry told it.old new it.was it.pass law it.entry_is
+    (sym it.confirms_is) it.store it.performs it.was_before later_is

@@ -5,4 +5,5 @@ pub mod Perform
 pub mod Serving
 pub mod Audit
 pub mod Served
+pub mod Leaving
 pub mod Noting

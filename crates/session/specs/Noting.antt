@@ -4,35 +4,23 @@ use Rattle.messages.specs.declared.action_kind.ActionKind.{ActionKind}
 use Rattle.messages.specs.declared.side.Side.TheVariants.{Point}
 use Rattle.site_core.specs.declared.step.Step.{Step}
 use Rattle.site_core.specs.declared.step.Step.TheVariants as steps
-use Rattle.site_core.specs.declared.reply.Reply.{Reply}
-use Rattle.site_core.specs.Step.{Made}
+use Rattle.site_core.specs.State.{MachineState}
 use Rattle.version_store.specs.Passes.{PassState}
 use Rattle.version_store.specs.Store.{StoreState, IsStore}
-use Rattle.version_store.specs.Calls.{Makes}
-use Rattle.site_journal.specs.Entry.{EntryState, IsEntryOf, numbered}
-use Rattle.site_journal.specs.Line.{NotedState, LineState}
-use Rattle.site_journal.specs.NotedStep.{LeadsTo, line_at, noted_by}
+use Rattle.site_journal.specs.Entry.{EntryState, IsEntryOf}
+use Rattle.site_journal.specs.Line.{NotedState}
+use Rattle.site_journal.specs.NotedStep.{line_at, noted_by}
 use Rattle.texts.specs.declared.asked.Asked.TheVariants as asked
 use Rattle.texts.specs.Asked.{asked_of}
 use Rattle.texts.specs.SentText.{Sent}
 use Rattle.session.specs.declared.outcome.Performed.{Performed}
 use Rattle.session.specs.Perform.{Performs}
 
--- ---- a line of a step that was made
+-- ---- what is noted of a link
 
--- A step was made on the book while the session had it, and the entry with this number is a line that
--- leads where the step led.
-pub record IsOfMadeStep (entry : EntryState) (number : ℕ) : Type 0 where
-  pub line : LineState
-  pub entry_is : IsEntryOf entry line
-  pub old : StoreState
-  pub new : StoreState
-  pub step : Step
-  pub told : Reply
-  pub store : IsStore old
-  pub makes : Makes old step told new
-  pub leads : LeadsTo old.present (numbered line number)
-      (record { reply = told; after = new.present })
+-- the state that a book has
+abbrev pub IsPresent : StoreState → MachineState → Type 0
+IsPresent book state = state ≡ book.present
 
 -- an entry of what is noted of a point, at some moment
 abbrev pub IsEntryAt : List ℕ → NotedState → EntryState → Type 0
@@ -65,9 +53,10 @@ abbrev pub is_confirm : Step → Bool
 is_confirm (steps.Confirm point link call accepted) = true
 is_confirm step = false
 
--- A step was performed on the book, which is this one since, and the entry is to note it.
+-- A step was performed on the book, which is this one since, and the entry is to note it. What was
+-- recorded of the book ended with the state before it.
 pub record IsNotable (entry : EntryState) (confirms : Bool) (performed : Performed)
-    (new : StoreState) : Type 0 where
+    (before : MachineState → Type 0) (new : StoreState) : Type 0 where
   pub step : Step
   pub entry_is : IsEntryToNote step entry
   pub confirms_is : confirms ≡ is_confirm step
@@ -76,3 +65,4 @@ pub record IsNotable (entry : EntryState) (confirms : Bool) (performed : Perform
   pub pass : PassState
   pub store : IsStore old
   pub performs : Performs old was step performed new pass
+  pub was_before : before old.present

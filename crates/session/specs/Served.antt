@@ -5,8 +5,10 @@ use Rattle.ocpp_scalars.specs.declared.instant.Instant.{Instant}
 use Rattle.ocpp_scalars.specs.declared.refusal.Refusal.TheVariants.{OutOfMemory, UnknownRequest}
 use Rattle.site_core.specs.declared.step.Step.{Step}
 use Rattle.site_core.specs.Right.{IsRight}
+use Rattle.site_core.specs.State.{MachineState}
 use Rattle.version_store.specs.Answers.{RequestedJob, HandedAnswer}
 use Rattle.version_store.specs.Passes.{PassState}
+use Rattle.version_store.specs.Recording.{RecordedState, IsAt}
 use Rattle.version_store.specs.Store.{StoreState, IsStore}
 use Rattle.texts.specs.SentText.{Sent}
 use Rattle.session.specs.declared.todo.Owed.{Owed}
@@ -39,31 +41,39 @@ ComesTo (performs.Job job) outcome = IsOutcomeOfJob job outcome
 ComesTo (performs.Outcome made) outcome = outcome ≡ made
 
 -- The one call that a step stands for was made on the book while the session had it. The audit that
--- it replies to, if it does, was read just before.
-pub record IsPerformed (was : PassState) (step : Step) (performed : Performed)
-    (audit : Option OpenAudit) : Type 0 where
+-- it replies to, if it does, was read just before. What was recorded of the book ended with the
+-- state after it.
+pub record IsPerformed (was : PassState) (seen : MachineState → Type 0) (step : Step)
+    (performed : Performed) (audit : Option OpenAudit) : Type 0 where
   pub old : StoreState
   pub new : StoreState
   pub pass : PassState
   pub store : IsStore old
   pub performs : Performs old was step performed new pass
   pub audit_is : audit ≡ audit_confirmed old.present step
+  pub is_seen : seen new.present
 
 -- The outcome of a session's own step: for a request of a schedule, the answer that is right for
 -- what its point had at this very Take. A point's reply to its audit is judged.
-pub record IsOutcomeOf (was : PassState) (text : Sent) (step : Step) (outcome : Outcome)
-    : Type 0 where
+pub record IsOutcomeOf (was : PassState) (seen : MachineState → Type 0) (text : Sent) (step : Step)
+    (outcome : Outcome) : Type 0 where
   pub performed : Performed
   pub audit : Option OpenAudit
-  pub is_performed : IsPerformed was step performed audit
+  pub is_performed : IsPerformed was seen step performed audit
   pub comes : ComesTo performed outcome
   pub judges : JudgesReply text performed audit
 
 -- a message without a step has no outcome
-abbrev pub HasOutcome : PassState → Sent → Option Step → Option Outcome → Type 0
-HasOutcome was text None None = Unit {0}
-HasOutcome was text (Some step) (Some outcome) = IsOutcomeOf was text step outcome
-HasOutcome was text _ _ = ⊥
+abbrev pub HasOutcome : PassState → (MachineState → Type 0) → Sent → Option Step → Option Outcome
+    → Type 0
+HasOutcome was seen text None None = Unit {0}
+HasOutcome was seen text (Some step) (Some outcome) = IsOutcomeOf was seen text step outcome
+HasOutcome was seen text _ _ = ⊥
+
+-- whether what was recorded by a step, if there was one, ended with a state
+abbrev pub seen_at : Option RecordedState → MachineState → Type 0
+seen_at None state = ⊥
+seen_at (Some seen) state = IsAt seen state
 
 -- what a message asks for, or the answer alone where its step can't be noted
 abbrev pub IsTodoOrUnnoted : SessionState → Instant → List ℕ → TodoState → Type 0
@@ -79,10 +89,10 @@ pub record IsUnmade (session : SessionState) (owed : Owed) (answer : Option (Lis
 
 -- what answers a message of a session with this pass: the message that is owed for what was asked,
 -- with the outcome of the step that was asked for
-pub record IsServed (session : SessionState) (was : PassState) (text : Sent)
-    (answer : Option (List ℕ)) : Type 0 where
+pub record IsServed (session : SessionState) (was : PassState) (seen : MachineState → Type 0)
+    (text : Sent) (answer : Option (List ℕ)) : Type 0 where
   pub todo : TodoState
   pub outcome : Option Outcome
   pub asked : IsTodoOrUnnoted session text.moment text.frame todo
-  pub made : HasOutcome was text todo.step outcome
+  pub made : HasOutcome was seen text todo.step outcome
   pub answer_is : answer ≡ answer_text session todo outcome

@@ -1,6 +1,7 @@
 //! What all sessions have at hand.
 
 use crate::journal::Journal;
+use chronicle::ChronicleName;
 use compile_pool::Jobs;
 use ocpp_scalars::Moments;
 use std::alloc::Global;
@@ -10,11 +11,11 @@ use version_store::Shared;
 
 /// What all sessions have at hand, and lend to whatever serves one.
 #[derive(Drop)]
-pub struct Context<'a, C: Ledger, A: Ledger, R: Wait, M: Moments, J: Journal> {
+pub struct Context<'a, C: Ledger, A: Ledger, R: Wait, M: Moments, J: Journal<N>, N: ChronicleName> {
     pub rt: &'a R,
     pub alloc: Global,
     /// The book that they share.
-    pub shared: &'a Shared<C, A>,
+    pub shared: &'a Shared<C, A, N>,
     /// The ways to those who compile.
     pub jobs: Jobs<'a>,
     pub clock: &'a M,

@@ -1,21 +1,23 @@
 //! Where sessions note what their steps change.
 
-ghost use Rattle.std.specs.Prelude.{◌≡◌, Bool, true, IfOk, IfSome, OnOk};
+ghost use Rattle.std.specs.Prelude.{IfOk, IfSome};
+ghost use Rattle.journal_writer.specs.Account.{Covers};
 ghost use Rattle.site_journal.specs.Entry.{IsEntryOf};
 ghost use Rattle.site_journal.specs.Line.{noted_state};
+ghost use Rattle.site_journal.specs.MadeStep.{IsOfMadeStep};
 ghost use Rattle.site_journal.specs.NotedStep.{line_at};
-ghost use Rattle.session.specs.Noting.{IsOfMadeStep};
+ghost use Rattle.version_store.specs.Recording.{IsAt};
 
+use chronicle::ChronicleName;
+use journal_writer::Receipt;
 use ocpp_scalars::Instant;
 use site_journal::{Entry, Noted};
 use std::alloc::AllocError;
+use version_store::RecordedStates;
 
 /// Takes down the steps that change something, in the order in which they are made, and sees to it
 /// that they are kept before any message leaves that depends on them.
-pub trait Journal {
-    /// What only a journal that has kept all tells: no message leaves without it.
-    ghost lets_leave: { Self → Bool } = { λ journal. true };
-
+pub trait Journal<N: ChronicleName> {
     /// Makes the entry of a step that is about to be made, or none where nothing is noted. The
     /// number that the step draws, if it draws one, is 0. Nobody has the book: a long message takes
     /// its time here. On an error the step may not be made, since it couldn't be noted.
@@ -28,15 +30,19 @@ pub trait Journal {
         ensures { IfOk result (λ entry. IfSome entry
             (λ e. IsEntryOf e (line_at moment point.now (noted_state noted.entry)))) };
 
-    /// Notes a step that was made and changed something, with the number that it drew. Whoever
-    /// notes it has had the book since before the step, so this waits for nothing that takes long.
-    fn note(&self, entry: Entry, number: u64)
-        requires { IsOfMadeStep entry number };
+    /// Notes a step by its entry and the number that it drew, between what was recorded of the book
+    /// before it and with it. Whoever notes it has had the book since before the step, so this waits
+    /// for nothing that takes long.
+    fn note(&self, entry: Entry, number: u64, before: &RecordedStates<N>, after: &RecordedStates<N>)
+        requires { IsOfMadeStep entry number (IsAt before.now) (IsAt after.now) };
 
-    /// Waits until all that is noted by now is kept, whoever noted it. The session doesn't have the
-    /// book. On an error no message may leave that depends on any of it.
-    fn write_out(&self) -> Result<(), JournalFault>
-        ensures { OnOk result (lets_leave self.now ≡ true) };
+    /// Waits until all is kept that led to what was recorded by some moment, whoever noted it. The
+    /// session doesn't have the book. On an error no message may leave that depends on any of it.
+    fn receipt(&self, recorded: &RecordedStates<N>) -> Result<Receipt<N>, JournalFault>
+        ensures { IfOk result (λ receipt. Covers receipt recorded.now) };
+
+    /// Waits until all that is noted by now is kept, whoever noted it.
+    fn write_out(&self) -> Result<(), JournalFault>;
 }
 
 /// Why a step can't be noted, or what is noted can't be kept.
@@ -58,7 +64,7 @@ impl From<AllocError> for JournalFault {
 #[derive(Clone, Copy, Debug, Default)]
 pub struct NoJournal;
 
-impl Journal for NoJournal {
+impl<N: ChronicleName> Journal<N> for NoJournal {
     fn prepare(
         &self,
         _moment: Instant,
@@ -68,7 +74,19 @@ impl Journal for NoJournal {
         Ok(None)
     }
 
-    fn note(&self, _entry: Entry, _number: u64) {}
+    fn note(
+        &self,
+        _entry: Entry,
+        _number: u64,
+        _before: &RecordedStates<N>,
+        _after: &RecordedStates<N>,
+    )
+        requires { IsOfMadeStep _entry _number (IsAt _before.now) (IsAt _after.now) }
+    {}
+
+    fn receipt(&self, recorded: &RecordedStates<N>) -> Result<Receipt<N>, JournalFault> {
+        Receipt::of_nothing(recorded).ok_or(JournalFault::Unwritable)
+    }
 
     fn write_out(&self) -> Result<(), JournalFault> {
         Ok(())

@@ -20,6 +20,7 @@ use crate::journal::{Journal, NoJournal};
 use crate::session_core::SessionCore;
 use calls::lose;
 pub use calls::{attach_session, send_call};
+use chronicle::ChronicleName;
 use compile_pool::Jobs;
 use crossbeam_channel::Sender;
 pub use ended::Ended;
@@ -72,12 +73,13 @@ pub fn serve_noted_socket<
     A: Ledger,
     R: Wait,
     M: Moments,
-    J: Journal,
+    J: Journal<N>,
+    N: ChronicleName,
 >(
     rt: &R,
     alloc: Global,
     socket: WebSocket<S, K>,
-    shared: &Shared<C, A>,
+    shared: &Shared<C, A, N>,
     jobs: &Sender<Job>,
     core: SessionCore,
     pass: Pass<C, A>,
@@ -107,9 +109,10 @@ pub fn serve_session<
     A: Ledger,
     R: Wait,
     M: Moments,
-    J: Journal,
+    J: Journal<N>,
+    N: ChronicleName,
 >(
-    context: &Context<'_, C, A, R, M, J>,
+    context: &Context<'_, C, A, R, M, J, N>,
     socket: WebSocket<S, K>,
     core: SessionCore,
     pass: Pass<C, A>,
@@ -127,8 +130,8 @@ pub fn serve_session<
 }
 
 /// Ends a session that has its link: a point's link is lost, and noted so.
-pub fn end_session<C: Ledger, A: Ledger, R: Wait, M: Moments, J: Journal>(
-    context: &Context<'_, C, A, R, M, J>,
+pub fn end_session<C: Ledger, A: Ledger, R: Wait, M: Moments, J: Journal<N>, N: ChronicleName>(
+    context: &Context<'_, C, A, R, M, J, N>,
     core: SessionCore,
 ) {
     lose(context, core);
@@ -144,9 +147,10 @@ fn serve_texts<
     A: Ledger,
     R: Wait,
     M: Moments,
-    J: Journal,
+    J: Journal<N>,
+    N: ChronicleName,
 >(
-    context: &Context<'_, C, A, R, M, J>,
+    context: &Context<'_, C, A, R, M, J, N>,
     socket: &mut WebSocket<S, K>,
     core: &SessionCore,
     pass: &mut Pass<C, A>,

@@ -8,6 +8,7 @@ ghost use Rattle.session.specs.Perform.{IsOfText, Performs};
 ghost use Rattle.session.specs.Serving.{KeepsPass};
 
 use crate::outcome::{Outcome, Performed};
+use chronicle::ChronicleName;
 use ocpp_scalars::Refusal;
 use site_core::{Reply, Step, Take};
 use std::sync::ledger::Ledger;
@@ -15,8 +16,8 @@ use version_store::{Book, Pass};
 
 /// Makes the one call on the book that a step of a message stands for. A request for a schedule has
 /// seen what its session has, whatever the step names.
-pub fn perform<C: Ledger, A: Ledger>(
-    book: &mut Book<C, A>,
+pub fn perform<C: Ledger, A: Ledger, N: ChronicleName>(
+    book: &mut Book<C, A, N>,
     pass: &mut Pass<C, A>,
     step: Step,
 ) -> Performed
@@ -43,8 +44,8 @@ pub fn perform<C: Ledger, A: Ledger>(
 }
 
 /// Keeps a request for a schedule, which has seen what its session has.
-fn perform_take<C: Ledger, A: Ledger>(
-    book: &mut Book<C, A>,
+fn perform_take<C: Ledger, A: Ledger, N: ChronicleName>(
+    book: &mut Book<C, A, N>,
     pass: &mut Pass<C, A>,
     take: Take,
 ) -> Performed

@@ -22,8 +22,9 @@ use Rattle.site_core.specs.State.{MachineState, Kept, ScheduleAnswer, point_at, 
 use Rattle.site_core.specs.Step.{Made, PointStep, at_point, over_link, of_audit, starts_as, is_at_no_connector, Work, AtPoint, work, Works, Steps, deed, drawn, done_at, made_at, made_there, found_place, place_for, unless, refusal_to_take, takes, taking, compiles_kept, answers_kept, answers_with, finishes}
 use Rattle.site_core.specs.History.{Event, Legal}
 use Rattle.site_core.specs.Theory.Steps.{StepKind, kind_of, names_point, takes_one, compiles_one, answers_one, finishes_all}
-use Rattle.site_journal.proofs.StepLemmas.{led}
-use Rattle.site_journal.specs.Forgetting.{forget, is_of_request, without_requests, ForgettingKeepsChanges}
+use Rattle.version_store.specs.Recording.{forget, is_of_request}
+use Rattle.version_store.specs.Theory.Forgetting.{led, taken_forgotten, compiled_forgotten, answered_forgotten, not_of_request}
+use Rattle.site_journal.specs.Forgetting.{without_requests, ForgettingKeepsChanges}
 
 abbrev no_request : Numbers → Numbers
 no_request numbers = record numbers { request = 0 }
@@ -33,12 +34,6 @@ made_with reply after = record { reply = reply; after = after }
 
 abbrev ok : Made → Result Made Refusal
 ok made = Ok made
-
--- ---- what led to a result
-
-unless_ok : {X : Type 0} (refusal : Option Refusal) (x y : X) → unless refusal x ≡ Ok y → x ≡ y
-unless_ok None x y is = cc is
-unless_ok (Some refusal) x y is = absurd (cc is)
 
 -- ---- a step at a point
 
@@ -174,47 +169,7 @@ there_same old step at is reply new made =
     ∙ ap (λ (m : Made). ok (made_with replied.a (forget m.after))) one
     ∙ ap (λ (r : Reply). ok (made_with r (forget new))) its_own
 
--- ---- steps that are about a request
-
-pub taken_forgotten : (old : MachineState) (take : Take) (made : Made) → takes old take ≡ Ok made
-    → forget made.after ≡ forget old
-taken_forgotten old take made is =
-    let ask = λ (place : ℕ). ask_at old.site.unit (book_at old place) take in
-    let placed = led (place_for old take.point by_name.via) (λ place. ask place >>= (λ a. unless (refusal_to_take old take) (taking old place a))) made is in
-    let asked = led (ask placed.a) (λ a. unless (refusal_to_take old take) (taking old placed.a a)) made placed.then in
-    ap (λ (m : Made). forget m.after)
-    (sym (unless_ok (refusal_to_take old take) (taking old placed.a asked.a) made asked.then))
-
-same_after : (old : MachineState) (one made : Made) → forget one.after ≡ forget old
-    → ok one ≡ ok made → forget made.after ≡ forget old
-same_after old one made forgotten is =
-    let same : one ≡ made = cc is in
-    ap (λ (m : Made). forget m.after) (sym same) ∙ forgotten
-
-pub compiled_forgotten : (old : MachineState) (number : ℕ) (answer : ScheduleAnswer)
-    (found : Option Kept) (made : Made) → compiles_kept old number answer found ≡ ok made
-    → forget made.after ≡ forget old
-compiled_forgotten old number answer None made is = absurd (cc is)
-compiled_forgotten old number answer (Some kept) made is = go (is_some kept.answer) is
-  where
-    go : (before : Bool)
-        → cond before (Err AlreadyAnswered)
-        (ok (made_with Compiled (record old { requests = answered number answer old.requests })))
-        ≡ ok made
-        → forget made.after ≡ forget old
-    go true is = absurd (cc is)
-    go false is = same_after old (made_with Compiled
-        (record old { requests = answered number answer old.requests })) made refl is
-
-pub answered_forgotten : (old : MachineState) (found : Option Kept) (made : Made)
-    → answers_kept old found ≡ ok made → forget made.after ≡ forget old
-answered_forgotten old None made is = absurd (cc is)
-answered_forgotten old (Some kept) made is = go kept.answer is
-  where
-    go : (answer : Option ScheduleAnswer) → ok (answers_with old kept answer) ≡ ok made
-        → forget made.after ≡ forget old
-    go None is = same_after old (answers_with old kept None) made refl is
-    go (Some answer) is = same_after old (answers_with old kept (Some answer)) made refl is
+-- ---- the end
 
 finish_by : (old : MachineState) (stopped : Bool) → old.is_stopped ≡ stopped
     → cond stopped (made_with Finished (forget old)) (made_with Finished (record (forget old) {
@@ -247,13 +202,6 @@ finished_same old reply new is =
     ∙ ap (λ (r : Reply). made_with r (forget new)) its_own)
 
 -- ---- histories
-
-pub not_of_request : (step : Step) (at : PointStep) → work step ≡ AtPoint at
-    → is_of_request step ≡ false
-not_of_request (steps.Take take) at is = absurd (cc is)
-not_of_request (steps.Compile number) at is = absurd (cc is)
-not_of_request (steps.Answer number) at is = absurd (cc is)
-not_of_request step at is = refl
 
 abbrev event_of : Step → Reply → Event
 event_of step reply = record { step = step; reply = reply }

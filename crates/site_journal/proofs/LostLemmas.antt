@@ -21,7 +21,7 @@ use Rattle.site_journal.specs.Line.{LineState, lost, line_text}
 use Rattle.site_journal.specs.Restore.{restored, restored_lines}
 use Rattle.site_journal.specs.LostLinks.{HasNoLinks, IsLossAt, LosesLinks}
 use Rattle.site_journal.specs.ByCases.LostLinks.{HasNoLinkAt, GivesNoLink}
-use Rattle.site_journal.proofs.StepLemmas.{led}
+use Rattle.version_store.specs.Theory.Forgetting.{led}
 use Rattle.site_journal.proofs.RestoreLemmas.{made_so}
 use Rattle.site_journal.proofs.NotedLemmas.{losses}
 

@@ -19,13 +19,13 @@ use Rattle.site_core.specs.Step.{Made, PointStep, Work, AtPoint, work, worked, S
 use Rattle.site_core.specs.Theory.Steps.{StepKind, kind_of, names_point, takes_one, compiles_one, answers_one, finishes_all}
 use Rattle.site_journal.specs.declared.restore_fault.RestoreFault.{RestoreFault}
 use Rattle.site_journal.specs.declared.restore_fault.RestoreFault.TheVariants.{OtherStep}
-use Rattle.site_journal.specs.Forgetting.{forget, is_of_request}
+use Rattle.version_store.specs.Recording.{forget, is_of_request}
 use Rattle.site_journal.specs.Line.{NotedState, LineState, number_written}
 use Rattle.site_journal.specs.Line as noted_as
 use Rattle.site_journal.specs.NotedRun.{begins, notes, passes, NotedRunsAreRestored}
 use Rattle.site_journal.specs.Restore.{is_change, change_asked, confirm_asked, judge_asked, judged_exactly, reply_on, step_noted, number_drawn, number_fault, unless_fault, made_or_refused, made_with, restored, restored_lines}
-use Rattle.site_journal.proofs.ForgettingLemmas.{there_same, taken_forgotten, compiled_forgotten, answered_forgotten, not_of_request}
-use Rattle.site_journal.proofs.StepLemmas.{led}
+use Rattle.version_store.specs.Theory.Forgetting.{led, taken_forgotten, compiled_forgotten, answered_forgotten, not_of_request}
+use Rattle.site_journal.proofs.ForgettingLemmas.{there_same}
 
 abbrev made_so : Reply → MachineState → Made
 made_so reply after = record { reply = reply; after = after }

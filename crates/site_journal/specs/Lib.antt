@@ -9,4 +9,5 @@ pub mod Journal
 pub mod LostLinks
 pub mod Forgetting
 pub mod NotedRun
+pub mod MadeStep
 pub mod ByCases

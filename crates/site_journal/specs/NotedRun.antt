@@ -4,7 +4,7 @@ use Rattle.site_core.specs.declared.step.Step.{Step}
 use Rattle.site_core.specs.declared.reply.Reply.{Reply}
 use Rattle.site_core.specs.State.{MachineState}
 use Rattle.site_core.specs.Step.{Steps}
-use Rattle.site_journal.specs.Forgetting.{forget, is_of_request}
+use Rattle.version_store.specs.Recording.{forget, is_of_request}
 use Rattle.site_journal.specs.Line.{LineState}
 use Rattle.site_journal.specs.Restore.{restored, restored_lines}
 

@@ -9,6 +9,7 @@ use crate::lines::split_line;
 use crate::reading::read_bytes;
 use crate::restore_fault::RestoreFault;
 use crate::restoring::restore_line;
+use chronicle::ChronicleName;
 use ocppj_frame::ReadingMemory;
 use std::alloc::Global;
 use std::sync::ledger::Ledger;
@@ -36,9 +37,9 @@ pub struct Unrestored {
 
 /// Restores a book from the lines of a journal after its header. What stands behind the last line
 /// feed is torn, and isn't read. After an error the book is good for nothing.
-pub fn restore<C: Ledger, A: Ledger>(
+pub fn restore<C: Ledger, A: Ledger, N: ChronicleName>(
     alloc: Global,
-    book: &mut Book<C, A>,
+    book: &mut Book<C, A, N>,
     pass: &mut Pass<C, A>,
     text: &[u8],
 ) -> Result<Restored, Unrestored>
@@ -67,10 +68,10 @@ pub fn restore<C: Ledger, A: Ledger>(
 }
 
 /// Restores a line, without its line feed, that may be no text.
-fn restore_bytes<C: Ledger, A: Ledger>(
+fn restore_bytes<C: Ledger, A: Ledger, N: ChronicleName>(
     alloc: Global,
     memory: &mut ReadingMemory,
-    book: &mut Book<C, A>,
+    book: &mut Book<C, A, N>,
     pass: &mut Pass<C, A>,
     bytes: &[u8],
 ) -> Result<(), RestoreFault>

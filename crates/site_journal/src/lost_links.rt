@@ -6,6 +6,7 @@ ghost use Rattle.site_journal.specs.ByCases.LostLinks.{GivesNoLink, HasNoLinkAt}
 ghost use Rattle.site_journal.specs.LostLinks.{HasNoLinks, LosesLinks};
 
 use crate::line::{Line, Noted, push_line};
+use chronicle::ChronicleName;
 use ocpp_scalars::{Instant, Refusal};
 use site_core::PointId;
 use std::alloc::Global;
@@ -14,9 +15,9 @@ use version_store::Book;
 
 /// Each point that has a link loses it, and the lines that say so at this moment are appended to a
 /// text, for the journal. Calls that were in flight wait again.
-pub fn lose_links<C: Ledger, A: Ledger>(
+pub fn lose_links<C: Ledger, A: Ledger, N: ChronicleName>(
     alloc: Global,
-    book: &mut Book<C, A>,
+    book: &mut Book<C, A, N>,
     moment: Instant,
     text: &mut String,
 ) -> Result<(), Refusal>
@@ -32,9 +33,9 @@ pub fn lose_links<C: Ledger, A: Ledger>(
 }
 
 /// The point at a place of the site file loses its link, if it has one.
-fn lose_link<C: Ledger, A: Ledger>(
+fn lose_link<C: Ledger, A: Ledger, N: ChronicleName>(
     alloc: Global,
-    book: &mut Book<C, A>,
+    book: &mut Book<C, A, N>,
     place: usize,
     moment: Instant,
     text: &mut String,
@@ -55,8 +56,8 @@ fn lose_link<C: Ledger, A: Ledger>(
 }
 
 /// The point of an identity loses this link.
-fn lose<C: Ledger, A: Ledger>(
-    book: &mut Book<C, A>,
+fn lose<C: Ledger, A: Ledger, N: ChronicleName>(
+    book: &mut Book<C, A, N>,
     point: PointId,
     link: u64,
     moment: Instant,

@@ -7,15 +7,16 @@ ghost use Rattle.site_journal.specs.Restore.{KeepsPass, made_with};
 
 use crate::drawn_number::compare;
 use crate::restore_fault::RestoreFault;
+use chronicle::ChronicleName;
 use site_core::PointId;
 use std::alloc::Global;
 use std::sync::ledger::Ledger;
 use version_store::{Book, Pass};
 
 /// The point gets a new link, which has to have this number.
-pub(crate) fn attach<C: Ledger, A: Ledger>(
+pub(crate) fn attach<C: Ledger, A: Ledger, N: ChronicleName>(
     alloc: Global,
-    book: &mut Book<C, A>,
+    book: &mut Book<C, A, N>,
     pass: &mut Pass<C, A>,
     point: &str,
     link: u64,
@@ -32,9 +33,9 @@ pub(crate) fn attach<C: Ledger, A: Ledger>(
 }
 
 /// Over this link goes a call, which has to have this number.
-pub(crate) fn send<C: Ledger, A: Ledger>(
+pub(crate) fn send<C: Ledger, A: Ledger, N: ChronicleName>(
     alloc: Global,
-    book: &mut Book<C, A>,
+    book: &mut Book<C, A, N>,
     point: &str,
     link: u64,
     call: u64,
@@ -51,9 +52,9 @@ pub(crate) fn send<C: Ledger, A: Ledger>(
 }
 
 /// This link is lost.
-pub(crate) fn lose<C: Ledger, A: Ledger>(
+pub(crate) fn lose<C: Ledger, A: Ledger, N: ChronicleName>(
     alloc: Global,
-    book: &mut Book<C, A>,
+    book: &mut Book<C, A, N>,
     point: &str,
     link: u64,
 ) -> Result<(), RestoreFault>

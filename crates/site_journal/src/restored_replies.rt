@@ -9,6 +9,7 @@ ghost use Rattle.site_journal.specs.ByCases.Restore.{Leads, confirmed, judged};
 ghost use Rattle.site_journal.specs.Restore.{judged_exactly, made_with};
 
 use crate::restore_fault::RestoreFault;
+use chronicle::ChronicleName;
 use ocpp_scalars::Refusal;
 use ocppj_frame::ReadingMemory;
 use site_core::PointId;
@@ -23,10 +24,10 @@ use version_store::Book;
 pub const UNREAD_REPLY: &str = r#"[3,"",{"status":"Accepted"}]"#;
 
 /// Confirms the call that a point's reply names, over this link.
-pub(crate) fn confirm_call<C: Ledger, A: Ledger>(
+pub(crate) fn confirm_call<C: Ledger, A: Ledger, N: ChronicleName>(
     alloc: Global,
     memory: &mut ReadingMemory,
-    book: &mut Book<C, A>,
+    book: &mut Book<C, A, N>,
     text: &SentText<'_>,
     link: u64,
 ) -> Result<(), RestoreFault>
@@ -48,8 +49,8 @@ pub(crate) fn confirm_call<C: Ledger, A: Ledger>(
     }
 }
 
-fn confirm<C: Ledger, A: Ledger>(
-    book: &mut Book<C, A>,
+fn confirm<C: Ledger, A: Ledger, N: ChronicleName>(
+    book: &mut Book<C, A, N>,
     point: PointId,
     link: u64,
     call: u64,
@@ -65,10 +66,10 @@ fn confirm<C: Ledger, A: Ledger>(
 }
 
 /// Judges the point's audit whose call has this number by what the point replied.
-pub(crate) fn judge_audit<C: Ledger, A: Ledger>(
+pub(crate) fn judge_audit<C: Ledger, A: Ledger, N: ChronicleName>(
     alloc: Global,
     memory: &mut ReadingMemory,
-    book: &mut Book<C, A>,
+    book: &mut Book<C, A, N>,
     text: &SentText<'_>,
     call: u64,
 ) -> Result<(), RestoreFault>
@@ -83,10 +84,10 @@ pub(crate) fn judge_audit<C: Ledger, A: Ledger>(
     }
 }
 
-fn judge<C: Ledger, A: Ledger>(
+fn judge<C: Ledger, A: Ledger, N: ChronicleName>(
     alloc: Global,
     memory: &mut ReadingMemory,
-    book: &mut Book<C, A>,
+    book: &mut Book<C, A, N>,
     text: &SentText<'_>,
     call: u64,
     job: AuditJob,

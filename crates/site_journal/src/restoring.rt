@@ -11,6 +11,7 @@ use crate::line::{Line, Noted};
 use crate::restore_fault::RestoreFault;
 use crate::restored_links::{attach, lose, send};
 use crate::restored_replies::{confirm_call, judge_audit};
+use chronicle::ChronicleName;
 use messages::Side;
 use ocppj_frame::ReadingMemory;
 use site_core::Step;
@@ -22,10 +23,10 @@ use version_store::{Book, Pass};
 /// Makes the step of a line, where it is made and draws the number that is written. Only after
 /// `OtherNumber` it was made all the same.
 #[tactic(auto, unfolding(crate::specs::Restore::restored))]
-pub(crate) fn restore_line<C: Ledger, A: Ledger>(
+pub(crate) fn restore_line<C: Ledger, A: Ledger, N: ChronicleName>(
     alloc: Global,
     memory: &mut ReadingMemory,
-    book: &mut Book<C, A>,
+    book: &mut Book<C, A, N>,
     pass: &mut Pass<C, A>,
     line: &Line<'_>,
 ) -> Result<(), RestoreFault>
@@ -59,10 +60,10 @@ pub(crate) fn restore_line<C: Ledger, A: Ledger>(
 // ---- messages
 
 /// Makes the change that a message asks for, which has to draw this number.
-fn change<C: Ledger, A: Ledger>(
+fn change<C: Ledger, A: Ledger, N: ChronicleName>(
     alloc: Global,
     memory: &mut ReadingMemory,
-    book: &mut Book<C, A>,
+    book: &mut Book<C, A, N>,
     pass: &mut Pass<C, A>,
     text: &SentText<'_>,
     number: u64,
@@ -126,8 +127,8 @@ pub(crate) fn is_change(step: &Step) -> bool
     }
 }
 
-fn make_change<C: Ledger, A: Ledger>(
-    book: &mut Book<C, A>,
+fn make_change<C: Ledger, A: Ledger, N: ChronicleName>(
+    book: &mut Book<C, A, N>,
     pass: &mut Pass<C, A>,
     step: Step,
     number: u64,

@@ -1,6 +1,8 @@
 //! Sessions over sockets whose bytes stand in memory, on a shared book without workers.
 
 ghost use Rattle.std.specs.Prelude.{◌≡◌};
+ghost use Rattle.site_journal.specs.MadeStep.{IsOfMadeStep};
+ghost use Rattle.version_store.specs.Recording.{IsAt};
 
 use crate::same::{holds, same, same_text};
 use crate::served_texts::{
@@ -9,7 +11,9 @@ use crate::served_texts::{
     NOTED_OF_POINT, SCHEDULE, SCHEDULE_WITHOUT, SET, SET_ACCEPTED, SITE, START, STARTED, STATUS,
 };
 use crate::streams::{client_bytes, client_texts, messages_of, socket_of};
+use chronicle::ChronicleName;
 use crossbeam_channel::{Sender, bounded};
+use journal_writer::Receipt;
 use ocpp_scalars::{Instant, Moments};
 use profile::Unit;
 use session::{
@@ -24,7 +28,7 @@ use std::sync::ledger::{Blank, Ledger};
 use std::sync::{Mutex, Wait};
 use test_books::instant_at;
 use tungstenite::Message;
-use version_store::{Job, Pass, Shared};
+use version_store::{Job, Pass, RecordedStates, Shared};
 
 /// A clock that tells one moment, or none.
 #[derive(Clone, Copy, Debug)]
@@ -674,7 +678,7 @@ impl<'a, R: Abort + Wait> Lines<'a, R> {
     }
 }
 
-impl<R: Abort + Wait> Journal for Lines<'_, R> {
+impl<R: Abort + Wait, N: ChronicleName> Journal<N> for Lines<'_, R> {
     fn prepare(
         &self,
         moment: Instant,
@@ -692,9 +696,22 @@ impl<R: Abort + Wait> Journal for Lines<'_, R> {
         Ok(Some(Entry::new(self.alloc, &line)?))
     }
 
-    fn note(&self, entry: Entry, number: u64) {
+    fn note(
+        &self,
+        entry: Entry,
+        number: u64,
+        _before: &RecordedStates<N>,
+        _after: &RecordedStates<N>,
+    )
+        requires { IsOfMadeStep entry number (IsAt _before.now) (IsAt _after.now) }
+    {
         let mut noted = self.noted.lock(self.rt);
         entry.push(&mut noted, number).expect(self.rt, "error");
+    }
+
+    fn receipt(&self, recorded: &RecordedStates<N>) -> Result<Receipt<N>, JournalFault> {
+        Journal::<N>::write_out(self)?;
+        Receipt::of_nothing(recorded).ok_or(JournalFault::Unwritable)
     }
 
     fn write_out(&self) -> Result<(), JournalFault> {

@@ -1,9 +1,8 @@
 -- That a stored history goes on with an event more, and from its fold.
-use Rattle.std.proofs.Common.{◌≡◌, ℕ, zero, suc, ◌+◌, ◌≤◌, List, [], ◌∷◌, ◌++◌, map, slice_index_or, Option, Some, None, Ok, refl, sym, ap, ◌∙◌, subst, add-zero, length, arith}
+use Rattle.std.proofs.Common.{◌≡◌, ℕ, zero, suc, ◌+◌, ◌≤◌, List, [], ◌∷◌, ◌++◌, map, slice_index_or, Option, None, Ok, refl, sym, ap, ◌∙◌, subst, add-zero, length, arith}
 use Rattle.std.specs.Prelude.{IfSome}
 use Rattle.std.proofs.lemmas.List.Sums.{sum_by_push, sum_by-append}
 use Rattle.site_rules.specs.Site.{PointEntry, SiteState}
-use Rattle.site_core.specs.declared.step.Step.{Step}
 use Rattle.site_core.specs.declared.reply.Reply.{Reply}
 use Rattle.site_core.specs.Limits.{max_number}
 use Rattle.site_core.specs.Audit.{AuditState}

@@ -3,3 +3,4 @@ pub mod HistoryLemmas
 pub mod CallLemmas
 pub mod RequestLemmas
 pub mod BehindLemmas
+pub mod RecorderLemmas

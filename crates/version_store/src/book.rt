@@ -2,9 +2,10 @@
 
 ghost use Rattle.std.specs.Prelude.{◌≡◌, ◌<◌, ◌≤◌, true, IfOk, IfErr, All, length};
 ghost use Rattle.site_core.specs.declared.step.Step.{Step};
-ghost use Rattle.site_core.specs.State.{IsMachine, link_of, link_to_send, outbox_len};
+ghost use Rattle.site_core.specs.State.{IsMachine, opening, link_of, link_to_send, outbox_len};
 ghost use Rattle.site_core.specs.Step.{HasAskedConnector, is_reply_to};
 ghost use Rattle.version_store.specs.Passes.{unused_pass, totals_together};
+ghost use Rattle.version_store.specs.Recording.{IsAt};
 ghost use Rattle.version_store.specs.Store.{IsStore, opening_store, may_fold};
 ghost use Rattle.version_store.specs.Calls.{Calls, IsRefusalOf};
 
@@ -18,8 +19,11 @@ use crate::folded::{EventRoom, Folded};
 use crate::history::History;
 use crate::ledgers::Ledgers;
 use crate::pass::{Pass, passes_of};
+use crate::recorded_states::{NoName, RecordedStates, StateRecorder};
+use crate::recorder::make_recorded;
 use crate::stored_event::StoredEvent;
 use crate::totals::Totals;
+use chronicle::{ChronicleName, Unnamed};
 use site_core::{Machine, Refused, Reply, Step};
 use site_rules::Site;
 use std::alloc::{AllocError, Global};
@@ -30,20 +34,24 @@ use std::sync::ledger::{Blank, Ledger};
 /// adds one event, and none is ever refused because the history is full. A pass fits only the book
 /// that it was made with, and the two ledgers see to that.
 #[derive(Drop)]
-pub struct Book<C: Ledger, A: Ledger> {
+pub struct Book<C: Ledger, A: Ledger, N: ChronicleName = NoName> {
     history: History,
     ledgers: Ledgers<C, A>,
+    /// Who records its changes.
+    recorder: StateRecorder<N>,
 }
 
-impl<C: Ledger, A: Ledger> Model for Book<C, A> {
+impl<C: Ledger, A: Ledger, N: ChronicleName> Model for Book<C, A, N> {
     ghost use Rattle.std.specs.Prelude.{◌≡◌};
+    ghost use Rattle.version_store.specs.Recording.{IsAt};
     ghost use Rattle.version_store.specs.Store.{StoreState};
 
     ghost Value = { StoreState };
 
     ghost view = { λ book. book.history };
 
-    ghost invariant = { λ book. book.ledgers ≡ book.history.made };
+    ghost invariant = { λ book. (book.ledgers ≡ book.history.made)
+        × IsAt book.recorder book.history.present };
 }
 
 impl<C: Ledger, A: Ledger> Book<C, A> {
@@ -64,10 +72,89 @@ impl<C: Ledger, A: Ledger> Book<C, A> {
         ensures passes { IfOk result (λ made. length made.1.items ≡ sessions) }
         ensures unused { IfOk result (λ made. All (λ pass. pass ≡ unused_pass) made.1.items) }
     {
+        Book::make_from(
+            alloc,
+            changes,
+            answers,
+            site,
+            sessions,
+            StateRecorder::nothing(),
+        )
+    }
+}
+
+impl<C: Ledger, A: Ledger, N: ChronicleName> Book<C, A, N> {
+    /// The same, whose states are recorded in a chronicle.
+    pub fn make_with(
+        alloc: Global,
+        changes: Blank,
+        answers: Blank,
+        site: Site,
+        sessions: u64,
+        states: Unnamed,
+    ) -> Result<(Book<C, A, N>, Vec<Pass<C, A>>), AllocError>
+        requires changes { (changes.name ≡ C.name) × (changes.parts ≡ C.parts)
+            × (changes.parts ≡ sessions) }
+        requires answers { (answers.name ≡ A.name) × (answers.parts ≡ A.parts)
+            × (answers.parts ≡ sessions) }
+        requires states { states.name ≡ N.name }
+        ensures book { IfOk result (λ made. made.0 ≡ opening_store site) }
+        ensures passes { IfOk result (λ made. length made.1.items ≡ sessions) }
+        ensures unused { IfOk result (λ made. All (λ pass. pass ≡ unused_pass) made.1.items) }
+    {
+        let recorder = StateRecorder::new(states, &site);
+        Book::make_from(alloc, changes, answers, site, sessions, recorder)
+    }
+
+    /// The book of a site where nothing was done yet, with who records its states.
+    fn make_from(
+        alloc: Global,
+        changes: Blank,
+        answers: Blank,
+        site: Site,
+        sessions: u64,
+        recorder: StateRecorder<N>,
+    ) -> Result<(Book<C, A, N>, Vec<Pass<C, A>>), AllocError>
+        requires changes { (changes.name ≡ C.name) × (changes.parts ≡ C.parts)
+            × (changes.parts ≡ sessions) }
+        requires answers { (answers.name ≡ A.name) × (answers.parts ≡ A.parts)
+            × (answers.parts ≡ sessions) }
+        requires recorded { IsAt recorder (opening site) }
+        ensures book { IfOk result (λ made. made.0 ≡ opening_store site) }
+        ensures passes { IfOk result (λ made. length made.1.items ≡ sessions) }
+        ensures unused { IfOk result (λ made. All (λ pass. pass ≡ unused_pass) made.1.items) }
+    {
         let history = History::new(alloc, site)?;
         let (ledgers, changed, answered) = Ledgers::open(changes, answers);
         let passes = passes_of(alloc, changed, answered, sessions)?;
-        Ok((Book { history, ledgers }, passes))
+        let book = Book {
+            history,
+            ledgers,
+            recorder,
+        };
+        Ok((book, passes))
+    }
+
+    /// Ends the book. With the passes of all its sessions, the numbers of changes that were made
+    /// and of answers that were handed out are what those passes count together.
+    pub fn settle(self, passes: Vec<Pass<C, A>>) -> Totals
+        requires changes { C.parts ≤ length passes.items }
+        requires answers { A.parts ≤ length passes.items }
+        ensures own { result ≡ self.made }
+        ensures together { result ≡ totals_together passes.items }
+    {
+        let totals = self.totals();
+        self.ledgers.settle(passes);
+        totals
+    }
+}
+
+impl<C: Ledger, A: Ledger, N: ChronicleName> Book<C, A, N> {
+    /// What is recorded of its states by now.
+    pub fn recorded(&self) -> RecordedStates<N>
+        ensures { IsAt result self.now.present }
+    {
+        self.recorder.recorded()
     }
 
     /// Makes a step of a session: what each of its calls stands for. On a refusal the step comes
@@ -82,24 +169,11 @@ impl<C: Ledger, A: Ledger> Book<C, A> {
         ensures kept { IfErr result (λ refused. (self.new ≡ self.old) × (pass.new ≡ pass.old)) }
         ensures back { IfErr result (λ refused. refused.step ≡ step) }
     {
-        let reply = self.history.make(step)?;
+        let reply = make_recorded(&mut self.history, &mut self.recorder, step)?;
         let version = self.history.present().version();
         self.ledgers
             .count(pass, &reply, self.history.made(), version);
         Ok(reply)
-    }
-
-    /// Ends the book. With the passes of all its sessions, the numbers of changes that were made
-    /// and of answers that were handed out are what those passes count together.
-    pub fn settle(self, passes: Vec<Pass<C, A>>) -> Totals
-        requires changes { C.parts ≤ length passes.items }
-        requires answers { A.parts ≤ length passes.items }
-        ensures own { result ≡ self.made }
-        ensures together { result ≡ totals_together passes.items }
-    {
-        let totals = self.totals();
-        self.ledgers.settle(passes);
-        totals
     }
 
     /// How many events are stored. With what is always so of a book. Its present state is the

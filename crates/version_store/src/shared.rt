@@ -9,7 +9,9 @@ ghost use Rattle.version_store.specs.Passes.{unused_pass, totals_together};
 use crate::book::Book;
 use crate::missing::Missing;
 use crate::pass::Pass;
+use crate::recorded_states::NoName;
 use crate::totals::Totals;
+use chronicle::{ChronicleName, Unnamed};
 use site_rules::Site;
 use std::alloc::{AllocError, Global};
 use std::marker::Model;
@@ -21,8 +23,8 @@ use std::time::Duration;
 /// The book of the central system, which one thread at a time has. Each of its calls is made by
 /// whoever has it, so all that is said of a book holds between any calls of any threads.
 #[derive(Drop)]
-pub struct Shared<C: Ledger, A: Ledger> {
-    book: Mutex<Book<C, A>>,
+pub struct Shared<C: Ledger, A: Ledger, N: ChronicleName = NoName> {
+    book: Mutex<Book<C, A, N>>,
     /// Those wait here who wait for an answer, each where the number of its request says.
     places: Vec<Condvar>,
     sessions: u64,
@@ -31,7 +33,7 @@ pub struct Shared<C: Ledger, A: Ledger> {
 /// So many places there are to wait at: as many as requests may be kept, so that few share one.
 const PLACES: u64 = 64;
 
-impl<C: Ledger, A: Ledger> Model for Shared<C, A> {
+impl<C: Ledger, A: Ledger, N: ChronicleName> Model for Shared<C, A, N> {
     ghost use Rattle.std.specs.Prelude.{ℕ, ◌≡◌, length};
 
     ghost Value = { ℕ };
@@ -62,14 +64,74 @@ impl<C: Ledger, A: Ledger> Shared<C, A> {
         ensures unused { IfOk result (λ made. All (λ pass. pass ≡ unused_pass) made.1.items) }
     {
         let (book, passes) = Book::make(alloc, changes, answers, site, sessions)?;
-        let shared = Shared {
-            book: Mutex::new(book),
-            places: new_places(alloc)?,
-            sessions,
-        };
+        let shared = Shared::of_book(alloc, book, sessions)?;
+        Ok((shared, passes))
+    }
+}
+
+impl<C: Ledger, A: Ledger, N: ChronicleName> Shared<C, A, N> {
+    /// The same, whose book's states are recorded in a chronicle.
+    pub fn make_with(
+        alloc: Global,
+        changes: Blank,
+        answers: Blank,
+        site: Site,
+        sessions: u64,
+        states: Unnamed,
+    ) -> Result<(Shared<C, A, N>, Vec<Pass<C, A>>), AllocError>
+        requires changes { (changes.name ≡ C.name) × (changes.parts ≡ C.parts)
+            × (changes.parts ≡ sessions) }
+        requires answers { (answers.name ≡ A.name) × (answers.parts ≡ A.parts)
+            × (answers.parts ≡ sessions) }
+        requires some { 0 < sessions }
+        requires states { states.name ≡ N.name }
+        ensures sessions { IfOk result (λ made. made.0 ≡ sessions) }
+        ensures passes { IfOk result (λ made. length made.1.items ≡ sessions) }
+        ensures unused { IfOk result (λ made. All (λ pass. pass ≡ unused_pass) made.1.items) }
+    {
+        let (book, passes) = Book::make_with(alloc, changes, answers, site, sessions, states)?;
+        let shared = Shared::of_book(alloc, book, sessions)?;
         Ok((shared, passes))
     }
 
+    /// A book with so many passes, as threads share it.
+    fn of_book(
+        alloc: Global,
+        book: Book<C, A, N>,
+        sessions: u64,
+    ) -> Result<Shared<C, A, N>, AllocError>
+        requires { (sessions ≡ C.parts) × (sessions ≡ A.parts) }
+        ensures { IfOk result (λ shared. shared ≡ sessions) }
+    {
+        Ok(Shared {
+            book: Mutex::new(book),
+            places: new_places(alloc)?,
+            sessions,
+        })
+    }
+
+    /// Ends the book. With all passes that were made, the numbers of changes that were made and of
+    /// answers that were handed out, which are what their passes count together.
+    pub fn settle(self, passes: Vec<Pass<C, A>>) -> Result<Totals, Missing>
+        ensures together { IfOk result (λ totals. totals ≡ totals_together passes.items) }
+        ensures whole { IfOk result (λ totals. self ≤ length passes.items) }
+        ensures missing { IfErr result (λ missing.
+            (missing.given ≡ length passes.items) × (missing.made ≡ self)
+            × (missing.given < missing.made)) }
+    {
+        let given = passes.len();
+        if (given as u64) < self.sessions {
+            return Err(Missing {
+                given,
+                made: self.sessions,
+            });
+        }
+        let book = self.book.into_inner();
+        Ok(book.settle(passes))
+    }
+}
+
+impl<C: Ledger, A: Ledger, N: ChronicleName> Shared<C, A, N> {
     /// How many sessions have a pass.
     pub fn sessions(&self) -> u64
         ensures { result ≡ self.now }
@@ -79,7 +141,7 @@ impl<C: Ledger, A: Ledger> Shared<C, A> {
 
     /// The book, once no other thread has it. Whatever was done to it meanwhile, all that is always
     /// so of a book is so of this one.
-    pub fn lock<R: Wait>(&self, rt: &R) -> MutexGuard<'_, Book<C, A>>
+    pub fn lock<R: Wait>(&self, rt: &R) -> MutexGuard<'_, Book<C, A, N>>
         ensures { IsStore (mutex_guard_value result) }
     {
         let book = self.lock_unfolded(rt);
@@ -89,7 +151,7 @@ impl<C: Ledger, A: Ledger> Shared<C, A> {
 
     /// The book. What a fold left behind is dropped while it is unlocked, so that nobody waits for
     /// that.
-    fn lock_unfolded<R: Wait>(&self, rt: &R) -> MutexGuard<'_, Book<C, A>> {
+    fn lock_unfolded<R: Wait>(&self, rt: &R) -> MutexGuard<'_, Book<C, A, N>> {
         let mut book = self.book.lock(rt);
         let Some(folded) = book.take_folded() else {
             return book;
@@ -120,7 +182,7 @@ impl<C: Ledger, A: Ledger> Shared<C, A> {
     }
 
     /// The book, once the request of a number has its answer, or isn't kept.
-    pub fn until_answered<R: Wait>(&self, rt: &R, number: u64) -> MutexGuard<'_, Book<C, A>>
+    pub fn until_answered<R: Wait>(&self, rt: &R, number: u64) -> MutexGuard<'_, Book<C, A, N>>
         ensures store { IsStore (mutex_guard_value result) }
         ensures answered { awaits (mutex_guard_value result).present number ≡ false }
     {
@@ -137,7 +199,7 @@ impl<C: Ledger, A: Ledger> Shared<C, A> {
         rt: &R,
         number: u64,
         time: Duration,
-    ) -> Option<MutexGuard<'_, Book<C, A>>>
+    ) -> Option<MutexGuard<'_, Book<C, A, N>>>
         ensures store { IfSome result (λ book. IsStore (mutex_guard_value book)) }
         ensures answered { IfSome result
             (λ book. awaits (mutex_guard_value book).present number ≡ false) }
@@ -150,26 +212,6 @@ impl<C: Ledger, A: Ledger> Shared<C, A> {
         }
         book.stored();
         Some(book)
-    }
-
-    /// Ends the book. With all passes that were made, the numbers of changes that were made and of
-    /// answers that were handed out, which are what their passes count together.
-    pub fn settle(self, passes: Vec<Pass<C, A>>) -> Result<Totals, Missing>
-        ensures together { IfOk result (λ totals. totals ≡ totals_together passes.items) }
-        ensures whole { IfOk result (λ totals. self ≤ length passes.items) }
-        ensures missing { IfErr result (λ missing.
-            (missing.given ≡ length passes.items) × (missing.made ≡ self)
-            × (missing.given < missing.made)) }
-    {
-        let given = passes.len();
-        if (given as u64) < self.sessions {
-            return Err(Missing {
-                given,
-                made: self.sessions,
-            });
-        }
-        let book = self.book.into_inner();
-        Ok(book.settle(passes))
     }
 }
 

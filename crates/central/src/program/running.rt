@@ -7,6 +7,7 @@ use crate::program::key_file::read_key_file;
 use crate::program::program_fault::ProgramFault;
 use crate::program::site_file::read_digested_site;
 use crate::program::watched_file::WatchedFile;
+use chronicle::{ChronicleName, Unnamed};
 use command_line::{MAX_SEATS, MAX_WORKERS, Running};
 use data_folder::{
     FolderFault, JournalFile, OpenJournal, Resumed, SystemClock, open_journal, or_stop,
@@ -107,7 +108,7 @@ pub fn run_file<
         return Err(ProgramFault::OutOfMemory);
     };
     let blanks = (Blank::new(passes), Blank::new(passes));
-    run_counted::<Brand, Brand, R>(rt, plan, blanks)
+    run_counted::<Brand, Brand, Brand, R>(rt, plan, blanks, (Unnamed::new(), Unnamed::new()))
 }
 
 /// The keys of a file, if one is given.
@@ -157,10 +158,12 @@ fn listen<R: Eprint + Net<Listener = TcpListener, Stream = TcpStream>>(
     }
 }
 
-/// Runs a site, whose changes and answers these two ledgers count.
+/// Runs a site, whose changes and answers these two ledgers count, and whose states and syncs are
+/// recorded in these two chronicles.
 fn run_counted<
     C: Ledger + Send + Sync + Drop + 'static,
     A: Ledger + Send + Sync + Drop + 'static,
+    N: ChronicleName + Send + Sync + Drop + 'static,
     R: Files<File = File>
         + Print
         + Eprint
@@ -175,12 +178,18 @@ fn run_counted<
         + Sync
         + Drop
         + 'static,
->(rt: &R, plan: Plan<'_>, blanks: (Blank, Blank)) -> Result<(), ProgramFault>
+>(
+    rt: &R,
+    plan: Plan<'_>,
+    blanks: (Blank, Blank),
+    chronicles: (Unnamed, Unnamed),
+) -> Result<(), ProgramFault>
     requires workers { 1 ≤ plan.workers }
     requires changes { (blanks.0.name ≡ C.name) × (blanks.0.parts ≡ C.parts)
         × (blanks.0.parts ≡ plan.seats + 1) }
     requires answers { (blanks.1.name ≡ A.name) × (blanks.1.parts ≡ A.parts)
         × (blanks.1.parts ≡ plan.seats + 1) }
+    requires chronicles { (chronicles.0.name ≡ N.name) × (chronicles.1.name ≡ N.companion) }
 {
     let Plan {
         site,
@@ -195,7 +204,8 @@ fn run_counted<
         status,
         status_address,
     } = plan;
-    let book: SeatedBook<C, A> = SeatedBook::make(rt.alloc(), blanks, site, seats)?;
+    let (states, syncs) = chronicles;
+    let book: SeatedBook<C, A, N> = SeatedBook::make_with(rt.alloc(), blanks, site, seats, states)?;
     let SeatedBook {
         shared,
         restoring,
@@ -209,7 +219,7 @@ fn run_counted<
             return Err(ProgramFault::Serve(fault));
         }
     }
-    let (journal, resumed) = restore_shared(rt, opened, &digest, &shared, restoring)?;
+    let (journal, resumed) = restore_shared(rt, opened, &digest, &shared, restoring, syncs)?;
     print_resumed(rt, resumed)?;
     let context = context_of(rt, shared, journal, options)?;
     begin_lines(rt, &context)?;
@@ -237,10 +247,11 @@ fn owned(alloc: Global, text: Option<&str>) -> Result<Option<String>, AllocError
 fn begin_lines<
     C: Ledger + Send + Sync + Drop + 'static,
     A: Ledger + Send + Sync + Drop + 'static,
+    N: ChronicleName + Send + Sync + Drop + 'static,
     R: Eprint + AllocGlobal + Clock + Threads + Wait + Copy + Send + Sync + Drop + 'static,
 >(
     rt: &R,
-    context: &Arc<SeatContext<C, A, R, SystemClock<R>, WatchedFile<R>>, Global>,
+    context: &Arc<SeatContext<C, A, R, SystemClock<R>, WatchedFile<R, N>, N>, Global>,
 ) -> Result<(), ProgramFault> {
     let own = Arc::try_clone(context)?;
     let writer = thread::Builder::new().spawn(rt, move || own.journal().file.write_lines());
@@ -254,9 +265,10 @@ fn begin_lines<
 fn keep_boots<
     C: Ledger + Send + Sync + Drop + 'static,
     A: Ledger + Send + Sync + Drop + 'static,
+    N: ChronicleName + Send + Sync + Drop + 'static,
     R: Eprint + AllocGlobal + Clock + Threads + Wait + Copy + Send + Sync + Drop + 'static,
 >(
-    context: &Arc<SeatContext<C, A, R, SystemClock<R>, WatchedFile<R>>, Global>,
+    context: &Arc<SeatContext<C, A, R, SystemClock<R>, WatchedFile<R, N>, N>, Global>,
     kept: KeptBoots,
 ) -> Result<(), ProgramFault> {
     let KeptBoots { boots, file } = kept;
@@ -271,12 +283,17 @@ fn keep_boots<
 }
 
 /// What the threads share that serve this book.
-fn context_of<C: Ledger, A: Ledger, R: Clock + Wait + Eprint + AllocGlobal + Copy + Drop>(
+fn context_of<
+    C: Ledger,
+    A: Ledger,
+    N: ChronicleName,
+    R: Clock + Wait + Eprint + AllocGlobal + Copy + Drop,
+>(
     rt: &R,
-    shared: Shared<C, A>,
-    journal: JournalFile<R>,
+    shared: Shared<C, A, N>,
+    journal: JournalFile<R, N>,
     options: SeatOptions,
-) -> Result<Arc<SeatContext<C, A, R, SystemClock<R>, WatchedFile<R>>, Global>, AllocError> {
+) -> Result<Arc<SeatContext<C, A, R, SystemClock<R>, WatchedFile<R, N>, N>, Global>, AllocError> {
     let alloc = rt.alloc();
     let clock = SystemClock { rt: *rt };
     let journal = WatchedFile { file: journal };

@@ -1,6 +1,11 @@
 //! The journal of a site that is run, of which the server tells how it is.
 
+ghost use Rattle.site_journal.specs.MadeStep.{IsOfMadeStep};
+ghost use Rattle.version_store.specs.Recording.{IsAt};
+
+use chronicle::ChronicleName;
 use data_folder::JournalFile;
+use journal_writer::Receipt;
 use ocpp_scalars::Instant;
 use server::WatchedJournal;
 use session::{Entry, Journal, JournalFault, Noted};
@@ -8,14 +13,16 @@ use site_status::JournalReport;
 use std::alloc::AllocGlobal;
 use std::rt::Clock;
 use std::sync::Wait;
+use version_store::RecordedStates;
 
 /// A journal's file. It is one type with the server's trait, so that the file needs no server.
 #[derive(Drop)]
-pub struct WatchedFile<R> {
-    pub file: JournalFile<R>,
+pub struct WatchedFile<R, N: ChronicleName> {
+    pub file: JournalFile<R, N>,
 }
 
-impl<R: Wait + Clock + Eprint + AllocGlobal + Drop> Journal for WatchedFile<R> {
+impl<R: Wait + Clock + Eprint + AllocGlobal + Drop, N: ChronicleName> Journal<N>
+    for WatchedFile<R, N> {
     fn prepare(
         &self,
         moment: Instant,
@@ -25,8 +32,20 @@ impl<R: Wait + Clock + Eprint + AllocGlobal + Drop> Journal for WatchedFile<R> {
         self.file.prepare(moment, point, noted)
     }
 
-    fn note(&self, entry: Entry, number: u64) {
-        self.file.note(entry, number)
+    fn note(
+        &self,
+        entry: Entry,
+        number: u64,
+        before: &RecordedStates<N>,
+        after: &RecordedStates<N>,
+    )
+        requires { IsOfMadeStep entry number (IsAt before.now) (IsAt after.now) }
+    {
+        self.file.note(entry, number, before, after)
+    }
+
+    fn receipt(&self, recorded: &RecordedStates<N>) -> Result<Receipt<N>, JournalFault> {
+        self.file.receipt(recorded)
     }
 
     fn write_out(&self) -> Result<(), JournalFault> {
@@ -34,7 +53,7 @@ impl<R: Wait + Clock + Eprint + AllocGlobal + Drop> Journal for WatchedFile<R> {
     }
 }
 
-impl<R: Wait> WatchedJournal for WatchedFile<R> {
+impl<R: Wait, N: ChronicleName> WatchedJournal for WatchedFile<R, N> {
     fn report(&self) -> JournalReport {
         self.file.report()
     }

@@ -10,7 +10,9 @@ use crate::context::Context;
 use crate::journal::Journal;
 use crate::outcome::{Outcome, Performed};
 use crate::serving::ended::{Ended, ended_unsaved};
+use crate::serving::noting::note_made;
 use crate::serving::reading::read_reply;
+use chronicle::ChronicleName;
 use meaning::Said;
 use ocpp_scalars::Moments;
 use site_core::{PointId, Reply, Step, equal_books_are_one};
@@ -41,9 +43,9 @@ impl Model for OpenAudit {
 }
 
 /// The audit that a step replies to, if it does: the step confirms its call. Nothing is changed.
-pub(crate) fn audit_confirmed<C: Ledger, A: Ledger>(
+pub(crate) fn audit_confirmed<C: Ledger, A: Ledger, N: ChronicleName>(
     alloc: Global,
-    book: &Book<C, A>,
+    book: &Book<C, A, N>,
     step: &Step,
 ) -> Result<Option<OpenAudit>, AllocError>
     ensures audit { IfOk result (λ audit. audit ≡ audit_confirmed book.now.present step.now) }
@@ -87,8 +89,15 @@ pub(crate) fn audit_to_judge(performed: &Performed, audit: Option<OpenAudit>) ->
 /// line for the reply, where its call is confirmed, and one for the verdict, where that is kept. The
 /// latter has a reply that isn't read where memory ran out for this one: a restore comes to the same
 /// verdict then. Where the verdict couldn't be noted the audit has none, and the session ends.
-pub(crate) fn judge_reply<C: Ledger, A: Ledger, R: Wait, M: Moments, J: Journal>(
-    context: &Context<'_, C, A, R, M, J>,
+pub(crate) fn judge_reply<
+    C: Ledger,
+    A: Ledger,
+    R: Wait,
+    M: Moments,
+    J: Journal<N>,
+    N: ChronicleName,
+>(
+    context: &Context<'_, C, A, R, M, J, N>,
     sent: &SentText<'_>,
     audit: OpenAudit,
 ) -> Result<(), Ended>
@@ -110,9 +119,10 @@ pub(crate) fn judge_reply<C: Ledger, A: Ledger, R: Wait, M: Moments, J: Journal>
         Err(fault) => return Err(ended_unsaved(fault)),
     };
     let mut book = context.shared.lock(context.rt);
+    let before = book.recorded();
     let is_kept = bring_verdict(&mut book, point, call, judged);
     if let (true, Some(entry)) = (is_kept, entry) {
-        context.journal.note(entry, call);
+        note_made(context.journal, &book, before, entry, call);
     }
     Ok(())
 }
@@ -126,8 +136,8 @@ fn reply_to_note<'s>(sent: &'s SentText<'_>, is_short: bool) -> &'s str
 
 /// Keeps a verdict on the audit of a point whose call has this number. What is refused is dropped.
 /// Returns whether it is kept.
-fn bring_verdict<C: Ledger, A: Ledger>(
-    book: &mut Book<C, A>,
+fn bring_verdict<C: Ledger, A: Ledger, N: ChronicleName>(
+    book: &mut Book<C, A, N>,
     point: PointId,
     call: u64,
     judged: Judged,
@@ -145,8 +155,8 @@ fn bring_verdict<C: Ledger, A: Ledger>(
 
 /// The verdict on what a message says, and whether memory ran out for it. What can't be read for
 /// lack of memory is judged as unread.
-fn judged_by<C: Ledger, A: Ledger, R: Wait, M: Moments, J: Journal>(
-    context: &Context<'_, C, A, R, M, J>,
+fn judged_by<C: Ledger, A: Ledger, R: Wait, M: Moments, J: Journal<N>, N: ChronicleName>(
+    context: &Context<'_, C, A, R, M, J, N>,
     sent: &SentText<'_>,
     job: AuditJob,
 ) -> (Judged, bool)

@@ -9,9 +9,10 @@ use crate::context::Context;
 use crate::journal::Journal;
 use crate::serving::ended::{Ended, ended_unsaved};
 use crate::serving::heard::SentCall;
-use crate::serving::noting::prepare_link;
+use crate::serving::noting::{note_made, prepare_link};
 use crate::serving::sockets::{clear_to_leave, send_text};
 use crate::session_core::{Peer, SessionCore};
+use chronicle::ChronicleName;
 use messages::{ActionKind, Call, CallBody, push_call};
 use ocpp_scalars::{Instant, Moments, Refusal};
 use site_core::PointId;
@@ -21,11 +22,11 @@ use std::io::{Read, Write};
 use std::sync::Wait;
 use std::sync::ledger::Ledger;
 use tungstenite::{MaskKeys, WebSocket};
-use version_store::Pass;
+use version_store::{Pass, RecordedStates};
 
 /// Gives a point's session its link, before its first message, and notes it. Without one it ends.
-pub fn attach_session<C: Ledger, A: Ledger, R: Wait, M: Moments, J: Journal>(
-    context: &Context<'_, C, A, R, M, J>,
+pub fn attach_session<C: Ledger, A: Ledger, R: Wait, M: Moments, J: Journal<N>, N: ChronicleName>(
+    context: &Context<'_, C, A, R, M, J, N>,
     core: &mut SessionCore,
     pass: &mut Pass<C, A>,
 ) -> Result<(), Ended>
@@ -45,9 +46,10 @@ pub fn attach_session<C: Ledger, A: Ledger, R: Wait, M: Moments, J: Journal>(
     // A law: nothing runs.
     noted_steps_are_restored();
     let mut book = context.shared.lock(context.rt);
+    let before = book.recorded();
     let attached = book.attach(pass, point);
     if let (Ok(link), Some(entry)) = (&attached, entry) {
-        context.journal.note(entry, *link);
+        note_made(context.journal, &book, before, entry, *link);
     }
     drop(book);
     match attached {
@@ -69,9 +71,10 @@ pub fn send_call<
     A: Ledger,
     R: Wait,
     M: Moments,
-    J: Journal,
+    J: Journal<N>,
+    N: ChronicleName,
 >(
-    context: &Context<'_, C, A, R, M, J>,
+    context: &Context<'_, C, A, R, M, J, N>,
     socket: &mut WebSocket<S, K>,
     core: &SessionCore,
     moment: Instant,
@@ -86,13 +89,14 @@ pub fn send_call<
     if link_to_send != Some(link) {
         return Ok(None);
     }
-    let Some(call) = next_call(context, core.point_id(), link, moment)? else {
+    let Some((call, seen)) = next_call(context, core.point_id(), link, moment)? else {
         return Ok(None);
     };
     let Ok(text) = text_of_call(context.alloc, &call) else {
         return Err(Ended::OutOfMemory);
     };
-    let cleared = clear_to_leave(context.journal, text.as_str())?;
+    let seen = Some(seen);
+    let cleared = clear_to_leave(context.journal, text.as_str(), &seen)?;
     send_text(context.alloc, socket, cleared)?;
     Ok(Some(SentCall {
         number: call.number,
@@ -112,14 +116,14 @@ fn action_of(body: &CallBody) -> ActionKind
     }
 }
 
-/// The first call that waits for a point, which is in flight from then on, and noted so. None where
-/// the point has a later link by now.
-fn next_call<C: Ledger, A: Ledger, R: Wait, M: Moments, J: Journal>(
-    context: &Context<'_, C, A, R, M, J>,
+/// The first call that waits for a point, which is in flight from then on, and noted so, and what was
+/// recorded of the book by that. None where the point has a later link by now.
+fn next_call<C: Ledger, A: Ledger, R: Wait, M: Moments, J: Journal<N>, N: ChronicleName>(
+    context: &Context<'_, C, A, R, M, J, N>,
     point: &PointId,
     link: u64,
     moment: Instant,
-) -> Result<Option<Call>, Ended> {
+) -> Result<Option<(Call, RecordedStates<N>)>, Ended> {
     let noted = Noted::Sent { link, call: 0 };
     let entry = match context.journal.prepare(moment, point.as_str(), noted) {
         Ok(entry) => entry,
@@ -131,13 +135,16 @@ fn next_call<C: Ledger, A: Ledger, R: Wait, M: Moments, J: Journal>(
     // A law: nothing runs.
     noted_steps_are_restored();
     let mut book = context.shared.lock(context.rt);
+    let before = book.recorded();
     let call = book.send(point, link);
     if let (Ok(Some(call)), Some(entry)) = (&call, entry) {
-        context.journal.note(entry, call.number);
+        note_made(context.journal, &book, before, entry, call.number);
     }
+    let seen = book.recorded();
     drop(book);
     match call {
-        Ok(call) => Ok(call),
+        Ok(Some(call)) => Ok(Some((call, seen))),
+        Ok(None) => Ok(None),
         Err(Refusal::OutOfMemory) => Err(Ended::OutOfMemory),
         Err(_) => Ok(None),
     }
@@ -155,8 +162,8 @@ fn text_of_call(alloc: Global, call: &Call) -> Result<String, AllocError>
 /// The link of a point's session is lost, and noted so: a call that was in flight over it waits
 /// again. What the book refuses is dropped: the point has a later link. Where it can't be noted the
 /// point keeps the link, until it has a later one.
-pub(crate) fn lose<C: Ledger, A: Ledger, R: Wait, M: Moments, J: Journal>(
-    context: &Context<'_, C, A, R, M, J>,
+pub(crate) fn lose<C: Ledger, A: Ledger, R: Wait, M: Moments, J: Journal<N>, N: ChronicleName>(
+    context: &Context<'_, C, A, R, M, J, N>,
     core: SessionCore,
 ) {
     let Peer::Point { link: Some(link) } = core.peer() else {
@@ -169,8 +176,9 @@ pub(crate) fn lose<C: Ledger, A: Ledger, R: Wait, M: Moments, J: Journal>(
     // A law: nothing runs.
     noted_steps_are_restored();
     let mut book = context.shared.lock(context.rt);
+    let before = book.recorded();
     let lost = book.lost(core.into_point_id(), link);
     if let (Ok(()), Some(entry)) = (lost, entry) {
-        context.journal.note(entry, 0);
+        note_made(context.journal, &book, before, entry, 0);
     }
 }

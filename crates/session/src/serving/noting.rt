@@ -2,25 +2,35 @@
 
 ghost use Rattle.std.specs.Prelude.{◌≡◌, IfOk, IfSome};
 ghost use Rattle.site_journal.specs.Line.{noted_state};
+ghost use Rattle.site_journal.specs.MadeStep.{IsOfMadeStep};
 ghost use Rattle.session.specs.declared.outcome.Outcome.{Outcome};
 ghost use Rattle.session.specs.declared.outcome.Performed.{Performed};
-ghost use Rattle.session.specs.Noting.{AsksFor, IsEntryAt, IsEntryFor, IsNotable};
+ghost use Rattle.version_store.specs.Recording.{IsAt};
+ghost use Rattle.session.specs.Noting.{AsksFor, IsEntryAt, IsEntryFor, IsNotable, IsPresent};
 
 use crate::context::Context;
 use crate::journal::{Journal, JournalFault};
 use crate::outcome::{Outcome, Performed};
+use chronicle::ChronicleName;
 use ocpp_scalars::{Instant, Moments};
 use site_core::{Reply, Step};
 use site_journal::{Entry, Noted, noted_by, noted_steps_are_restored, number_drawn};
 use std::sync::Wait;
 use std::sync::ledger::Ledger;
 use texts::SentText;
-use version_store::Book;
+use version_store::{Book, RecordedStates};
 
 /// Makes the entry of a message whose step may change something, or none. A request for a schedule
 /// or for a status changes nothing.
-pub(crate) fn prepare_message<C: Ledger, A: Ledger, R: Wait, M: Moments, J: Journal>(
-    context: &Context<'_, C, A, R, M, J>,
+pub(crate) fn prepare_message<
+    C: Ledger,
+    A: Ledger,
+    R: Wait,
+    M: Moments,
+    J: Journal<N>,
+    N: ChronicleName,
+>(
+    context: &Context<'_, C, A, R, M, J, N>,
     sent: &SentText<'_>,
     step: &Option<Step>,
 ) -> Result<Option<Entry>, JournalFault>
@@ -37,8 +47,15 @@ pub(crate) fn prepare_message<C: Ledger, A: Ledger, R: Wait, M: Moments, J: Jour
 }
 
 /// Makes the entry of what becomes of a point's link.
-pub(crate) fn prepare_link<C: Ledger, A: Ledger, R: Wait, M: Moments, J: Journal>(
-    context: &Context<'_, C, A, R, M, J>,
+pub(crate) fn prepare_link<
+    C: Ledger,
+    A: Ledger,
+    R: Wait,
+    M: Moments,
+    J: Journal<N>,
+    N: ChronicleName,
+>(
+    context: &Context<'_, C, A, R, M, J, N>,
     point: &str,
     noted: Noted<'_>,
 ) -> Result<Option<Entry>, JournalFault>
@@ -53,14 +70,16 @@ pub(crate) fn prepare_link<C: Ledger, A: Ledger, R: Wait, M: Moments, J: Journal
 
 /// Notes the step of a message, if it was made and changed something. Nobody else has had the book
 /// since before it.
-pub(crate) fn note_performed<C: Ledger, A: Ledger, J: Journal>(
+pub(crate) fn note_performed<C: Ledger, A: Ledger, J: Journal<N>, N: ChronicleName>(
     journal: &J,
-    book: &Book<C, A>,
+    book: &Book<C, A, N>,
+    before: RecordedStates<N>,
     entry: Option<Entry>,
     confirms: bool,
     performed: &Performed,
 )
-    requires { IfSome entry (λ e. IsNotable e confirms performed.now book.now) }
+    requires { IfSome entry
+        (λ e. IsNotable e confirms performed.now (IsAt before) book.now) }
 {
     // A law: nothing runs.
     noted_steps_are_restored();
@@ -68,10 +87,23 @@ pub(crate) fn note_performed<C: Ledger, A: Ledger, J: Journal>(
         return;
     };
     if confirms {
-        journal.note(entry, 0);
+        note_made(journal, book, before, entry, 0);
     } else if let Some(number) = number_drawn(reply, book.version()) {
-        journal.note(entry, number);
+        note_made(journal, book, before, entry, number);
     }
+}
+
+/// Notes a step that led from a state, before which this was recorded, to the present one.
+pub(crate) fn note_made<C: Ledger, A: Ledger, J: Journal<N>, N: ChronicleName>(
+    journal: &J,
+    book: &Book<C, A, N>,
+    before: RecordedStates<N>,
+    entry: Entry,
+    number: u64,
+)
+    requires { IsOfMadeStep entry number (IsAt before) (IsPresent book.now) }
+{
+    journal.note(entry, number, &before, &book.recorded());
 }
 
 /// The reply of a step that was made.

@@ -8,6 +8,7 @@ use crate::context::Context;
 use crate::journal::Journal;
 use crate::session_core::SessionCore;
 use crate::todo::Todo;
+use chronicle::ChronicleName;
 use meaning::Said;
 use ocpp_scalars::{Instant, Moments, Refusal};
 use ocppj_frame::ReadingMemory;
@@ -25,8 +26,15 @@ pub(crate) fn is_long(frame: &str) -> bool {
 }
 
 /// What a message asks for. What reading it takes is given back at once.
-pub(crate) fn read_message<C: Ledger, A: Ledger, R: Wait, M: Moments, J: Journal>(
-    context: &Context<'_, C, A, R, M, J>,
+pub(crate) fn read_message<
+    C: Ledger,
+    A: Ledger,
+    R: Wait,
+    M: Moments,
+    J: Journal<N>,
+    N: ChronicleName,
+>(
+    context: &Context<'_, C, A, R, M, J, N>,
     core: &SessionCore,
     moment: Instant,
     frame: &str,
@@ -44,10 +52,14 @@ pub(crate) fn read_message<C: Ledger, A: Ledger, R: Wait, M: Moments, J: Journal
 }
 
 /// What a message says in reply to an audit, read in the same way.
-pub(crate) fn read_reply<C: Ledger, A: Ledger, R: Wait, M: Moments, J: Journal>(
-    context: &Context<'_, C, A, R, M, J>,
-    sent: &SentText<'_>,
-) -> Result<Said, AllocError>
+pub(crate) fn read_reply<
+    C: Ledger,
+    A: Ledger,
+    R: Wait,
+    M: Moments,
+    J: Journal<N>,
+    N: ChronicleName,
+>(context: &Context<'_, C, A, R, M, J, N>, sent: &SentText<'_>) -> Result<Said, AllocError>
     ensures { IfOk result (λ said. said ≡ said_of sent.now) }
 {
     if !is_long(sent.frame()) {

@@ -3,9 +3,10 @@
 ghost use Rattle.std.specs.Prelude.{◌≡◌, ◌↔◌, IsTrue, IfOk, IfSome, option_map, string_bytes};
 ghost use Rattle.session.specs.Noting.{IsEntryFor, IsEntryToNote, is_confirm};
 ghost use Rattle.session.specs.Perform.{IsOfText};
-ghost use Rattle.session.specs.Served.{HasOutcome, IsOutcomeOf, IsOutcomeOfJob, IsPerformed, IsServed, IsUnmade};
+ghost use Rattle.session.specs.Served.{HasOutcome, IsOutcomeOf, IsOutcomeOfJob, IsPerformed, IsServed, IsUnmade, seen_at};
 ghost use Rattle.session.specs.Serving.{KeepsPass};
 ghost use Rattle.session.specs.Session.{sent_by};
+ghost use Rattle.version_store.specs.Recording.{IsAt};
 
 use crate::context::Context;
 use crate::journal::{Journal, JournalFault};
@@ -23,6 +24,7 @@ use crate::serving::waiting::{Sending, Waiting};
 use crate::session_core::SessionCore;
 use crate::step::perform;
 use crate::todo::Todo;
+use chronicle::ChronicleName;
 use compile_pool::{answer_job, answer_unmade, wait_answer};
 use meaning::Ask;
 use ocpp_scalars::{Instant, Moments, Refusal};
@@ -33,7 +35,7 @@ use std::sync::Wait;
 use std::sync::ledger::Ledger;
 use texts::SentText;
 use tungstenite::MaskKeys;
-use version_store::{Job, Pass};
+use version_store::{Job, Pass, RecordedStates};
 
 /// Waits for the next WebSocket message, and serves it if it is a text message. Where nothing comes
 /// for as long as the stream lets a read wait, says so. An error ends the session. The client of a
@@ -46,9 +48,10 @@ pub fn serve_next<
     A: Ledger,
     R: Wait,
     M: Moments,
-    J: Journal,
+    J: Journal<N>,
+    N: ChronicleName,
 >(
-    context: &Context<'_, C, A, R, M, J>,
+    context: &Context<'_, C, A, R, M, J, N>,
     socket: &mut W,
     core: &SessionCore,
     pass: &mut Pass<C, A>,
@@ -68,10 +71,10 @@ pub fn serve_next<
         return Err(Ended::Broken);
     };
     let frame = text.as_str();
-    let Served { answer, told } = serve_sent_text(context, socket, core, pass, now, frame)?;
+    let Served { answer, told, seen } = serve_sent_text(context, socket, core, pass, now, frame)?;
     socket.still_there()?;
     if let Some(answer) = &answer {
-        let cleared = clear_to_leave(context.journal, answer.as_str())?;
+        let cleared = clear_to_leave(context.journal, answer.as_str(), &seen)?;
         send_text(context.alloc, socket.websocket(), cleared)?;
     }
     let sent = send_call(context, socket.websocket(), core, now)?;
@@ -80,11 +83,13 @@ pub fn serve_next<
 
 /// What came of a message.
 #[derive(Drop)]
-pub struct Served {
+pub struct Served<N: ChronicleName> {
     /// The message that answers it, if one does.
     pub answer: Option<String>,
     /// What it told.
     pub told: Told,
+    /// What was recorded of the book by its step, if it has one.
+    pub seen: Option<RecordedStates<N>>,
 }
 
 /// Makes the step of a message of this session that comes at this moment, if it has one, and gives
@@ -92,17 +97,25 @@ pub struct Served {
 /// point had when this very request was taken, and for what was asked. The answer to another request
 /// is never handed on: it ends the session. A step that couldn't be noted isn't made: the message is
 /// answered as one that memory ran out for.
-#[tactic(auto, using(crate::proofs::AskedLemmas::asks_for))]
-pub fn serve_sent_text<C: Ledger, A: Ledger, R: Wait, M: Moments, J: Journal, W: Waiting>(
-    context: &Context<'_, C, A, R, M, J>,
+pub fn serve_sent_text<
+    C: Ledger,
+    A: Ledger,
+    R: Wait,
+    M: Moments,
+    J: Journal<N>,
+    W: Waiting,
+    N: ChronicleName,
+>(
+    context: &Context<'_, C, A, R, M, J, N>,
     waiting: &mut W,
     core: &SessionCore,
     pass: &mut Pass<C, A>,
     moment: Instant,
     frame: &str,
-) -> Result<Served, Ended>
+) -> Result<Served<N>, Ended>
     ensures pass { KeepsPass pass.old pass.new }
     ensures served { IfOk result (λ served. IsServed core.now pass.old
+        (seen_at served.seen)
         (sent_by core.now moment frame.now) (option_map string_bytes served.answer)) }
 {
     let Ok(mut todo) = read_message(context, core, moment, frame) else {
@@ -115,7 +128,7 @@ pub fn serve_sent_text<C: Ledger, A: Ledger, R: Wait, M: Moments, J: Journal, W:
         Ok(entry) => entry,
         Err(fault) => return served_unmade(core, todo, fault),
     };
-    let outcome = outcome_of(context, waiting, pass, &sent, step, entry)?;
+    let (outcome, seen) = outcome_of(context, waiting, pass, &sent, step, entry)?;
     let told = told_by(context.alloc, frame, subject, &outcome);
     let is_short = matches!(outcome, Some(Outcome::Refused(Refusal::OutOfMemory)));
     let Ok(answer) = core.answer(todo, outcome) else {
@@ -124,13 +137,17 @@ pub fn serve_sent_text<C: Ledger, A: Ledger, R: Wait, M: Moments, J: Journal, W:
     if is_short && answer.is_none() {
         return Err(Ended::OutOfMemory);
     }
-    Ok(Served { answer, told })
+    Ok(Served { answer, told, seen })
 }
 
 /// The answer to a message whose step isn't made, since it couldn't be noted: that of a CALL that
 /// memory ran out for. A reply has none, and the session ends: its call goes out again over the
 /// point's next link.
-fn served_unmade(core: &SessionCore, todo: Todo, fault: JournalFault) -> Result<Served, Ended>
+fn served_unmade<N: ChronicleName>(
+    core: &SessionCore,
+    todo: Todo,
+    fault: JournalFault,
+) -> Result<Served<N>, Ended>
     ensures { IfOk result
         (λ served. IsUnmade core.now todo.owed (option_map string_bytes served.answer)) }
 {
@@ -141,56 +158,78 @@ fn served_unmade(core: &SessionCore, todo: Todo, fault: JournalFault) -> Result<
         Ok(answer) => Ok(Served {
             answer,
             told: Told::Other,
+            seen: None,
         }),
         Err(_) => Err(Ended::OutOfMemory),
     }
 }
 
-/// The outcome of the step of a message, if it has one.
-fn outcome_of<C: Ledger, A: Ledger, R: Wait, M: Moments, J: Journal, W: Waiting>(
-    context: &Context<'_, C, A, R, M, J>,
+/// The outcome of the step of a message, if it has one, and what was recorded of the book by it.
+fn outcome_of<
+    C: Ledger,
+    A: Ledger,
+    R: Wait,
+    M: Moments,
+    J: Journal<N>,
+    W: Waiting,
+    N: ChronicleName,
+>(
+    context: &Context<'_, C, A, R, M, J, N>,
     waiting: &mut W,
     pass: &mut Pass<C, A>,
     sent: &SentText<'_>,
     step: Option<Step>,
     entry: Option<Entry>,
-) -> Result<Option<Outcome>, Ended>
+) -> Result<(Option<Outcome>, Option<RecordedStates<N>>), Ended>
     requires of_text { IfSome step IsOfText }
     requires entry { IsEntryFor step entry }
     ensures pass { KeepsPass pass.old pass.new }
-    ensures outcome { IfOk result (HasOutcome pass.old sent.now step) }
+    ensures outcome { IfOk result (λ made. HasOutcome pass.old (seen_at made.1)
+        sent.now step made.0) }
 {
     match step {
         Some(step) => {
-            let outcome = outcome_of_step(context, waiting, pass, sent, step, entry)?;
-            Ok(Some(outcome))
+            let (outcome, seen) = outcome_of_step(context, waiting, pass, sent, step, entry)?;
+            Ok((Some(outcome), Some(seen)))
         }
-        None => Ok(None),
+        None => Ok((None, None)),
     }
 }
 
 /// Makes the step of a message. A request for a schedule is compiled, and its answer collected. A
 /// reply to the point's audit is judged, once its call is confirmed.
-fn outcome_of_step<C: Ledger, A: Ledger, R: Wait, M: Moments, J: Journal, W: Waiting>(
-    context: &Context<'_, C, A, R, M, J>,
+fn outcome_of_step<
+    C: Ledger,
+    A: Ledger,
+    R: Wait,
+    M: Moments,
+    J: Journal<N>,
+    W: Waiting,
+    N: ChronicleName,
+>(
+    context: &Context<'_, C, A, R, M, J, N>,
     waiting: &mut W,
     pass: &mut Pass<C, A>,
     sent: &SentText<'_>,
     step: Step,
     entry: Option<Entry>,
-) -> Result<Outcome, Ended>
+) -> Result<(Outcome, RecordedStates<N>), Ended>
     requires of_text { IsOfText step }
     requires entry { IfSome entry (IsEntryToNote step) }
     ensures pass { KeepsPass pass.old pass.new }
-    ensures outcome { IfOk result (IsOutcomeOf pass.old sent.now step) }
+    ensures outcome { IfOk result (λ made.
+        IsOutcomeOf pass.old (IsAt made.1) sent.now step made.0) }
 {
-    let (performed, audit) = perform_noted(context, pass, step, entry)?;
+    let (performed, audit, seen) = perform_noted(context, pass, step, entry)?;
     if let Some(audit) = audit_to_judge(&performed, audit) {
         judge_reply(context, sent, audit)?;
     }
     match performed {
-        Performed::Job(job) => answer_of(context, waiting, pass, job),
-        Performed::Outcome(outcome) => Ok(outcome),
+        Performed::Job(job) => {
+            let outcome = answer_of(context, waiting, pass, job)?;
+            Ok((outcome, seen))
+        }
+        Performed::Outcome(outcome) => Ok((outcome, seen)),
     }
 }
 
@@ -198,27 +237,29 @@ fn outcome_of_step<C: Ledger, A: Ledger, R: Wait, M: Moments, J: Journal, W: Wai
 /// that, if it changed something. In a reply to the point's audit, what that asked is read before:
 /// nobody else has the book in between, so it is the audit whose call is confirmed. If there is no
 /// memory for it, the call isn't confirmed, nothing is noted, and the session ends.
-fn perform_noted<C: Ledger, A: Ledger, R: Wait, M: Moments, J: Journal>(
-    context: &Context<'_, C, A, R, M, J>,
+fn perform_noted<C: Ledger, A: Ledger, R: Wait, M: Moments, J: Journal<N>, N: ChronicleName>(
+    context: &Context<'_, C, A, R, M, J, N>,
     pass: &mut Pass<C, A>,
     step: Step,
     entry: Option<Entry>,
-) -> Result<(Performed, Option<OpenAudit>), Ended>
+) -> Result<(Performed, Option<OpenAudit>, RecordedStates<N>), Ended>
     requires of_text { IsOfText step }
     requires entry { IfSome entry (IsEntryToNote step) }
     ensures pass { KeepsPass pass.old pass.new }
-    ensures performed { IfOk result
-        (λ performed. IsPerformed pass.old step performed.0 performed.1) }
+    ensures performed { IfOk result (λ performed. IsPerformed pass.old
+        (IsAt performed.2) step performed.0 performed.1) }
 {
     let confirms = is_confirm(&step);
     let mut book = context.shared.lock(context.rt);
     let Ok(audit) = audit_confirmed(context.alloc, &book, &step) else {
         return Err(Ended::OutOfMemory);
     };
+    let before = book.recorded();
     let performed = perform(&mut book, pass, step);
-    note_performed(context.journal, &book, entry, confirms, &performed);
+    note_performed(context.journal, &book, before, entry, confirms, &performed);
+    let seen = book.recorded();
     drop(book);
-    Ok((performed, audit))
+    Ok((performed, audit, seen))
 }
 
 fn is_confirm(step: &Step) -> bool
@@ -230,8 +271,16 @@ fn is_confirm(step: &Step) -> bool
 /// The answer to a request that is kept, which a worker compiles, or the session itself. No lock
 /// tells that what is handed out in the end is for the book and the `Ask` of this request, so they
 /// are compared.
-fn answer_of<C: Ledger, A: Ledger, R: Wait, M: Moments, J: Journal, W: Waiting>(
-    context: &Context<'_, C, A, R, M, J>,
+fn answer_of<
+    C: Ledger,
+    A: Ledger,
+    R: Wait,
+    M: Moments,
+    J: Journal<N>,
+    W: Waiting,
+    N: ChronicleName,
+>(
+    context: &Context<'_, C, A, R, M, J, N>,
     waiting: &mut W,
     pass: &mut Pass<C, A>,
     job: Job,
@@ -257,11 +306,15 @@ fn answer_of<C: Ledger, A: Ledger, R: Wait, M: Moments, J: Journal, W: Waiting>(
 
 /// Has a job compiled by a worker, or compiles it. Where too many wait, or the client is gone before
 /// its request has an answer, the request is answered unmade: it isn't begun any more.
-fn compile_or_leave<C: Ledger, A: Ledger, R: Wait, M: Moments, J: Journal, W: Waiting>(
-    context: &Context<'_, C, A, R, M, J>,
-    waiting: &mut W,
-    job: Job,
-) {
+fn compile_or_leave<
+    C: Ledger,
+    A: Ledger,
+    R: Wait,
+    M: Moments,
+    J: Journal<N>,
+    W: Waiting,
+    N: ChronicleName,
+>(context: &Context<'_, C, A, R, M, J, N>, waiting: &mut W, job: Job) {
     let (rt, shared) = (context.rt, context.shared);
     let (number, book, ask) = (job.number(), job.share_book(), *job.ask());
     match waiting.send_job(rt, context.jobs, job) {

@@ -4,6 +4,7 @@ use crate::serving::ended::Ended;
 use crate::serving::heard::Incoming;
 use crate::serving::sockets::read_next;
 use crate::serving::waiting::{Sending, Waiting};
+use chronicle::ChronicleName;
 use compile_pool::Jobs;
 use std::io::{Read, Write};
 use std::sync::Wait;
@@ -46,7 +47,11 @@ impl<S, K> Waiting for WebSocket<S, K> {
         }
     }
 
-    fn wait<C: Ledger, A: Ledger>(&mut self, _shared: &Shared<C, A>, _number: u64) -> bool {
+    fn wait<C: Ledger, A: Ledger, N: ChronicleName>(
+        &mut self,
+        _shared: &Shared<C, A, N>,
+        _number: u64,
+    ) -> bool {
         true
     }
 }

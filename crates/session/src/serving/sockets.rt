@@ -1,13 +1,15 @@
 //! Messages from a socket and to it.
 
-ghost use Rattle.std.specs.Prelude.{◌≡◌, true};
-
 use crate::journal::Journal;
 use crate::serving::ended::{Ended, ended_by, ended_unsaved};
 use crate::serving::heard::Incoming;
+use chronicle::ChronicleName;
+use journal_writer::Receipt;
 use std::alloc::{AllocError, Global};
 use std::io::{ErrorKind, Read, Write};
+use std::marker::Model;
 use tungstenite::{Error, MaskKeys, Message, WebSocket};
+use version_store::RecordedStates;
 
 /// The next message.
 pub(crate) fn read_next<S: Read + Write + Drop, K: MaskKeys + Drop>(
@@ -40,31 +42,58 @@ fn is_of_waiting(kind: ErrorKind) -> bool {
     matches!(kind, ErrorKind::WouldBlock | ErrorKind::Interrupted)
 }
 
-/// A message that may leave: since it was written, its journal has said that all is kept.
+/// A message that may leave: all is kept that its step depends on, as the receipt shows.
 #[derive(Drop)]
-pub(crate) struct Cleared<'a, J: Journal> {
+pub(crate) struct Cleared<'a, N: ChronicleName> {
     text: &'a str,
-    journal: &'a J,
-    ghost kept: { J.lets_leave journal.now ≡ true },
+    /// What was recorded of the book by its step, if it has one.
+    seen: &'a Option<RecordedStates<N>>,
+    receipt: Option<Receipt<N>>,
 }
 
-/// Waits until all is kept that a message may depend on: what this session noted, and what others
-/// did. Nobody has the book meanwhile. Where it isn't kept, the session ends without the message.
-pub(crate) fn clear_to_leave<'a, J: Journal>(
-    journal: &'a J,
+impl<'a, N: ChronicleName> Model for Cleared<'a, N> {
+    ghost use Rattle.std.specs.Prelude.{ℕ, List};
+    ghost use Rattle.session.specs.Leaving.{IsCovered};
+
+    ghost Value = { List ℕ };
+
+    ghost view = { λ c. c.text.now };
+
+    ghost invariant = { λ c. IsCovered c.receipt c.seen.now };
+}
+
+/// Waits until all is kept that a message depends on: its own step, and what others did before.
+/// Nobody has the book meanwhile. Where it isn't kept, the session ends without the message.
+pub(crate) fn clear_to_leave<'a, J: Journal<N>, N: ChronicleName>(
+    journal: &J,
     text: &'a str,
-) -> Result<Cleared<'a, J>, Ended> {
-    match journal.write_out() {
-        Ok(()) => Ok(Cleared { text, journal }),
+    seen: &'a Option<RecordedStates<N>>,
+) -> Result<Cleared<'a, N>, Ended> {
+    let Some(recorded) = seen else {
+        return match journal.write_out() {
+            Ok(()) => Ok(Cleared {
+                text,
+                seen,
+                receipt: None,
+            }),
+            Err(fault) => Err(ended_unsaved(fault)),
+        };
+    };
+    match journal.receipt(recorded) {
+        Ok(receipt) => Ok(Cleared {
+            text,
+            seen,
+            receipt: Some(receipt),
+        }),
         Err(fault) => Err(ended_unsaved(fault)),
     }
 }
 
 /// Sends a message.
-pub(crate) fn send_text<S: Read + Write + Drop, K: MaskKeys + Drop, J: Journal>(
+pub(crate) fn send_text<S: Read + Write + Drop, K: MaskKeys + Drop, N: ChronicleName>(
     alloc: Global,
     socket: &mut WebSocket<S, K>,
-    cleared: Cleared<'_, J>,
+    cleared: Cleared<'_, N>,
 ) -> Result<(), Ended> {
     let message = match Message::text(alloc, cleared.text) {
         Ok(message) => message,

@@ -1,5 +1,6 @@
 //! What a session does until its request has its answer.
 
+use chronicle::ChronicleName;
 use compile_pool::Jobs;
 use std::sync::Wait;
 use std::sync::ledger::Ledger;
@@ -22,5 +23,9 @@ pub trait Waiting {
 
     /// Waits until the request of a number has its answer, or leaves that to whoever collects it.
     /// False where the client is gone before.
-    fn wait<C: Ledger, A: Ledger>(&mut self, shared: &Shared<C, A>, number: u64) -> bool;
+    fn wait<C: Ledger, A: Ledger, N: ChronicleName>(
+        &mut self,
+        shared: &Shared<C, A, N>,
+        number: u64,
+    ) -> bool;
 }

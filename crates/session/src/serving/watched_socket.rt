@@ -7,6 +7,7 @@ use crate::serving::heard::Incoming;
 use crate::serving::session_socket::SessionSocket;
 use crate::serving::sockets::read_next;
 use crate::serving::waiting::{Sending, Waiting};
+use chronicle::ChronicleName;
 use compile_pool::{Jobs, Unsent, is_at_most};
 use std::io::{Read, Write};
 use std::rt::Clock;
@@ -176,7 +177,11 @@ impl<S: Read + Write + Watched + Drop, K: MaskKeys + Drop, R: Wait + Clock> Wait
         }
     }
 
-    fn wait<C: Ledger, A: Ledger>(&mut self, shared: &Shared<C, A>, number: u64) -> bool {
+    fn wait<C: Ledger, A: Ledger, N: ChronicleName>(
+        &mut self,
+        shared: &Shared<C, A, N>,
+        number: u64,
+    ) -> bool {
         let mut wait = FIRST_WAIT;
         for _turn in self.rt.forever() {
             if is_answered(self.rt, shared, number, wait) {
@@ -192,9 +197,9 @@ impl<S: Read + Write + Watched + Drop, K: MaskKeys + Drop, R: Wait + Clock> Wait
 }
 
 /// Whether the request of a number has its answer within so many milliseconds.
-fn is_answered<C: Ledger, A: Ledger, R: Wait + Clock>(
+fn is_answered<C: Ledger, A: Ledger, R: Wait + Clock, N: ChronicleName>(
     rt: &R,
-    shared: &Shared<C, A>,
+    shared: &Shared<C, A, N>,
     number: u64,
     wait: u64,
 ) -> bool {

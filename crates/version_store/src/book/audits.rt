@@ -10,13 +10,15 @@ ghost use Rattle.version_store.specs.Calls.{Calls, Makes, IsRefusalOf};
 
 use crate::book::Book;
 use crate::pass::Pass;
+use crate::recorder::make_recorded;
+use chronicle::ChronicleName;
 use messages::PointStatus;
 use ocpp_scalars::Refusal;
 use site_core::{PointId, Refused, Reply, Step};
 use std::sync::ledger::Ledger;
 use sweep_compiler::{AuditJob, Judged};
 
-impl<C: Ledger, A: Ledger> Book<C, A> {
+impl<C: Ledger, A: Ledger, N: ChronicleName> Book<C, A, N> {
     /// Asks a point for its own schedule of a connector, 0 being the whole point, over this many
     /// seconds (chapter 5.7). What the point has now is kept, and its reply is held against that.
     /// It takes the place of an audit before. The number is that of the call.
@@ -66,7 +68,7 @@ impl<C: Ledger, A: Ledger> Book<C, A> {
             call,
             judged,
         };
-        match self.history.make(step) {
+        match make_recorded(&mut self.history, &mut self.recorder, step) {
             Ok(Reply::VerdictKept) => Ok(()),
             Ok(_) => unreachable!(),
             Err(

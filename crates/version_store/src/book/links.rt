@@ -8,12 +8,14 @@ ghost use Rattle.version_store.specs.Calls.{Calls, Makes, IsRefusalOf, sending};
 
 use crate::book::Book;
 use crate::pass::Pass;
+use crate::recorder::make_recorded;
+use chronicle::ChronicleName;
 use messages::Call;
 use ocpp_scalars::Refusal;
 use site_core::{PointId, Reply, Step};
 use std::sync::ledger::Ledger;
 
-impl<C: Ledger, A: Ledger> Book<C, A> {
+impl<C: Ledger, A: Ledger, N: ChronicleName> Book<C, A, N> {
     /// Gives a point a new link (OCPP-J 1.6, 3), over which its calls are sent from now on.
     pub fn attach(&mut self, pass: &mut Pass<C, A>, point: PointId) -> Result<u64, Refusal>
         ensures calls { IfOk result (λ link. Calls self.old pass.old (steps.Attach point)
@@ -38,7 +40,11 @@ impl<C: Ledger, A: Ledger> Book<C, A> {
             IsRefusalOf self.old (steps.Send point link) refusal) }
         ensures kept { IfErr result (λ refusal. self.new ≡ self.old) }
     {
-        match self.history.make(Step::Send { point, link }) {
+        match make_recorded(
+            &mut self.history,
+            &mut self.recorder,
+            Step::Send { point, link },
+        ) {
             Ok(Reply::Sent(call)) => Ok(Some(call)),
             Ok(Reply::Nothing) => Ok(None),
             Ok(_) => unreachable!(),
@@ -67,7 +73,7 @@ impl<C: Ledger, A: Ledger> Book<C, A> {
             call,
             accepted,
         };
-        match self.history.make(step) {
+        match make_recorded(&mut self.history, &mut self.recorder, step) {
             Ok(Reply::Confirmed) => Ok(()),
             Ok(_) => unreachable!(),
             Err(refused) => Err(refused.refusal),
@@ -82,7 +88,11 @@ impl<C: Ledger, A: Ledger> Book<C, A> {
             IsRefusalOf self.old (steps.Lost point link) refusal) }
         ensures kept { IfErr result (λ refusal. self.new ≡ self.old) }
     {
-        match self.history.make(Step::Lost { point, link }) {
+        match make_recorded(
+            &mut self.history,
+            &mut self.recorder,
+            Step::Lost { point, link },
+        ) {
             Ok(Reply::LinkLost) => Ok(()),
             Ok(_) => unreachable!(),
             Err(refused) => Err(refused.refusal),

@@ -14,13 +14,14 @@ use crate::answer::Answer;
 use crate::book::Book;
 use crate::job::Job;
 use crate::pass::Pass;
+use chronicle::ChronicleName;
 use ocpp_scalars::{Instant, Refusal};
 use profile::Unit;
 use site_core::{PointId, Reply, Step, Take};
 use std::sync::ledger::Ledger;
 use sweep_compiler::Compiled;
 
-impl<C: Ledger, A: Ledger> Book<C, A> {
+impl<C: Ledger, A: Ledger, N: ChronicleName> Book<C, A, N> {
     /// Keeps a request for the composite schedule (chapter 5.7) of a connector of a point.
     /// Connector 0 is the whole point. The schedule is from a start on for this many seconds, in a
     /// unit where one is given. The job is what is to be compiled and posted.
@@ -108,7 +109,10 @@ impl<C: Ledger, A: Ledger> Book<C, A> {
     pub fn finish(&mut self)
         ensures { Makes self.old steps.Finish Reply.Finished self.new }
     {
-        self.history.finish();
+        if !self.is_stopped() {
+            self.history.finish();
+            self.recorder.record(self.history.present());
+        }
     }
 
     /// The reply to who asks for the answer to the request of a number.

@@ -4,9 +4,9 @@ use Rattle.session.proofs.AuditLemmas.{brought}
 use Rattle.session.proofs.NotingLemmas.{verdict_noted}
 use Rattle.session.proofs.serving.audits.judge_reply.Goals as goal
 
-pub note-requires : goal.note-requires
-note-requires g c =
-    verdict_noted c.args.sent.now c.judged_by-judged.result.1 c.moment.result c.as_str.result.now _
+pub note_made-requires : goal.note_made-requires
+note_made-requires g c =
+    verdict_noted _ _ c.args.sent.now c.judged_by-judged.result.1 c.moment.result c.as_str.result.now _
     c.audit.inside.call c.reply_to_note-frame.result.now c.judged_by-judged.result.0
     c.in-Ok.entry c.in-true-Some.entry _ _ _
     c.noted_steps_are_restored.ensures.verdicts c.equal_books_are_one.ensures.audits
@@ -14,6 +14,7 @@ note-requires g c =
     c.reply_to_note-frame.ensures c.judged_by-judged.ensures.noted
     c.in-Ok.ensures c.in-true-Some.is-1 c.as_str.ensures c.lock-book.ensures c.deref_mut.ensures.value
     (c.in-true-Some.ensures.made (search rules))
+    (search rules) (search rules)
 
 pub returns : goal.returns
 returns g c =

@@ -2,4 +2,4 @@
 use Rattle.test_chronicle.proofs.callers.threads.two_threads_share_a_chronicle.Given as goal
 
 abbrev pub ghosts-two_bytes : goal.ghosts-two_bytes
-ghosts-two_bytes g a = record { name = a.unnamed.name }
+ghosts-two_bytes g a = record { name = a.unnamed.name; companion = 0 }

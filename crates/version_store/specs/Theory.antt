@@ -1,0 +1,2 @@
+-- Lemmas that crates above cite: nothing here has to be believed.
+pub mod Forgetting

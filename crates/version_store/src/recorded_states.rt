@@ -1,0 +1,188 @@
+//! The states that a book had, as its journal has to account for them.
+
+ghost use Rattle.std.specs.Prelude.{◌≡◌, ◌∷◌, ◌++◌, [], true, false, IsTrue, is_some};
+ghost use mathlib.Core.List.{IsPrefix};
+ghost use Rattle.site_core.specs.State.{opening};
+ghost use Rattle.version_store.specs.Recording.{IsAt, IsNextOf, forget, opening_states};
+
+use chronicle::{Chronicle, ChronicleName, EntryFrom, Front, Unnamed};
+use site_core::Machine;
+use site_rules::Site;
+use std::marker::Model;
+
+/// The name of no chronicle, for books whose states aren't recorded.
+pub struct NoName;
+
+impl ChronicleName for NoName {
+    ghost name = { 0 };
+
+    ghost companion = { 0 };
+}
+
+/// A state without its requests for schedules.
+struct Forgotten;
+
+impl EntryFrom<Machine, Machine> for Forgotten {
+    ghost entry = { forget };
+}
+
+/// The state of a site where nothing was done yet.
+struct Opened;
+
+impl EntryFrom<Site, Machine> for Opened {
+    ghost entry = { λ site. forget (opening site) };
+}
+
+/// Records the states of a book in the chronicle N: the first one, and that after each change. At
+/// run time it counts them. Or it records nothing.
+#[derive(Drop)]
+pub(crate) struct StateRecorder<N: ChronicleName> {
+    states: Option<Chronicle<Machine, N>>,
+    count: u64,
+}
+
+impl<N: ChronicleName> Model for StateRecorder<N> {
+    ghost use Rattle.std.specs.Prelude.{is_some, option_map};
+    ghost use Rattle.version_store.specs.Recording.{IsCountOf, RecordedState, or_none};
+
+    ghost Value = { RecordedState };
+
+    ghost view = { λ r. record {
+      is_kept = is_some r.states;
+      states = or_none (option_map (λ c. c.entries) r.states);
+    } };
+
+    ghost invariant = { λ r. IsCountOf (or_none (option_map (λ c. c.entries) r.states)) r.count };
+}
+
+/// What was recorded of a book by some moment.
+#[derive(Drop)]
+pub struct RecordedStates<N: ChronicleName> {
+    states: Option<Front<Machine, N>>,
+    count: u64,
+}
+
+impl<N: ChronicleName> Model for RecordedStates<N> {
+    ghost use Rattle.std.specs.Prelude.{is_some, option_map};
+    ghost use Rattle.version_store.specs.Recording.{IsCountOf, RecordedState, or_none};
+
+    ghost Value = { RecordedState };
+
+    ghost view = { λ r. record {
+      is_kept = is_some r.states;
+      states = or_none (option_map (λ f. f.entries) r.states);
+    } };
+
+    ghost invariant = { λ r. IsCountOf (or_none (option_map (λ f. f.entries) r.states)) r.count };
+}
+
+impl<N: ChronicleName> StateRecorder<N> {
+    /// Records nothing.
+    pub(crate) fn nothing() -> StateRecorder<N>
+        ensures { result.is_kept ≡ false }
+    {
+        StateRecorder {
+            states: None,
+            count: 0,
+        }
+    }
+
+    /// Has the state of a site where nothing was done yet.
+    pub(crate) fn new(unnamed: Unnamed, site: &Site) -> StateRecorder<N>
+        requires { unnamed.name ≡ N.name }
+        ensures { result ≡ record { is_kept = true; states = opening_states site.now } }
+    {
+        let mut states = unnamed.named();
+        states.add_from::<Site, Opened>(site);
+        StateRecorder {
+            states: Some(states),
+            count: 1,
+        }
+    }
+
+    /// Records the state that a change led to.
+    pub(crate) fn record(&mut self, present: &Machine)
+        ensures { IsAt self.new present.now }
+    {
+        if let Some(states) = &mut self.states {
+            states.add_from::<Machine, Forgotten>(present);
+            self.count = self.count.saturating_add(1);
+        }
+    }
+
+    /// What was recorded by now.
+    pub(crate) fn recorded(&self) -> RecordedStates<N>
+        ensures { result ≡ self.now }
+    {
+        match &self.states {
+            Some(states) => RecordedStates {
+                states: Some(states.front()),
+                count: self.count,
+            },
+            None => RecordedStates {
+                states: None,
+                count: self.count,
+            },
+        }
+    }
+}
+
+impl<N: ChronicleName> RecordedStates<N> {
+    /// Whether states are recorded.
+    pub fn is_kept(&self) -> bool
+        ensures { result ≡ self.now.is_kept }
+    {
+        self.states.is_some()
+    }
+
+    /// A copy.
+    pub fn copy(&self) -> RecordedStates<N>
+        ensures { result ≡ self.now }
+    {
+        match &self.states {
+            Some(states) => RecordedStates {
+                states: Some(states.copy()),
+                count: self.count,
+            },
+            None => RecordedStates {
+                states: None,
+                count: self.count,
+            },
+        }
+    }
+
+    /// Whether states are recorded, and these are the other ones, and perhaps more.
+    pub fn is_at_least(&self, other: &RecordedStates<N>) -> bool
+        ensures { result ≡ true → IsPrefix other.now.states self.now.states }
+    {
+        let (Some(states), Some(others)) = (&self.states, &other.states) else {
+            return false;
+        };
+        states.compare(others);
+        other.count <= self.count && self.count < u64::MAX
+    }
+
+    /// Whether states are recorded, and these are the other ones and one more.
+    pub fn is_next_of(&self, other: &RecordedStates<N>) -> bool
+        ensures next { result ≡ true → IsNextOf other.now self.now }
+        ensures kept { result ≡ true → self.now.is_kept ≡ true }
+    {
+        let (Some(states), Some(others)) = (&self.states, &other.states) else {
+            return false;
+        };
+        states.compare(others);
+        other.count < self.count && self.count - other.count == 1 && self.count < u64::MAX
+    }
+
+    /// Whether states are recorded, and these are the other ones: as many, as far as a number counts.
+    pub fn is_same(&self, other: &RecordedStates<N>) -> bool
+        ensures same { result ≡ true → self.now ≡ other.now }
+        ensures kept { result ≡ true → self.now.is_kept ≡ true }
+    {
+        let (Some(states), Some(others)) = (&self.states, &other.states) else {
+            return false;
+        };
+        states.compare(others);
+        self.count == other.count && self.count < u64::MAX
+    }
+}

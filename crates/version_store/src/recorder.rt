@@ -1,0 +1,46 @@
+//! Steps whose states are recorded.
+
+ghost use Rattle.std.specs.Prelude.{◌≡◌, true, IfOk, IfErr};
+ghost use Rattle.site_core.specs.Step.{HasAskedConnector, is_reply_to};
+ghost use Rattle.version_store.specs.Calls.{Makes, IsRefusalOf};
+ghost use Rattle.version_store.specs.Passes.{totals_after};
+ghost use Rattle.version_store.specs.Recording.{IsAt, is_of_request};
+ghost use Rattle.version_store.specs.Store.{may_fold};
+
+use crate::history::History;
+use crate::recorded_states::StateRecorder;
+use chronicle::ChronicleName;
+use site_core::{Refused, Reply, Step};
+
+/// Makes a step that brings no answer, and records the state that it leads to, if it is a change.
+pub(crate) fn make_recorded<N: ChronicleName>(
+    history: &mut History,
+    recorder: &mut StateRecorder<N>,
+    step: Step,
+) -> Result<Reply, Refused>
+    requires can_fold { may_fold step ≡ true }
+    requires recorded { IsAt recorder.old history.old.present }
+    ensures recorded { IsAt recorder.new history.new.present }
+    ensures makes { IfOk result (λ reply. Makes history.old step reply history.new) }
+    ensures own { IfOk result (λ reply. is_reply_to step reply ≡ true) }
+    ensures asked { IfOk result HasAskedConnector }
+    ensures counts { IfOk result
+        (λ reply. history.new.made ≡ totals_after history.old.made reply) }
+    ensures refusal { IfErr result (λ refused. IsRefusalOf history.old step refused.refusal) }
+    ensures kept { IfErr result (λ refused. history.new ≡ history.old) }
+    ensures back { IfErr result (λ refused. refused.step ≡ step) }
+{
+    let was_stopped = history.present().is_stopped();
+    let is_request = is_of_request(&step);
+    let reply = history.make(step)?;
+    if !is_request && reply.is_event(was_stopped) {
+        recorder.record(history.present());
+    }
+    Ok(reply)
+}
+
+fn is_of_request(step: &Step) -> bool
+    ensures { result ≡ is_of_request step.now }
+{
+    matches!(step, Step::Take(_) | Step::Compile(_) | Step::Answer(_))
+}
