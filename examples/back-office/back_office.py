@@ -1,8 +1,10 @@
 #!/usr/bin/python3
-"""back_office.py URL POINT: a back office and a charge point of your own, in Python with Debian's python3-websockets.
+"""back_office.py URL POINT [OPERATOR_KEY POINT_KEY]: a back office and a charge point of your own, in Python with Debian's
+python3-websockets.
 
-URL is that of the central system, ws://HOST:PORT. The point boots and replies to each call; the back office installs a limit,
-asks what the point's connector 1 may draw, and clears the limit again.
+URL is that of the central system, ws://HOST:PORT. Where that wants passwords, two files have the operator's NAME:KEY and the
+point's, as `central key` tells them. The point boots and replies to each call; the back office installs a limit, asks what the
+point's connector 1 may draw, and clears the limit again.
 """
 import asyncio
 import json
@@ -15,6 +17,14 @@ LIMIT = {"connectorId": 0, "csChargingProfiles": {
     "chargingSchedule": {"startSchedule": "2025-01-01T00:00:00Z", "chargingRateUnit": "A",
                          "chargingSchedulePeriod": [{"startPeriod": 0, "limit": 12.5}]}}}
 PATIENCE = 10  # seconds
+
+
+def logged_in(url, path):
+    """A URL with the name and the key of a file, if there is one. The library sends them in the handshake, by HTTP Basic."""
+    if path is None:
+        return url
+    with open(path, encoding="utf-8") as file:
+        return url.replace("://", f"://{file.read().strip()}@")
 
 
 async def received(socket, else_said):
@@ -43,14 +53,14 @@ async def point(socket, calls):
             await socket.send(json.dumps([3, message[1], {"status": "Accepted"}]))
 
 
-async def main(url, identity):
-    async with websockets.connect(f"{url}/operator/{identity}", subprotocols=["ocpp1.6"]) as office:
+async def main(url, identity, operator_key=None, point_key=None):
+    async with websockets.connect(f"{logged_in(url, operator_key)}/operator/{identity}", subprotocols=["ocpp1.6"]) as office:
         print("office:", await call(office, "SetChargingProfile", LIMIT))
         schedule = await call(office, "GetCompositeSchedule", {"connectorId": 1, "duration": 3600})
         print("office:", schedule["chargingSchedule"]["chargingSchedulePeriod"])
         print("office:", await call(office, "ClearChargingProfile", {"id": LIMIT["csChargingProfiles"]["chargingProfileId"]}))
         # What waits now is the clear of all that the point had before, the install, and the clear.
-        async with websockets.connect(f"{url}/{identity}", subprotocols=["ocpp1.6"]) as socket:
+        async with websockets.connect(f"{logged_in(url, point_key)}/{identity}", subprotocols=["ocpp1.6"]) as socket:
             await point(socket, 3)
 
 

@@ -12,6 +12,7 @@ from run_data import SITE, Data, SiteFile
 from serving import ENVIRONMENT, PATIENCE, Running, expect
 from texts import CALL_0, OCPP, accepted, heartbeat, install, profile
 
+EXAMPLES = os.path.join(os.path.dirname(os.path.dirname(os.path.dirname(os.path.abspath(__file__)))), "examples")
 PROTOCOL = f"Sec-WebSocket-Protocol: {OCPP}"
 
 
@@ -158,6 +159,21 @@ def clients_with_keys(program):
         expect("a point with another's key", done(program, *point, "--login", another), is_anothers)
 
 
+def examples_with_keys(program):
+    """The examples of a back office and of a point that boots come with the keys of files, and aren't let in without."""
+    office, boot = (os.path.join(EXAMPLES, name) for name in ("back-office/back_office.py", "cookbook/boot"))
+    with open(os.path.join(EXAMPLES, "back-office", "stdout"), encoding="ascii") as file:
+        wanted = file.read()
+    with Keys(program) as keys, Data() as data, Running(program, SITE, data.path, keys=keys.path) as running:
+        url, address = f"ws://127.0.0.1:{running.port}", f"127.0.0.1:{running.port}"
+        ann, p1, p2 = (keys.file(f"{name}.key", f"{name}:{keys.of[name]}\n") for name in ("ann", "P1", "P2"))
+        expect("a back office", done(office, url, "P1", ann, p1), (0, wanted, ""))
+        expect("one without keys", ("HTTP 401" in done(office, url, "P1")[2], done(office, url, "P1")[0]), (True, 1))
+        expect("a point that boots", done(boot, address, "P2", p2), (0, "", ""))
+        for more, status in (((), "401 Unauthorized"), ((p1,), "403 Forbidden")):
+            expect("one that isn't let in", done(boot, address, "P2", *more), (1, "", f"boot: {address} answers HTTP/1.1 {status}\n"))
+
+
 def checked_keys(program):
     """`check` says whom a file of keys lets in, its faulty lines, and which points it leaves out."""
     with Keys(program) as keys, SiteFile(SITE) as site:
@@ -244,6 +260,7 @@ def tests():
     yield "who may come", who_may_come
     yield "what is said of others", what_is_said_of_others
     yield "clients with keys", clients_with_keys
+    yield "examples with keys", examples_with_keys
     yield "checked keys", checked_keys
     yield "without keys", without_keys
     yield "names of others", names_of_others
