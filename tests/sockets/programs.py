@@ -8,11 +8,15 @@ import socket
 import subprocess
 import tempfile
 import threading
+import time
 
 from serving import ENVIRONMENT, PATIENCE, Serving, expect, free_port, state_of, until
 
 TOP = os.path.dirname(os.path.dirname(os.path.dirname(os.path.abspath(__file__))))
 SITE = '{"unit":"A","points":[{"id":"P1","ceiling":63.0,"connectors":[32.0,16.0]}]}'
+# A line of `call` about points that take long. On a busy machine it may come in any test.
+PROGRESS = re.compile(rb"central: (\d+) of \d+ points\n")
+CLOSE = b"\x88\x00"
 MOMENTS = re.compile(rb'"(scheduleStart|currentTime|timestamp)":"[^"]*"')
 SCHEDULE = b'[3,"%s",{"status":"Accepted","connectorId":%d,"scheduleStart":"NOW","chargingSchedule":{"duration":60,' \
     b'"chargingRateUnit":"A","chargingSchedulePeriod":[{"startPeriod":0,"limit":%s}]}}]\n'
@@ -32,11 +36,11 @@ def without_moments(out):
 
 
 def run(program, arguments, given=b""):
-    """How a run ends by itself: its status, and what it printed, without moments."""
+    """How a run ends by itself: its status, and what it printed, without moments and how far it was meanwhile."""
     done = subprocess.run(
         [program, *arguments], input=given, stdout=subprocess.PIPE, stderr=subprocess.PIPE, timeout=PATIENCE, check=False, env=ENVIRONMENT
     )
-    return done.returncode, without_moments(done.stdout), done.stderr
+    return done.returncode, without_moments(done.stdout), PROGRESS.sub(b"", done.stderr)
 
 
 def operator(serving, *options, given=b"", point="P1"):
@@ -330,8 +334,8 @@ def point_stopped_in_its_pause(program):
         expect("the totals", serving.totals(), (0, 0))
 
 
-def answer_and_stay(listener):
-    """A central system that answers one text, and then nothing any more, a close neither."""
+def shake_hands(listener):
+    """The next client, whose handshake is done."""
     peer, _ = listener.accept()
     head = b""
     while b"\r\n\r\n" not in head:
@@ -340,9 +344,20 @@ def answer_and_stay(listener):
     accept = base64.b64encode(hashlib.sha1(key + b"258EAFA5-E914-47DA-95CA-C5AB0DC85B11").digest())
     lines = (b"HTTP/1.1 101 Switching Protocols", b"Upgrade: websocket", b"Connection: Upgrade", b"Sec-WebSocket-Protocol: ocpp1.6")
     peer.sendall(b"\r\n".join((*lines, b"Sec-WebSocket-Accept: " + accept, b"", b"")))
+    return peer
+
+
+def answer(peer):
+    """Answers a text."""
     peer.recv(4_096)
     text = b'[3,"ask",{}]'
     peer.sendall(b"\x81" + bytes([len(text)]) + text)
+
+
+def answer_and_stay(listener):
+    """A central system that answers one text, and then nothing any more, a close neither."""
+    peer = shake_hands(listener)
+    answer(peer)
     while peer.recv(4_096):
         pass
     peer.close()
@@ -358,6 +373,38 @@ def server_that_never_closes(program):
         url = f"ws://127.0.0.1:{listener.getsockname()[1]}/operator/P1"
         expect("its end", run(program, ["call", "--url", url, "--ask", "1", "60"]), (0, b'[3,"ask",{}]\n', b""))
         serving.join(PATIENCE)
+
+
+def answer_slowly(listener, pauses):
+    """A central system that answers one text of each client, so many seconds after its handshake."""
+    for pause in pauses:
+        with shake_hands(listener) as peer:
+            time.sleep(pause)
+            answer(peer)
+            peer.sendall(CLOSE)
+
+
+def progress_of_calls(program):
+    """Calls to many points that take long say how far they are, at most each second, and behind the last one nothing."""
+    points = [f'{{"id":"P{place}","ceiling":63.0,"connectors":[32.0]}}' for place in range(5)]
+    with tempfile.NamedTemporaryFile("w", suffix=".json") as site, socket.socket() as listener:
+        site.write(f'{{"unit":"A","points":[{",".join(points)}]}}')
+        site.flush()
+        listener.bind(("127.0.0.1", 0))
+        listener.listen()
+        serving = threading.Thread(target=answer_slowly, args=(listener, (0.4, 1.1, 0.1, 1.1, 1.1)))
+        serving.start()
+        url = f"ws://127.0.0.1:{listener.getsockname()[1]}/operator"
+        line = [program, "call", "--url", url, "--all", "--site", site.name, "--ask", "1", "60"]
+        begun = time.monotonic()
+        done = subprocess.run(line, capture_output=True, timeout=PATIENCE, check=False, env=ENVIRONMENT)
+        took = time.monotonic() - begun
+        serving.join(PATIENCE)
+    expect("the answers", (done.returncode, done.stdout), (0, b"".join(b'P%d [3,"ask",{}]\n' % place for place in range(5))))
+    told = PROGRESS.findall(done.stderr)
+    expect("nothing else is said", PROGRESS.sub(b"", done.stderr), b"")
+    expect("behind each pause of a second", [b"2", b"4"], [count for count in told if count in (b"2", b"4")])
+    expect("in turn, no more than one a second", told == sorted(set(told)) and len(told) <= took, True)
 
 
 def faults_of_a_point(program):
@@ -410,6 +457,7 @@ def tests():
     yield "a remote start in a pause", remote_start_in_a_pause
     yield "a point that is stopped in its pause", point_stopped_in_its_pause
     yield "a server that never closes", server_that_never_closes
+    yield "how far calls to many points are", progress_of_calls
     yield "the faults of a point", faults_of_a_point
     yield "the example", example
     yield "the example of a back office", back_office

@@ -212,7 +212,7 @@ impl<'a, R: Print + Eprint + AllocGlobal> Caller<'a, R> {
     }
 
     /// Says something more on standard error. Where that can't be written no answer is lost.
-    fn say(&self, words: String) {
+    pub(crate) fn say(&self, words: String) {
         let _ = self.rt.eprintln(&words);
     }
 

@@ -6,6 +6,7 @@ mod call_script;
 mod caller;
 mod given_call;
 mod operator_url;
+mod progress;
 mod sending;
 mod undo;
 mod undone_line;
