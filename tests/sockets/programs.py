@@ -79,7 +79,7 @@ def remote_starts_of_call(program):
         profile.write(TX_PROFILE)
         profile.flush()
         given = operator(serving, "--status", "--ask", "1", "60", "--remote-start", "1", 'T"1', profile.name)
-        why = b"remote-start: warning: transactionId has no effect in a remote start: its transaction has no number yet\n"
+        why = b"remote-start: warning: TxProfile 5: transactionId has no effect in a remote start: its transaction has no number yet\n"
         expect("with a profile", given, (0, accepted + SCHEDULE % (b"ask", 1, b"32.0") + told % (0, 2), why))
         expect("without one", operator(serving, "--remote-start", "2", "T2"), (0, accepted, b""))
         refused = b'[3,"remote-start",{"status":"Rejected","reason":"UnknownConnector"}]\n'

@@ -14,7 +14,7 @@ FUSE = {"purpose": "ChargePointMaxProfile"}
 TX = {"purpose": "TxProfile", "kind": "Relative"}
 GONE = b": warning: this leaves the point without a ChargePointMaxProfile; it had up to 32.0 A\n"
 NAMED = b"ChargePointMaxProfile 3 (stack level 0, at connector 0)"
-OTHER_ID = b"set-profile: remark: this takes the place of %s, which has its connector, purpose and stack level\n" % NAMED
+OTHER_ID = b"set-profile: remark: ChargePointMaxProfile 7 takes the place of %s, which has its connector, purpose and stack level\n" % NAMED
 
 
 class Site:
@@ -64,8 +64,8 @@ def sent(name, said=b""):
 
 def warnings(site, operator, _point):
     """What only the point's state tells is said before a call is sent, and holds nothing back; without `--data` it isn't."""
-    taken = b"set-profile: %%s: this takes the place of %s, which has the same chargingProfileId\n" % NAMED
-    high = b"set-profile: warning: each limit of this profile is above the ceiling of the site file there, 63.0: it never lowers anything\n"
+    taken = b"set-profile: %%s: TxDefaultProfile 3 takes the place of %s, which has the same chargingProfileId\n" % NAMED
+    high = b"set-profile: warning: ChargePointMaxProfile 3: each of its limits is above the ceiling of the site file there, 63.0: it never lowers anything\n"
     raised = b"set-profile: warning: this raises what the point's ChargePointMaxProfiles allow at most from 32.0 to %s A\n"
     expect("a fuse ten times as high", site.set(profile(3, [320], **FUSE), "--dry-run")[::2], (0, high + raised % b"320.0"))
     expect("a higher fuse", raised % b"40.0" in site.set(profile(3, [40], **FUSE), "--dry-run")[2], True)
