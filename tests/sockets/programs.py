@@ -99,7 +99,7 @@ def remote_starts_of_call(program):
         why = b"remote-start: line 3, column 1: nothing more is wanted behind the value, and `}` stands there\n"
         expect("no JSON", given, (2, b"! remote-start NotACall\n", why))
         expect("the totals", serving.totals(), (2, 2))
-    missing = b"central: /none: it isn't there, may not be read, isn't UTF-8, or is longer than a message may be\ncentral: device: read\n"
+    missing = b"central: /none: No such file or directory (os error 2)\ncentral: device: read\n"
     line = ["call", "--url", "ws://127.0.0.1:9/operator/P1", "--remote-start"]
     expect("no file", run(program, [*line, "1", "T1", "/none"]), (3, b"", missing))
     no_number = b"central: command line: the CONNECTOR of --remote-start is no whole number from 0 on\n"
@@ -223,15 +223,19 @@ def each_point(program):
 def faults_of_call(program):
     """What ends `call` before its time, in its words, and with which status."""
     closed = b"central: url: closed by the central system, which may have no such point\n"
-    with Serving(program, SITE, 1) as serving, tempfile.NamedTemporaryFile("wb") as binary:
+    with Serving(program, SITE, 1) as serving, tempfile.NamedTemporaryFile("wb") as binary, tempfile.NamedTemporaryFile("wb") as long:
         expect("no such point", operator(serving, "--ask", "1", "60", point="P2"), (3, b"", closed))
         why = b"clear: line 1, column 2: a name in double quotes or `}` is wanted, and `i` stands there\n"
         expect("no JSON", operator(serving, "--clear", "{id:1}"), (2, b"! clear NotACall\n", why))
-        for path in ("none", "/", binary.name):
-            binary.write(b"\xff")
-            binary.flush()
-            why = f"central: {path}: it isn't there, may not be read, isn't UTF-8, or is longer than a message may be\n".encode()
-            expect(f"the file {path}", operator(serving, "--set-profile", path), (3, b"", why + b"central: device: read\n"))
+        for file, content in ((binary, b"\xff"), (long, b" " * 1_048_577)):
+            file.write(content)
+            file.flush()
+        for path, why in (
+            ("none", "No such file or directory (os error 2)"), ("/", "Is a directory (os error 21)"),
+            (binary.name, "it isn't UTF-8"), (long.name, "it is longer than a message may be"),
+        ):
+            said = f"central: {path}: {why}\ncentral: device: read\n".encode()
+            expect(f"the file {path}", operator(serving, "--set-profile", path), (3, b"", said))
         expect("the totals", serving.totals(), (0, 0))
     no_url = (4, b"", b"central: url: not ws://HOST:PORT/PATH\n")
     for url in ("", "x", "http://127.0.0.1/", "wss://127.0.0.1/operator/P1"):
@@ -417,7 +421,7 @@ def faults_of_a_point(program):
         with_site = point(serving, b"heartbeat\n")
         expect("nobody", with_site, (3, b"", b"central: url: no connection\n"))
     arguments = ["point", "--url", "ws://127.0.0.1:1", "--site", "none", "--id", "P1"]
-    words = b"central: none: it isn't there, is a folder, or may not be read\ncentral: device: read\n"
+    words = b"central: none: No such file or directory (os error 2)\ncentral: device: read\n"
     expect("no site file", run(program, arguments), (3, b"", words))
 
 

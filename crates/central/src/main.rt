@@ -19,6 +19,7 @@ use crate::program::replaying::replay_file;
 use crate::program::running::run_file;
 use crate::program::serving::serve_file;
 use crate::program::showing::show_file;
+use crate::program::site_file::say_unread;
 use crate::program::status::show_status;
 use clap::error::ErrorKind;
 use command_line::{Job, job_of};
@@ -127,13 +128,13 @@ fn do_job<
 }
 
 /// Names the site file that a job couldn't read, if that is why it stopped.
-fn naming<T, R: Eprint>(
+fn naming<T, R: Files<File = File> + Eprint>(
     rt: &R,
     path: &str,
     done: Result<T, ProgramFault>,
 ) -> Result<T, ProgramFault> {
     if let Err(ProgramFault::SiteFile) = &done {
-        let _ = eprintln!(rt; "central: {path}: it isn't there, is a folder, or may not be read");
+        say_unread(rt, path);
     }
     done
 }

@@ -165,7 +165,7 @@ fn ask_of(explaining: &Explaining<'_>, start: Instant) -> Result<Ask, ProgramFau
 }
 
 /// Prints the explanation of a request by what the point has in this state, and writes its picture.
-fn print_explained<R: Files + Print + AllocGlobal>(
+fn print_explained<R: Files + Print + Eprint + AllocGlobal>(
     rt: &R,
     presentation: Presentation<'_>,
     machine: &Machine,
@@ -183,7 +183,7 @@ fn print_explained<R: Files + Print + AllocGlobal>(
 }
 
 /// Prints the explanation of a request at a connector of the book, and writes its picture.
-fn print_explanation<R: Files + Print + AllocGlobal>(
+fn print_explanation<R: Files + Print + Eprint + AllocGlobal>(
     rt: &R,
     presentation: Presentation<'_>,
     book: &PointBook,

@@ -52,7 +52,7 @@ fn show_script<R: Files<File = File> + Input + Print + Eprint + AllocGlobal>(
     Ok(page_status(is_whole))
 }
 
-fn print_standing<R: Print + AllocGlobal>(
+fn print_standing<R: Print + Eprint + AllocGlobal>(
     rt: &R,
     showing: Showing<'_>,
     standing: &Standing<'_>,
