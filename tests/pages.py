@@ -5,8 +5,8 @@ A command is a code block that calls `packaging/out/central`, or `curl` on what 
 what it has to print, but for moments, which are those of the clock, and the length of a journal. `run` and `point`, in the last
 line of a block, run beside the commands behind them, up to the end of the page: `run` has to print what it has and where it
 listens, in a folder of its own, and `point` what it sends and gets. A `run` at the address of another one takes its place. With
-`write` the blocks of text are written anew, to be read before they are kept. The cookbook needs `jq`, and
-is left out where that isn't installed.
+`write` the blocks of text are written anew, to be read before they are kept. The cookbook needs `jq` and `tzdata`, and
+is left out where one of them isn't installed.
 """
 import datetime
 import os
@@ -175,8 +175,8 @@ def main():
         sys.exit(__doc__)
     passed = failed = 0
     for page in PAGES:
-        if page == COOKBOOK and not shutil.which("jq"):
-            print(f"{page} is left out: jq isn't installed")
+        if page == COOKBOOK and not (shutil.which("jq") and os.path.isfile("/usr/share/zoneinfo/Europe/Berlin")):
+            print(f"{page} is left out: jq or tzdata isn't installed")
             continue
         with tempfile.TemporaryDirectory() as folder:
             data = os.path.join(folder, "data")

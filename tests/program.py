@@ -22,6 +22,7 @@ import time
 
 from case_folders import Case, all_cases
 from png_colours import shares_of_colours
+from zones import zone_problems
 
 TOP = os.path.dirname(os.path.dirname(os.path.abspath(__file__)))
 UNPROVED = "UNPROVED" in os.environ
@@ -576,6 +577,7 @@ def explain_problems(program, folder):
         # Each is told before the script is read: a folder as standard input can't be.
         done = run_on(program, ["explain", "--site", site, *day, *more], folder, False)
         yield f"explain: {name}", list(differences(done, b"", error, 4))
+    yield from zone_problems(lambda words, given: run(program, ["explain", "--site", site, *words], given), bytes_of(script))
     yield from explain_order_problems(program, folder)
     yield from present_problems(explain)
     yield from duration_problems(explain)

@@ -27,3 +27,4 @@ pub mod status_request;
 pub mod status_table;
 pub mod undoing;
 pub mod watched_file;
+pub mod zone_file;

@@ -319,6 +319,10 @@ pub const DURATION_HELP: &str =
 pub const AT_HELP: &str =
     "After this number of lines of the script or journal, or at this instant, not after all";
 
+/// What `--zone` names.
+pub const ZONE_HELP: &str =
+    "The table has local times of this time zone, such as Europe/Berlin, in place of UTC";
+
 /// What `--picture` names.
 pub const PICTURE_HELP: &str = "Write a picture too: FILE.svg, or a page with it: FILE.html";
 

@@ -9,10 +9,11 @@ use crate::program::program_fault::ProgramFault;
 use crate::program::script_end::script_end;
 use crate::program::script_input::read_script_of;
 use crate::program::site_file::read_digested_site;
+use crate::program::zone_file::{read_clock_shifts, zone_name};
 use command_line::{Explaining, Source, Start, read_duration};
 use data_folder::{Following, ScriptEnd, follow_journal};
 use explain_pages::{
-    ExplainedAsk, not_counted, write_json, write_page, write_picture, write_table,
+    ExplainedAsk, ZoneClock, not_counted, write_json, write_page, write_picture, write_table,
 };
 use meaning::Ask;
 use ocpp_scalars::{Instant, write_instant};
@@ -26,18 +27,20 @@ use std::fs::File;
 use std::rt::{Clock, Files};
 use sweep_compiler::{Turns, explain};
 
-/// Says why the limits of a connector are what they are after a script or a journal. Faults of a
-/// picture's name, the instants and the site file, and what isn't in it, are reported before the
-/// script is read. Returns the exit status.
+/// Says why the limits of a connector are what they are after a script or a journal. Faults of the
+/// names of a picture and a zone, the instants and the site file, and what isn't in it, are reported
+/// before the script is read. Returns the exit status.
 pub fn explain_file<R: Files<File = File> + Input + Print + Eprint + Clock + AllocGlobal>(
     rt: &R,
     screen: Screen,
     explaining: Explaining<'_>,
 ) -> Result<u8, ProgramFault> {
     let picture = picture_of(&explaining)?;
+    let zone = zone_name(&explaining)?;
     let start = start_of(rt, explaining.start)?;
     let ask = ask_of(&explaining, start)?;
     let end = script_end(explaining.at)?;
+    let shifts = read_clock_shifts(rt, zone, &ask)?;
     let (site, digest) = read_digested_site(rt, explaining.site)?;
     check_connector(&site, explaining.point, ask.connector)?;
     let presentation = Presentation {
@@ -45,6 +48,10 @@ pub fn explain_file<R: Files<File = File> + Input + Print + Eprint + Clock + All
         screen,
         unit: site.unit(),
         picture,
+        zone: zone.map(|name| ZoneClock {
+            name,
+            shifts: shifts.as_slice(),
+        }),
     };
     let Source::Journal(folder) = explaining.source else {
         return explain_script(rt, presentation, end, site, &ask);
@@ -113,6 +120,7 @@ struct Presentation<'a> {
     screen: Screen,
     unit: Unit,
     picture: Option<Picture<'a>>,
+    zone: Option<ZoneClock<'a>>,
 }
 
 /// The picture that the options want.
@@ -213,7 +221,12 @@ fn print_explanation<R: Files + Print + AllocGlobal>(
     let page = if presentation.explaining.json {
         write_json(alloc, &explained)?
     } else {
-        write_table(alloc, &explained, presentation.screen.columns())?
+        write_table(
+            alloc,
+            &explained,
+            presentation.screen.columns(),
+            presentation.zone,
+        )?
     };
     print_page(rt, page.as_str())
 }
