@@ -22,7 +22,7 @@ import time
 
 from case_folders import Case, all_cases
 from png_colours import shares_of_colours
-from zones import zone_problems
+from zones import CaseInZone, has_zones, zone_problems
 
 TOP = os.path.dirname(os.path.dirname(os.path.abspath(__file__)))
 UNPROVED = "UNPROVED" in os.environ
@@ -467,6 +467,9 @@ def memory_problems(program, folder):
         if refused < least:
             problems.append(f"only {refused} allocations were refused")
         yield f"{os.path.basename(name)}: each of {refused} allocations refused", problems
+    if has_zones():
+        refused, problems = refusals(program, library, CaseInZone("tests/cases/explain/two-cars"), [])
+        yield f"explain --zone: each of {refused} allocations refused", problems if refused >= 60 else [f"only {refused}", *problems]
     yield from again_tests(program, library)
     for test, step in (
         ("waiting_sessions::stopping_wakes_all_who_wait", 1),
@@ -637,11 +640,14 @@ def explain_order_problems(program, folder):
     other, noon = ["--point", "CP9", *DAY[2:]], [*DAY[:4], "--start", "noon", *DAY[6:]]
     picture = b"central: command line: the name of a picture's file ends in .svg or .html\n"
     instant = b"central: command line: --start is no instant, such as 2025-01-01T12:00:00Z, and not now\n"
+    zone = b"central: command line: --zone names no time zone of /usr/share/zoneinfo, such as Europe/Berlin\n"
     point = b"central: command line: no such point in the site file\n"
     for name, site, more, error, status in (
         ("a picture of another kind, and no site file", none, [*DAY, "--picture", "p.png"], picture, 4),
         ("no instant, and no site file", none, noon, instant, 4),
         ("no instant, and no duration", none, [*noon[:6], "--duration", "0"], instant, 4),
+        ("no such zone, and no site file", none, [*DAY, "--zone", "Mars/Olympus"], zone, 4),
+        ("no instant, and no such zone", none, [*noon, "--zone", "Mars/Olympus"], instant, 4),
         ("no site file, and no such point", none, other, f"central: {none}: it isn't there, is a folder, or may not be read\n".encode() + b"central: device: read\n", 3),
         ("a site file with a fault, and no such point", bad, other, b"central: site: NotAnObject\n", 1),
         ("no such point, and a script that can't be read", good, other, point, 4),

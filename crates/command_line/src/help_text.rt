@@ -340,7 +340,7 @@ Example:
   central explain --site site.json --point CP1 --connector 1 --start 2025-01-03T12:00:00Z --duration 86400 < script
 
 The exit statuses are those of 'central --help'; 4 also where the site has no such point, the point no such
-connector, or INSTANT or D isn't one.";
+connector, or INSTANT, D or the NAME of a zone isn't one.";
 
 /// What `check` does.
 pub const CHECK_ABOUT: &str = "Says everything that is wrong with a site file and a script.";
