@@ -48,10 +48,13 @@ pub fn explain_file<R: Files<File = File> + Input + Print + Eprint + Clock + All
         screen,
         unit: site.unit(),
         picture,
-        zone: zone.map(|name| ZoneClock {
-            name,
-            shifts: shifts.as_slice(),
-        }),
+        zone: match zone {
+            Some(name) => Some(ZoneClock {
+                name,
+                shifts: shifts.as_slice(),
+            }),
+            None => None,
+        },
     };
     let Source::Journal(folder) = explaining.source else {
         return explain_script(rt, presentation, end, site, &ask);
