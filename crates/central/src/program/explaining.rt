@@ -13,7 +13,8 @@ use crate::program::zone_file::{read_clock_shifts, zone_name};
 use command_line::{Explaining, Source, Start, read_duration};
 use data_folder::{Following, ScriptEnd, follow_journal};
 use explain_pages::{
-    ExplainedAsk, ZoneClock, not_counted, write_json, write_page, write_picture, write_table,
+    ClockShift, ExplainedAsk, ZoneClock, not_counted, write_json, write_page, write_picture,
+    write_table,
 };
 use meaning::Ask;
 use ocpp_scalars::{Instant, write_instant};
@@ -48,13 +49,8 @@ pub fn explain_file<R: Files<File = File> + Input + Print + Eprint + Clock + All
         screen,
         unit: site.unit(),
         picture,
-        zone: match zone {
-            Some(name) => Some(ZoneClock {
-                name,
-                shifts: shifts.as_slice(),
-            }),
-            None => None,
-        },
+        zone,
+        shifts: shifts.as_slice(),
     };
     let Source::Journal(folder) = explaining.source else {
         return explain_script(rt, presentation, end, site, &ask);
@@ -123,7 +119,21 @@ struct Presentation<'a> {
     screen: Screen,
     unit: Unit,
     picture: Option<Picture<'a>>,
-    zone: Option<ZoneClock<'a>>,
+    /// The zone in which the table has its times.
+    zone: Option<&'a str>,
+    /// How far its clock is ahead of UTC.
+    shifts: &'a [ClockShift],
+}
+
+impl<'a> Presentation<'a> {
+    /// The clock of the zone that is named.
+    fn zone_clock(&self) -> Option<ZoneClock<'a>> {
+        let name = self.zone?;
+        Some(ZoneClock {
+            name,
+            shifts: self.shifts,
+        })
+    }
 }
 
 /// The picture that the options want.
@@ -228,7 +238,7 @@ fn print_explanation<R: Files + Print + AllocGlobal>(
             alloc,
             &explained,
             presentation.screen.columns(),
-            presentation.zone,
+            presentation.zone_clock(),
         )?
     };
     print_page(rt, page.as_str())
