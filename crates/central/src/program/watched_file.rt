@@ -32,13 +32,7 @@ impl<R: Wait + Clock + Eprint + AllocGlobal + Drop, N: ChronicleName> Journal<N>
         self.file.prepare(moment, point, noted)
     }
 
-    fn note(
-        &self,
-        entry: Entry,
-        number: u64,
-        before: &RecordedStates<N>,
-        after: &RecordedStates<N>,
-    )
+    fn note(&self, entry: Entry, number: u64, before: &RecordedStates<N>, after: &RecordedStates<N>)
         requires { IsOfMadeStep entry number (IsAt before.now) (IsAt after.now) }
     {
         self.file.note(entry, number, before, after)
