@@ -164,7 +164,7 @@ impl<R: Wait + Clock + Eprint + AllocGlobal + Drop, N: ChronicleName> JournalFil
     /// for all that wait: when it is done, those whose entries it wrote go on, and one of the others
     /// writes.
     fn keep_up_to(&self, recorded: &RecordedStates<N>) -> Result<Receipt<N>, JournalFault>
-        ensures { IfOk result (λ receipt. Covers receipt recorded.now) }
+        ensures { IfOk result (λ receipt. Covers N.is_recorded receipt recorded.now) }
     {
         let noted = self.noted.lock(&self.rt);
         let mut noted = self.writer_done.wait_while(&self.rt, noted, |noted| {
@@ -343,7 +343,7 @@ impl<N: ChronicleName> NotedEntries<N> {
 
     /// What shows that they are, if they are.
     fn receipt_for(&self, recorded: &RecordedStates<N>) -> Option<Receipt<N>>
-        ensures { IfSome result (λ receipt. Covers receipt recorded.now) }
+        ensures { IfSome result (λ receipt. Covers N.is_recorded receipt recorded.now) }
     {
         let receipt = self.receipt.as_ref()?;
         if receipt.covers(recorded) {
@@ -403,7 +403,8 @@ impl<R: Wait + Clock + Eprint + AllocGlobal + Drop, N: ChronicleName> Journal<N>
     }
 
     fn note(&self, entry: Entry, number: u64, before: &RecordedStates<N>, after: &RecordedStates<N>)
-        requires { IsOfMadeStep entry number (IsAt before.now) (IsAt after.now) }
+        requires { IsOfMadeStep entry number
+            (IsAt N.is_recorded before.now) (IsAt N.is_recorded after.now) }
     {
         let step = MadeStep {
             entry,

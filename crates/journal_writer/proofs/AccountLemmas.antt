@@ -1,6 +1,6 @@
 -- What entries lead to, one after another.
 use Rattle.std.proofs.Common.{◌≡◌, ℕ, true, List, [], ◌∷◌, ◌++◌, Result, Ok, Err, refl, sym, ap, ◌∙◌, subst, append_assoc}
-use Rattle.std.specs.Prelude.{flat_map}
+use Rattle.std.specs.Prelude.{Bool, flat_map}
 use Rattle.append_log.specs.Contents.{Contents, file_of, with_added}
 use Rattle.std.proofs.lemmas.Grind.{flat_map-append}
 use Rattle.ocpp_scalars.specs.ResultSteps.{◌>>=◌}
@@ -11,7 +11,7 @@ use Rattle.site_journal.specs.Line.{LineState, line_text}
 use Rattle.site_journal.specs.MadeStep.{IsOfMadeStep}
 use Rattle.site_journal.specs.NotedRun.{begins, notes, NotedRunsAreRestored}
 use Rattle.site_journal.specs.Restore.{restored, restored_lines}
-use Rattle.version_store.specs.Recording.{EndsAt, IsAt, IsNextOf, RecordedState, forget}
+use Rattle.version_store.specs.Recording.{EndsAt, IsAt, IsNextOf, forget}
 use Rattle.journal_writer.specs.declared.numbered_entry.NumberedEntry.{NumberedEntry}
 use Rattle.journal_writer.specs.Account.{AccountsFor, nothing, more, EntriesAreRestored, FileState, GoesOn, IsNoted, NotedState, texts_of}
 
@@ -39,7 +39,7 @@ last_is_one states old new was is =
     same_end was.0 is.0 (forget old) (forget new) (sym was.1 ∙ is.1)
 
 -- one account goes on with another
-pub goes_on : (first middle last : RecordedState) (entries others : List NumberedEntry)
+pub goes_on : (first middle last : List MachineState) (entries others : List NumberedEntry)
     → AccountsFor first entries middle → AccountsFor middle others last
     → AccountsFor first (entries ++ others) last
 goes_on first _ _ entries _ accounts (nothing states) =
@@ -55,20 +55,20 @@ goes_on first _ _ entries _ accounts (more middle states later others entry behi
     moved (e ∷ es) = ap (λ (rest : List NumberedEntry). e ∷ rest) (moved es)
 
 -- none are noted
-pub none_noted : (first last : RecordedState) (entries : List NumberedEntry) → first ≡ last
+pub none_noted : (first last : List MachineState) (entries : List NumberedEntry) → first ≡ last
     → entries ≡ [] → AccountsFor first entries last
 none_noted first last entries same none =
-    subst (λ (r : RecordedState). AccountsFor first entries r) same
+    subst (λ (r : List MachineState). AccountsFor first entries r) same
     (subst (λ (es : List NumberedEntry). AccountsFor first es first) (sym none) (nothing first))
 
 -- a step is noted
-pub step_noted : (first last before after : RecordedState) (entries items : List NumberedEntry)
-    (entry : EntryState) (number : ℕ) → AccountsFor first entries last → last ≡ before
-    → last.is_kept ≡ true → after.is_kept ≡ true
-    → IsNextOf before after → IsOfMadeStep entry number (IsAt before) (IsAt after)
+pub step_noted : (named : Bool) (first last before after : List MachineState)
+    (entries items : List NumberedEntry) (entry : EntryState) (number : ℕ) → AccountsFor first entries last → last ≡ before
+    → named ≡ true → IsNextOf before after
+    → IsOfMadeStep entry number (IsAt named before) (IsAt named after)
     → items ≡ entries ++ (record { entry = entry; number = number }) ∷ []
     → AccountsFor first items after
-step_noted first last before after entries items entry number accounts same was_kept is_kept next
+step_noted named first last before after entries items entry number accounts same recorded next
     made pushed =
     subst (λ (es : List NumberedEntry). AccountsFor first es after) (sym pushed)
     (more first last after entries (record { entry = entry; number = number }) accounts (record {
@@ -76,9 +76,10 @@ step_noted first last before after entries items entry number accounts same was_
       entry_is = made.entry_is;
       old = made.old.present;
       new = made.new.present;
-      was = subst (λ (r : RecordedState). IsAt r made.old.present) (sym same) made.was_before was_kept;
-      is = made.is_after is_kept;
-      is_next = subst (λ (r : RecordedState). IsNextOf r after) (sym same) next;
+      was = subst (λ (s : List MachineState). EndsAt s made.old.present) (sym same)
+          (made.was_before recorded);
+      is = made.is_after recorded;
+      is_next = subst (λ (r : List MachineState). IsNextOf r after) (sym same) next;
       leads = made.leads;
     }))
 
@@ -97,7 +98,7 @@ from_itself file = record {
 }
 
 -- and with the lines of others, up to where these lead
-pub lines_added : (start : FileState) (old new : Contents) (states : RecordedState)
+pub lines_added : (start : FileState) (old new : Contents) (states : List MachineState)
     (taken : NotedState) (lines : List ℕ)
     → GoesOn start (record { bytes = file_of old; states = states }) → taken.first ≡ states
     → IsNoted taken → lines ≡ texts_of taken.entries → new ≡ with_added old lines
@@ -112,7 +113,7 @@ lines_added start old new states taken lines has next noted lines_are added = re
       ∙ append_assoc start.bytes (texts_of has.entries) (texts_of taken.entries)
       ∙ ap (λ t. start.bytes ++ t) (sym (texts_of_both has.entries taken.entries));
   accounts = goes_on start.states states taken.last has.entries taken.entries has.accounts
-      (subst (λ (r : RecordedState). AccountsFor r taken.entries taken.last) next noted);
+      (subst (λ (r : List MachineState). AccountsFor r taken.entries taken.last) next noted);
 }
 
 -- ---- lines
@@ -155,12 +156,12 @@ pub led : NotedRunsAreRestored → EntriesAreRestored
 led law _ _ _ old new (nothing states) was is = record {
   lines = [];
   texts_are = refl;
-  leads = ap (λ (s : MachineState). Ok s) (last_is_one states.states old new was is);
+  leads = ap (λ (s : MachineState). Ok s) (last_is_one states old new was is);
 }
 led law _ _ _ old new (more first states later entries entry accounts leads) was is =
     let before = led law first states entries old leads.old accounts was leads.was in
     let line = numbered leads.line entry.number in
-    let end = last_is_one later.states leads.new new leads.is is in record {
+    let end = last_is_one later leads.new new leads.is is in record {
       lines = before.lines ++ line ∷ [];
       texts_are =
           texts_of_both entries (entry ∷ [])

@@ -1,11 +1,13 @@
 -- What a crash leaves of a file leads to each state that a receipt shows.
 use Rattle.std.proofs.Common.{◌≡◌, ◌⊎◌, inl, inr, ⊎_elim, ℕ, List, [], ◌∷◌, ◌++◌, refl, sym, ap, ◌∙◌, append_assoc}
+use Rattle.std.specs.List.{AllByRecursion}
 use Rattle.append_log.specs.Contents.{Contents, IsFirstPart, MayLeave}
+use Rattle.append_log.specs.History.{LeavesOnly}
 use Rattle.site_core.specs.State.{MachineState}
 use Rattle.site_journal.specs.NotedRun.{NotedRunsAreRestored}
-use Rattle.version_store.specs.Recording.{EndsAt, HasState, RecordedState, forget}
+use Rattle.version_store.specs.Recording.{EndsAt, HasState, forget}
 use Rattle.journal_writer.specs.declared.numbered_entry.NumberedEntry.{NumberedEntry}
-use Rattle.journal_writer.specs.Account.{AccountsFor, nothing, more, AnsweredSurvives, GoesOn, ReceiptState, texts_of}
+use Rattle.journal_writer.specs.Account.{AccountsFor, nothing, more, AnsweredSurvives, AnsweredSurvivesCalls, GoesOn, ReceiptState, texts_of}
 use Rattle.journal_writer.proofs.AccountLemmas.{append_nil, led, texts_of_both}
 
 -- one of a list with one more is that, or was in the list
@@ -25,16 +27,16 @@ within (b ∷ before) behind (r ∷ rest) x last same =
     (within before behind rest x last others)
 
 -- entries of which the first ones lead to a state
-record Reaches (first : RecordedState) (entries : List NumberedEntry) (state : MachineState)
+record Reaches (first : List MachineState) (entries : List NumberedEntry) (state : MachineState)
     : Type 0 where
   part : List NumberedEntry
   rest : List NumberedEntry
   entries_are : entries ≡ part ++ rest
-  last : RecordedState
+  last : List MachineState
   accounts : AccountsFor first part last
-  is : EndsAt last.states state
+  is : EndsAt last state
 
-further : (first : RecordedState) (entries : List NumberedEntry) (entry : NumberedEntry)
+further : (first : List MachineState) (entries : List NumberedEntry) (entry : NumberedEntry)
     (state : MachineState) → Reaches first entries state → Reaches first (entries ++ entry ∷ []) state
 further first entries entry state reaches = record {
   part = reaches.part;
@@ -47,9 +49,9 @@ further first entries entry state reaches = record {
 }
 
 -- each state that entries account for was there before, or the first of them lead to it
-reached : (first last : RecordedState) (entries : List NumberedEntry) (state : MachineState)
-    → AccountsFor first entries last → HasState last.states state
-    → HasState first.states state ⊎ Reaches first entries state
+reached : (first last : List MachineState) (entries : List NumberedEntry) (state : MachineState)
+    → AccountsFor first entries last → HasState last state
+    → HasState first state ⊎ Reaches first entries state
 reached _ _ _ state (nothing states) has = inl has
 reached _ _ _ state (more first states later entries entry accounts leads) has =
     ⊎_elim
@@ -65,7 +67,7 @@ reached _ _ _ state (more first states later entries entry accounts leads) has =
     (λ was. inl was)
     (λ reaches. inr (further first entries entry state reaches))
     (reached first states entries state accounts (has.0, found.0, found.1)))
-    (within has.0 has.1 states.states (forget state) leads.is_next.0 (sym has.2 ∙ leads.is_next.1))
+    (within has.0 has.1 states (forget state) leads.is_next.0 (sym has.2 ∙ leads.is_next.1))
 
 -- what is left begins with the start and a first part of the entries
 left_begins : (receipt : ReceiptState) (contents : Contents) (left : List ℕ)
@@ -108,3 +110,20 @@ survives law receipt contents left old state goes stands may was has =
       leads = inr are.leads;
     })
     (reached receipt.start.states receipt.synced.states goes.entries state goes.accounts has)
+
+-- ---- at each moment of a call
+
+each_of : {P Q : List ℕ → Type 0} → ((left : List ℕ) → P left → Q left) → (all : List Contents)
+    → AllByRecursion (LeavesOnly P) all → AllByRecursion (LeavesOnly Q) all
+each_of so [] each = each
+each_of so (contents ∷ all) each =
+    ((λ left may. so left (each.0 left may)), each_of so all each.1)
+
+pub survives_calls : NotedRunsAreRestored → AnsweredSurvivesCalls
+survives_calls law receipt contents before after old state goes stands moments was has = record {
+  between = moments.between;
+  goes_on = moments.goes_on;
+  each = each_of
+      (λ left may. survives law receipt contents left old state goes stands may was has)
+      (moments.between ++ before.now ∷ []) moments.each;
+}

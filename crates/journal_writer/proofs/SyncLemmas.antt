@@ -1,11 +1,12 @@
 -- What a file had at its syncs is still there.
 use Rattle.std.proofs.Common.{◌≡◌, ℕ, List, [], ◌∷◌, ◌++◌, refl, sym, ap, ◌∙◌, subst, append_assoc}
-use Rattle.std.specs.Prelude.{Option, Some, None}
+use Rattle.std.specs.Prelude.{Bool, Option, Some, None}
 use Rattle.std.specs.List.{AllByRecursion}
 use mathlib.Core.List.{IsPrefix}
 use Rattle.append_log.specs.Contents.{Contents, IsFirstPart, file_of, only_synced, with_added}
+use Rattle.append_log.specs.History.{History}
 use Rattle.site_core.specs.State.{MachineState}
-use Rattle.version_store.specs.Recording.{RecordedState, forget}
+use Rattle.version_store.specs.Recording.{forget}
 use Rattle.journal_writer.specs.Account.{Covers, FileState, GoesOn, HasSync, IsAmong, IsGiven, IsNoted, IsWritten, NotedState, ReceiptState, StandsSince, WrittenState, first_of, last_of, nothing_at, receipt_of, texts_of, written_of}
 use Rattle.journal_writer.proofs.AccountLemmas.{append_nil, from_itself, lines_added}
 
@@ -68,7 +69,8 @@ pub first_is : (none start : FileState) (files others : List FileState) → file
 first_is none start files others are = ap (λ (fs : List FileState). first_of none fs) are
 
 -- what a receipt of a sync shows
-pub receipt_is : (recorded : RecordedState) (files : List FileState) (sync : HasSync files recorded)
+pub receipt_is : (recorded : List MachineState) (files : List FileState)
+    (sync : HasSync files recorded)
     → receipt_of recorded (Some files) ≡ record { start = sync.start; synced = sync.synced }
 receipt_is recorded files sync =
     ap (λ (fs : List FileState). receipt_of recorded (Some fs)) sync.files_are
@@ -77,15 +79,15 @@ receipt_is recorded files sync =
 
 -- ---- receipts
 
-pub states_of : (recorded : RecordedState) (files : Option (List FileState))
-    → IsGiven recorded files → (receipt_of recorded files).synced.states ≡ recorded
-states_of recorded None given = refl
-states_of recorded (Some files) sync =
+pub states_of : (named : Bool) (recorded : List MachineState) (files : Option (List FileState))
+    → IsGiven named recorded files → (receipt_of recorded files).synced.states ≡ recorded
+states_of named recorded None given = refl
+states_of named recorded (Some files) sync =
     ap (λ (r : ReceiptState). r.synced.states) (receipt_is recorded files sync) ∙ sync.states_are
 
 -- of a beginning of a file's syncs
-pub is_among : (recorded : RecordedState) (known files : List FileState) → HasSync known recorded
-    → IsPrefix known files → IsAmong (receipt_of recorded (Some known)) files
+pub is_among : (recorded : List MachineState) (known files : List FileState)
+    → HasSync known recorded → IsPrefix known files → IsAmong (receipt_of recorded (Some known)) files
 is_among recorded known files sync begins =
     subst (λ (r : ReceiptState). IsAmong r files) (sym (receipt_is recorded known sync)) (record {
       before = sync.before;
@@ -113,39 +115,40 @@ stands_since written files receipt is among =
     )
 
 -- what a receipt shows covers whatever it begins with
-pub covers : (recorded others : RecordedState) (files : Option (List FileState))
-    (receipt : ReceiptState) → receipt_of recorded files ≡ receipt → IsGiven recorded files
-    → IsPrefix others.states recorded.states → Covers receipt others
-covers recorded others files receipt view given begins = λ state kept ends. (
+pub covers : (named : Bool) (recorded others : List MachineState)
+    (files : Option (List FileState)) (receipt : ReceiptState)
+    → receipt_of recorded files ≡ receipt → IsGiven named recorded files
+    → IsPrefix others recorded → Covers named receipt others
+covers named recorded others files receipt view given begins = λ state kept ends. (
   ends.0,
   begins.0,
-  ap (λ (r : ReceiptState). r.synced.states.states) (sym view)
-      ∙ ap (λ (r : RecordedState). r.states) (states_of recorded files given)
+  ap (λ (r : ReceiptState). r.synced.states) (sym view)
+      ∙ states_of named recorded files given
       ∙ sym begins.1
       ∙ ap (λ (s : List MachineState). s ++ begins.0) ends.1
       ∙ append_assoc ends.0 (forget state ∷ []) begins.0,
 )
 
-pub known_among : (recorded : RecordedState) (files : Option (List FileState))
+pub known_among : (named : Bool) (recorded : List MachineState) (files : Option (List FileState))
     (receipt : ReceiptState) (known all : List FileState) → receipt_of recorded files ≡ receipt
-    → IsGiven recorded files → files ≡ Some known → IsPrefix known all → IsAmong receipt all
-known_among recorded files receipt known all view given is begins =
+    → IsGiven named recorded files → files ≡ Some known → IsPrefix known all → IsAmong receipt all
+known_among named recorded files receipt known all view given is begins =
     let seen : receipt ≡ receipt_of recorded (Some known) =
     sym view ∙ ap (λ (f : Option (List FileState)). receipt_of recorded f) is in
     subst (λ (r : ReceiptState). IsAmong r all) (sym seen)
     (is_among recorded known all
-    (subst (λ (f : Option (List FileState)). IsGiven recorded f) is given) begins)
+    (subst (λ (f : Option (List FileState)). IsGiven named recorded f) is given) begins)
 
 -- ---- a file's calls
 
 -- a file begins with what it has at the start
-pub begun_so : (contents : Contents) (states : RecordedState) (taken : NotedState)
-    (files : List FileState)
+pub begun_so : (contents : Contents) (history : History) (states : List MachineState)
+    (taken : NotedState) (files : List FileState)
     → files ≡ (record { bytes = file_of contents; states = states }) ∷ [] → taken.first ≡ states
-    → IsWritten (written_of contents states taken files) files
-begun_so contents states taken files are next =
+    → IsWritten (written_of contents history states taken files) files
+begun_so contents history states taken files are next =
     let start : FileState = record { bytes = file_of contents; states = states } in
-    subst (λ (fs : List FileState). IsWritten (written_of contents states taken fs) fs) (sym are)
+    subst (λ (fs : List FileState). IsWritten (written_of contents history states taken fs) fs) (sym are)
     (record {
       lines = from_itself start;
       next = next;
@@ -155,20 +158,23 @@ begun_so contents states taken files are next =
     })
 
 -- lines are added
-pub added_so : (old new : Contents) (states copied : RecordedState) (taken cleared : NotedState)
-    (files : List FileState) (lines : List ℕ) → IsWritten (written_of old states taken files) files
+pub added_so : (old new : Contents) (before after : History) (states copied : List MachineState)
+    (taken cleared : NotedState) (files : List FileState) (lines : List ℕ)
+    → IsWritten (written_of old before states taken files) files
     → IsNoted taken → lines ≡ texts_of taken.entries → new ≡ with_added old lines
     → copied ≡ taken.last → cleared.first ≡ taken.last
-    → IsWritten (written_of new copied cleared files) files
-added_so old new states copied taken cleared files lines is noted lines_are added last first =
+    → IsWritten (written_of new after copied cleared files) files
+added_so old new before after states copied taken cleared files lines is noted lines_are added
+    last first =
     let start = first_of (nothing_at states) files in
     let same : first_of (nothing_at copied) files ≡ start =
     ap (λ (fs : List FileState). first_of (nothing_at copied) fs) is.files_are in
     let synced : new.synced ≡ old.synced = ap (λ (c : Contents). c.synced) added in
     subst (λ (s : FileState). IsWritten
-    (record { start = s; contents = new; states = copied; taken = cleared }) files) (sym same)
+    (record { start = s; contents = new; history = after; states = copied; taken = cleared }) files)
+    (sym same)
     (record {
-      lines = subst (λ (r : RecordedState). GoesOn start
+      lines = subst (λ (r : List MachineState). GoesOn start
           (record { bytes = file_of new; states = r })) (sym last)
           (lines_added start old new states taken lines is.lines is.next noted lines_are added);
       next = first ∙ sym last;
@@ -178,14 +184,28 @@ added_so old new states copied taken cleared files lines is noted lines_are adde
           is.stand;
     })
 
+-- what is always so doesn't speak of the history
+moved : (contents : Contents) (before after : History) (states : List MachineState)
+    (taken : NotedState) (files : List FileState)
+    → IsWritten (written_of contents before states taken files) files
+    → IsWritten (written_of contents after states taken files) files
+moved contents before after states taken files is = record {
+  lines = is.lines;
+  next = is.next;
+  syncs = is.syncs;
+  files_are = is.files_are;
+  stand = is.stand;
+}
+
 -- all is synced
-pub synced_so : (old new : Contents) (states : RecordedState) (taken : NotedState)
-    (files others : List FileState) → IsWritten (written_of old states taken files) files
+pub synced_so : (old new : Contents) (before after : History) (states : List MachineState)
+    (taken : NotedState) (files others : List FileState)
+    → IsWritten (written_of old before states taken files) files
     → new ≡ only_synced (file_of old)
     → others ≡ files ++ (record { bytes = file_of new; states = states }) ∷ []
-    → IsWritten (written_of new states taken others) others
-synced_so old new states taken files others is made added =
-    let written = written_of old states taken files in
+    → IsWritten (written_of new after states taken others) others
+synced_so old new before after states taken files others is made added =
+    let written = written_of old after states taken files in
     let now = synced_now written in
     let bytes : file_of new ≡ file_of old =
     ap (λ (c : Contents). file_of c) made ∙ append_nil (file_of old) in
@@ -193,16 +213,22 @@ synced_so old new states taken files others is made added =
     added ∙ ap (λ (b : List ℕ). files ++ (record { bytes = b; states = states }) ∷ []) bytes in
     let start : first_of (nothing_at states) (files ++ now ∷ []) ≡ written.start =
     ap (λ (fs : List FileState). first_of (nothing_at states) (fs ++ now ∷ [])) is.files_are in
-    subst (λ (fs : List FileState). IsWritten (written_of new states taken fs) fs) (sym others_are)
+    subst (λ (fs : List FileState). IsWritten (written_of new after states taken fs) fs) (sym others_are)
     (subst (λ (s : FileState). IsWritten
-    (record { start = s; contents = new; states = states; taken = taken })
+    (record { start = s; contents = new; history = after; states = states; taken = taken })
     (files ++ now ∷ [])) (sym start)
     (subst (λ (c : Contents). IsWritten
-    (record { start = written.start; contents = c; states = states; taken = taken })
-    (files ++ now ∷ [])) (sym made) (is_synced written files is)))
+    (record {
+      start = written.start;
+      contents = c;
+      history = after;
+      states = states;
+      taken = taken;
+    })
+    (files ++ now ∷ [])) (sym made) (is_synced written files (moved old before after states taken files is))))
 
 -- and what is given then shows just that
-pub receipt_so : (old new : Contents) (states copied : RecordedState)
+pub receipt_so : (old new : Contents) (states copied : List MachineState)
     (files others front : List FileState) (receipt : ReceiptState)
     → new ≡ only_synced (file_of old)
     → others ≡ files ++ (record { bytes = file_of new; states = states }) ∷ []
@@ -217,7 +243,7 @@ receipt_so old new states copied files others front receipt made added same know
     ap (λ (c : Contents). file_of c) made ∙ append_nil (file_of old)
     ∙ sym (ap (λ (c : Contents). c.synced) made) in
     given
-    ∙ ap (λ (r : RecordedState). receipt_of r (Some front)) same
+    ∙ ap (λ (r : List MachineState). receipt_of r (Some front)) same
     ∙ ap (λ (fs : List FileState). receipt_of states (Some fs)) known
     ∙ ap (λ (f : FileState). record { start = first_of (nothing_at states) others; synced = f })
     (ap (λ (fs : List FileState). last_of (nothing_at states) fs) added

@@ -1,12 +1,13 @@
 -- What the lines of a journal account for: each leads from one recorded state to the next.
-use Rattle.std.specs.Prelude.{ℕ, ◌≡◌, ◌⊎◌, true, false, List, [], ◌∷◌, ◌++◌, flat_map, Option, Some, None, Ok}
+use Rattle.std.specs.Prelude.{ℕ, ◌≡◌, ◌⊎◌, Bool, true, false, List, [], ◌∷◌, ◌++◌, flat_map, Option, Some, None, Ok}
 use Rattle.std.specs.List.{AllByRecursion}
 use Rattle.append_log.specs.Contents.{Contents, IsFirstPart, MayLeave, file_of}
+use Rattle.append_log.specs.History.{AtEachMoment, History}
 use Rattle.site_core.specs.State.{MachineState}
 use Rattle.site_journal.specs.Entry.{IsEntryOf, entry_text, numbered}
 use Rattle.site_journal.specs.Line.{LineState, line_text}
 use Rattle.site_journal.specs.Restore.{restored, restored_lines}
-use Rattle.version_store.specs.Recording.{EndsAt, HasState, IsNextOf, RecordedState, forget}
+use Rattle.version_store.specs.Recording.{EndsAt, HasState, IsNextOf, forget}
 use Rattle.journal_writer.specs.declared.numbered_entry.NumberedEntry.{NumberedEntry}
 
 -- the lines of entries
@@ -14,32 +15,32 @@ abbrev pub texts_of : List NumberedEntry → List ℕ
 texts_of entries = flat_map (λ (e : NumberedEntry). entry_text e.entry e.number) entries
 
 -- An entry is a line that leads from the last state that was recorded to the next one.
-pub record LeadsOn (entry : NumberedEntry) (recorded later : RecordedState) : Type 0 where
+pub record LeadsOn (entry : NumberedEntry) (states later : List MachineState) : Type 0 where
   pub line : LineState
   pub entry_is : IsEntryOf entry.entry line
   pub old : MachineState
   pub new : MachineState
-  pub was : EndsAt recorded.states old
-  pub is : EndsAt later.states new
-  pub is_next : IsNextOf recorded later
+  pub was : EndsAt states old
+  pub is : EndsAt later new
+  pub is_next : IsNextOf states later
   pub leads : restored old (numbered line entry.number) ≡ Ok new
 
 -- Entries lead, one after another, from the last state that was recorded first to the last of the
 -- later ones.
-pub data AccountsFor : RecordedState → List NumberedEntry → RecordedState → Type 0 where
-  nothing : (recorded : RecordedState) → AccountsFor recorded [] recorded
-  more : (first recorded later : RecordedState) (entries : List NumberedEntry)
+pub data AccountsFor : List MachineState → List NumberedEntry → List MachineState → Type 0 where
+  nothing : (states : List MachineState) → AccountsFor states [] states
+  more : (first states later : List MachineState) (entries : List NumberedEntry)
       (entry : NumberedEntry)
-      → AccountsFor first entries recorded → LeadsOn entry recorded later
+      → AccountsFor first entries states → LeadsOn entry states later
       → AccountsFor first (entries ++ entry ∷ []) later
 
 -- steps that were noted, and not written yet
 pub record NotedState : Type 0 where
   -- what was recorded before the first of them
-  pub first : RecordedState
+  pub first : List MachineState
   pub entries : List NumberedEntry
   -- and with the last one
-  pub last : RecordedState
+  pub last : List MachineState
 
 abbrev pub IsNoted : NotedState → Type 0
 IsNoted noted = AccountsFor noted.first noted.entries noted.last
@@ -49,7 +50,7 @@ IsNoted noted = AccountsFor noted.first noted.entries noted.last
 -- what stands in a file, and what was recorded by its last line
 pub record FileState : Type 0 where
   pub bytes : List ℕ
-  pub states : RecordedState
+  pub states : List MachineState
 
 -- Behind what stood in a file stand the lines of entries, which lead on from what was recorded then.
 pub record GoesOn (start later : FileState) : Type 0 where
@@ -63,14 +64,14 @@ pub record ReceiptState : Type 0 where
   pub synced : FileState
 
 -- that of a book whose states aren't recorded
-abbrev pub nothing_at : RecordedState → FileState
-nothing_at recorded = record { bytes = []; states = recorded }
+abbrev pub nothing_at : List MachineState → FileState
+nothing_at states = record { bytes = []; states = states }
 
--- among these states is each with which something ended that was recorded
-abbrev pub Covers : ReceiptState → RecordedState → Type 0
-Covers receipt recorded =
-    (state : MachineState) → recorded.is_kept ≡ true → EndsAt recorded.states state
-    → HasState receipt.synced.states.states state
+-- Where states are recorded, the one with which some ended is among those of a receipt.
+abbrev pub Covers : Bool → ReceiptState → List MachineState → Type 0
+Covers is_recorded receipt states =
+    (state : MachineState) → is_recorded ≡ true → EndsAt states state
+    → HasState receipt.synced.states state
 
 -- ---- what that means
 
@@ -83,8 +84,8 @@ pub record AreRestored (entries : List NumberedEntry) (old new : MachineState) :
 
 abbrev pub EntriesAreRestored : Type 0
 EntriesAreRestored =
-    (first last : RecordedState) (entries : List NumberedEntry) (old new : MachineState)
-    → AccountsFor first entries last → EndsAt first.states old → EndsAt last.states new
+    (first last : List MachineState) (entries : List NumberedEntry) (old new : MachineState)
+    → AccountsFor first entries last → EndsAt first old → EndsAt last new
     → AreRestored entries old new
 
 -- What is left of a file begins with what stood there at the start, and then with lines that lead
@@ -93,7 +94,7 @@ pub record Survives (start : FileState) (old : MachineState) (left : List ℕ) (
     : Type 0 where
   pub lines : List LineState
   pub left_are : IsFirstPart (start.bytes ++ flat_map line_text lines) left
-  pub leads : HasState start.states.states state
+  pub leads : HasState start.states state
       ⊎ (restored_lines (forget old) lines ≡ Ok (forget state))
 
 -- Whatever a crash leaves of a file that has on its disk what a receipt shows: each state that the
@@ -102,8 +103,18 @@ abbrev pub AnsweredSurvives : Type 0
 AnsweredSurvives =
     (receipt : ReceiptState) (contents : Contents) (left : List ℕ) (old state : MachineState)
     → GoesOn receipt.start receipt.synced → IsFirstPart receipt.synced.bytes contents.synced
-    → MayLeave contents left → EndsAt receipt.start.states.states old
-    → HasState receipt.synced.states.states state → Survives receipt.start old left state
+    → MayLeave contents left → EndsAt receipt.start.states old
+    → HasState receipt.synced.states state → Survives receipt.start old left state
+
+-- The same at each moment of a call, which leaves at each what may be left of such a file.
+abbrev pub AnsweredSurvivesCalls : Type 0
+AnsweredSurvivesCalls =
+    (receipt : ReceiptState) (contents : Contents) (before after : History)
+    (old state : MachineState)
+    → GoesOn receipt.start receipt.synced → IsFirstPart receipt.synced.bytes contents.synced
+    → AtEachMoment (MayLeave contents) before after → EndsAt receipt.start.states old
+    → HasState receipt.synced.states state
+    → AtEachMoment (λ left. Survives receipt.start old left state) before after
 
 -- ---- the file
 
@@ -112,8 +123,10 @@ pub record WrittenState : Type 0 where
   -- what the file had at the start
   pub start : FileState
   pub contents : Contents
+  -- what the file has and had, at each moment
+  pub history : History
   -- what was recorded by its last line
-  pub states : RecordedState
+  pub states : List MachineState
   pub taken : NotedState
 
 -- what a file had at a sync: it goes on from the start, and stands on the disk since
@@ -141,29 +154,31 @@ abbrev pub last_of : FileState → List FileState → FileState
 last_of none [] = none
 last_of none (file ∷ files) = last_of file files
 
-abbrev pub written_of : Contents → RecordedState → NotedState → List FileState → WrittenState
-written_of contents states taken files = record {
+abbrev pub written_of : Contents → History → List MachineState → NotedState → List FileState
+    → WrittenState
+written_of contents history states taken files = record {
   start = first_of (nothing_at states) files;
   contents = contents;
+  history = history;
   states = states;
   taken = taken;
 }
 
-abbrev pub receipt_of : RecordedState → Option (List FileState) → ReceiptState
-receipt_of recorded None =
-    record { start = nothing_at recorded; synced = nothing_at recorded }
-receipt_of recorded (Some files) = record {
-  start = first_of (nothing_at recorded) files;
-  synced = last_of (nothing_at recorded) files;
+abbrev pub receipt_of : List MachineState → Option (List FileState) → ReceiptState
+receipt_of states None =
+    record { start = nothing_at states; synced = nothing_at states }
+receipt_of states (Some files) = record {
+  start = first_of (nothing_at states) files;
+  synced = last_of (nothing_at states) files;
 }
 
 -- the last of a file's syncs was with these states
-pub record HasSync (files : List FileState) (recorded : RecordedState) : Type 0 where
+pub record HasSync (files : List FileState) (states : List MachineState) : Type 0 where
   pub start : FileState
   pub before : List FileState
   pub synced : FileState
   pub files_are : files ≡ start ∷ (before ++ synced ∷ [])
-  pub states_are : synced.states ≡ recorded
+  pub states_are : synced.states ≡ states
   pub goes_on : GoesOn start synced
 
 -- a receipt was given at one of a file's syncs
@@ -173,6 +188,6 @@ pub record IsAmong (receipt : ReceiptState) (files : List FileState) : Type 0 wh
   pub files_are : files ≡ receipt.start ∷ (before ++ receipt.synced ∷ behind)
 
 -- what is always so of a receipt
-abbrev pub IsGiven : RecordedState → Option (List FileState) → Type 0
-IsGiven recorded None = recorded.is_kept ≡ false
-IsGiven recorded (Some files) = HasSync files recorded
+abbrev pub IsGiven : Bool → List MachineState → Option (List FileState) → Type 0
+IsGiven is_recorded states None = is_recorded ≡ false
+IsGiven is_recorded states (Some files) = HasSync files states

@@ -1,6 +1,6 @@
 //! What entries mean to a restart.
 
-ghost use Rattle.journal_writer.specs.Account.{AnsweredSurvives, EntriesAreRestored};
+ghost use Rattle.journal_writer.specs.Account.{AnsweredSurvives, AnsweredSurvivesCalls, EntriesAreRestored};
 
 use site_journal::noted_runs_are_restored;
 
@@ -12,10 +12,11 @@ pub fn entries_are_restored()
     noted_runs_are_restored();
 }
 
-/// The law of all that is answered: a crash at any moment leaves lines that a restart restores, up to
-/// each state that a receipt shows.
+/// The law of all that is answered: a crash leaves lines that a restart restores, up to each state
+/// that a receipt shows. It may come between calls on the file, or at any moment of one.
 pub fn answered_survives()
-    ensures { AnsweredSurvives }
+    ensures between { AnsweredSurvives }
+    ensures calls { AnsweredSurvivesCalls }
 {
     noted_runs_are_restored();
 }

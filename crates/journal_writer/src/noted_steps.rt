@@ -68,7 +68,8 @@ impl<N: ChronicleName> NotedSteps<N> {
     /// last one, and it recorded one state more. False where it isn't, or there is no room: then
     /// nothing is noted.
     pub fn note(&mut self, step: MadeStep<N>) -> bool
-        requires { IsOfMadeStep step.entry step.number (IsAt step.before) (IsAt step.after) }
+        requires { IsOfMadeStep step.entry step.number
+            (IsAt N.is_recorded step.before) (IsAt N.is_recorded step.after) }
         ensures noted { result ≡ true → self.new ≡ record {
           first = self.old.first;
           entries = self.old.entries ++ (record { entry = step.entry; number = step.number }) ∷ [];

@@ -24,7 +24,7 @@ impl<N: ChronicleName> Model for Receipt<N> {
 
     ghost view = { λ r. receipt_of r.recorded (option_map (λ f. f.entries) r.syncs) };
 
-    ghost invariant = { λ r. IsGiven r.recorded (option_map (λ f. f.entries) r.syncs) };
+    ghost invariant = { λ r. IsGiven N.is_recorded r.recorded (option_map (λ f. f.entries) r.syncs) };
 }
 
 impl<N: ChronicleName> Receipt<N> {
@@ -41,9 +41,9 @@ impl<N: ChronicleName> Receipt<N> {
 
     /// That of a book whose states aren't recorded. `None` where they are.
     pub fn of_nothing(recorded: &RecordedStates<N>) -> Option<Receipt<N>>
-        ensures { IfSome result (λ receipt. Covers receipt recorded.now) }
+        ensures { IfSome result (λ receipt. Covers N.is_recorded receipt recorded.now) }
     {
-        if recorded.is_kept() {
+        if recorded.is_recorded() {
             return None;
         }
         Some(Receipt {
@@ -67,14 +67,14 @@ impl<N: ChronicleName> Receipt<N> {
 
     /// Whether it covers what was recorded by some moment: the states with which that ended.
     pub fn covers(&self, recorded: &RecordedStates<N>) -> bool
-        ensures { result ≡ true → Covers self.now recorded.now }
+        ensures { result ≡ true → Covers N.is_recorded self.now recorded.now }
     {
         self.recorded.is_at_least(recorded)
     }
 
     /// Shows that a file has on its disk what this receipt was given for, if it was given for one.
     pub(crate) fn compare(&self, syncs: &Syncs<N>)
-        ensures { self.now.synced.states.is_kept ≡ true → IsAmong self.now syncs.now.entries }
+        ensures { N.is_recorded ≡ true → IsAmong self.now syncs.now.entries }
     {
         if let Some(known) = &self.syncs {
             syncs.compare(known);

@@ -1,8 +1,9 @@
 //! The file of a journal, and the steps that are written to it.
 
 ghost use Rattle.std.specs.Prelude.{◌≡◌, [], true, false, IfOk, OnOk};
-ghost use Rattle.append_log.specs.Contents.{IsFirstPart, file_of};
-ghost use Rattle.append_log.specs.Log.{after_trial, contents};
+ghost use Rattle.append_log.specs.Contents.{IsFirstPart, MayLeave, file_of};
+ghost use Rattle.append_log.specs.History.{AtEachMoment};
+ghost use Rattle.append_log.specs.Log.{after_trial, contents, history};
 ghost use Rattle.journal_writer.specs.Account.{GoesOn};
 
 use crate::noted_steps::NotedSteps;
@@ -26,15 +27,17 @@ pub struct WrittenSteps<F: AppendedFile, N: ChronicleName> {
 }
 
 impl<F: AppendedFile, N: ChronicleName> Model for WrittenSteps<F, N> {
-    ghost use Rattle.append_log.specs.Log.{contents};
+    ghost use Rattle.append_log.specs.Log.{contents, history};
     ghost use Rattle.journal_writer.specs.Account.{WrittenState, IsWritten, written_of};
 
     ghost Value = { WrittenState };
 
-    ghost view = { λ w. written_of (contents w.accounted.log) w.accounted.states w.taken w.syncs.entries };
+    ghost view = { λ w. written_of (contents w.accounted.log) (history w.accounted.log)
+        w.accounted.states w.taken w.syncs.entries };
 
     ghost invariant = { λ w. IsWritten
-        (written_of (contents w.accounted.log) w.accounted.states w.taken w.syncs.entries)
+        (written_of (contents w.accounted.log) (history w.accounted.log)
+        w.accounted.states w.taken w.syncs.entries)
         w.syncs.entries };
 }
 
@@ -52,6 +55,7 @@ impl<F: AppendedFile + Drop, N: ChronicleName> WrittenSteps<F, N> {
         ensures { IfOk result (λ written. written ≡ record {
           start = record { bytes = file_of (contents log); states = states };
           contents = contents log;
+          history = history log;
           states = states;
           taken = record { first = states; entries = []; last = states };
         }) }
@@ -90,12 +94,13 @@ impl<F: AppendedFile + Drop, N: ChronicleName> WrittenSteps<F, N> {
         self.taken.take(noted)
     }
 
-    /// Adds the lines of the steps that were taken to the log. Afterwards there is room for so many
+    /// Adds the lines of the steps that were taken to the log, and writes none. Afterwards there is room for so many
     /// more. Where memory runs out no step is lost, and it may be tried again.
     pub fn add_lines(&mut self, room: usize) -> Result<(), AllocError>
         ensures lines { OnOk result (self.new.states ≡ self.old.taken.last) }
         ensures taken { OnOk result (self.new.taken.entries ≡ []) }
         ensures start { self.new.start ≡ self.old.start }
+        ensures history { self.new.history ≡ self.old.history }
     {
         let mut lines = String::new(self.alloc);
         self.taken.push_lines(&mut lines)?;
@@ -110,7 +115,14 @@ impl<F: AppendedFile + Drop, N: ChronicleName> WrittenSteps<F, N> {
     pub fn write_and_sync(&mut self) -> Result<Receipt<N>, LogFault>
         ensures contents { self.new ≡ record self.old {
           contents = after_trial self.old.contents result;
+          history = self.new.history;
         } }
+        // A crash at any moment of the call leaves what was on the disk before, and behind it a
+        // first part of the lines that aren't, or any bytes if the call failed.
+        ensures any_moment { AtEachMoment (MayLeave (record self.old.contents {
+          has_failed = self.new.contents.has_failed;
+        }))
+            self.old.history self.new.history }
         ensures synced { IfOk result (λ receipt. receipt ≡ record {
           start = self.new.start;
           synced = record { bytes = self.new.contents.synced; states = self.new.states };
@@ -125,11 +137,9 @@ impl<F: AppendedFile + Drop, N: ChronicleName> WrittenSteps<F, N> {
     /// Shows that what a receipt was given for stands on the disk, whenever that was: lines that lead
     /// from the start to its states.
     pub fn compare(&self, receipt: &Receipt<N>)
-        ensures start { receipt.now.synced.states.is_kept ≡ true
-            → receipt.now.start ≡ self.now.start }
-        ensures goes_on { receipt.now.synced.states.is_kept ≡ true
-            → GoesOn receipt.now.start receipt.now.synced }
-        ensures stands { receipt.now.synced.states.is_kept ≡ true
+        ensures start { N.is_recorded ≡ true → receipt.now.start ≡ self.now.start }
+        ensures goes_on { N.is_recorded ≡ true → GoesOn receipt.now.start receipt.now.synced }
+        ensures stands { N.is_recorded ≡ true
             → IsFirstPart receipt.now.synced.bytes self.now.contents.synced }
     {
         receipt.compare(&self.syncs);

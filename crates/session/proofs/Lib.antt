@@ -1,5 +1,6 @@
 pub mod AskedLemmas
 pub mod AuditLemmas
+pub mod LeavingLemmas
 pub mod NotingLemmas
 pub mod PerformLemmas
 pub mod ServedLemmas

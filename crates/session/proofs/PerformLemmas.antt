@@ -1,5 +1,5 @@
 -- What a step comes to that is neither a Take nor a Confirm.
-use Rattle.std.proofs.Common.{◌≡◌, ◌≢◌, ℕ, List, Bool, refl}
+use Rattle.std.proofs.Common.{◌≢◌, ℕ, List, Bool, refl}
 use Rattle.site_core.specs.declared.step.Step.{Step}
 use Rattle.site_core.specs.declared.step.Step.TheVariants as steps
 use Rattle.site_core.specs.declared.step.Take.{Take}

@@ -1,6 +1,6 @@
 -- What a message of a session is answered, once its step was made on the book that all sessions
 -- share.
-use Rattle.std.specs.Prelude.{◌≡◌, ◌⊎◌, List, ℕ, Option, Some, None}
+use Rattle.std.specs.Prelude.{◌≡◌, ◌⊎◌, Bool, List, ℕ, Option, Some, None}
 use Rattle.ocpp_scalars.specs.declared.instant.Instant.{Instant}
 use Rattle.ocpp_scalars.specs.declared.refusal.Refusal.TheVariants.{OutOfMemory, UnknownRequest}
 use Rattle.site_core.specs.declared.step.Step.{Step}
@@ -8,7 +8,7 @@ use Rattle.site_core.specs.Right.{IsRight}
 use Rattle.site_core.specs.State.{MachineState}
 use Rattle.version_store.specs.Answers.{RequestedJob, HandedAnswer}
 use Rattle.version_store.specs.Passes.{PassState}
-use Rattle.version_store.specs.Recording.{RecordedState, IsAt}
+use Rattle.version_store.specs.Recording.{IsAt}
 use Rattle.version_store.specs.Store.{StoreState, IsStore}
 use Rattle.texts.specs.SentText.{Sent}
 use Rattle.session.specs.declared.todo.Owed.{Owed}
@@ -71,9 +71,9 @@ HasOutcome was seen text (Some step) (Some outcome) = IsOutcomeOf was seen text 
 HasOutcome was seen text _ _ = ⊥
 
 -- whether what was recorded by a step, if there was one, ended with a state
-abbrev pub seen_at : Option RecordedState → MachineState → Type 0
-seen_at None state = ⊥
-seen_at (Some seen) state = IsAt seen state
+abbrev pub seen_at : Bool → Option (List MachineState) → MachineState → Type 0
+seen_at is_recorded None state = ⊥
+seen_at is_recorded (Some seen) state = IsAt is_recorded seen state
 
 -- what a message asks for, or the answer alone where its step can't be noted
 abbrev pub IsTodoOrUnnoted : SessionState → Instant → List ℕ → TodoState → Type 0

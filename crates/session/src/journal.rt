@@ -34,12 +34,13 @@ pub trait Journal<N: ChronicleName> {
     /// before it and with it. Whoever notes it has had the book since before the step, so this waits
     /// for nothing that takes long.
     fn note(&self, entry: Entry, number: u64, before: &RecordedStates<N>, after: &RecordedStates<N>)
-        requires { IsOfMadeStep entry number (IsAt before.now) (IsAt after.now) };
+        requires { IsOfMadeStep entry number
+            (IsAt N.is_recorded before.now) (IsAt N.is_recorded after.now) };
 
     /// Waits until all is kept that led to what was recorded by some moment, whoever noted it. The
     /// session doesn't have the book. On an error no message may leave that depends on any of it.
     fn receipt(&self, recorded: &RecordedStates<N>) -> Result<Receipt<N>, JournalFault>
-        ensures { IfOk result (λ receipt. Covers receipt recorded.now) };
+        ensures { IfOk result (λ receipt. Covers N.is_recorded receipt recorded.now) };
 
     /// Waits until all that is noted by now is kept, whoever noted it.
     fn write_out(&self) -> Result<(), JournalFault>;
@@ -81,7 +82,8 @@ impl<N: ChronicleName> Journal<N> for NoJournal {
         _before: &RecordedStates<N>,
         _after: &RecordedStates<N>,
     )
-        requires { IsOfMadeStep _entry _number (IsAt _before.now) (IsAt _after.now) }
+        requires { IsOfMadeStep _entry _number
+            (IsAt N.is_recorded _before.now) (IsAt N.is_recorded _after.now) }
     {}
 
     fn receipt(&self, recorded: &RecordedStates<N>) -> Result<Receipt<N>, JournalFault> {

@@ -228,7 +228,8 @@ abbrev pub rows_after_all : List Deed → List Row → List Row
 rows_after_all [] rows = rows
 rows_after_all (deed ∷ later) rows = rows_after_all later (rows_after rows deed)
 
--- the calls to the point at a place that were added: its installs and clears that were accepted
+-- the calls to the point at a place that were added: its installs, clears, audits and remote starts
+-- that were accepted
 abbrev pub accepted_since : MachineState → ℕ → List Event → List CallBody
 accepted_since old place history = bodies_added (traffic_since old place history)
 
@@ -252,8 +253,8 @@ RowsGoOn = FromAnyState (λ old place history new.
     (book_at new place).rows
     ≡ rows_after_all (deeds_since old place history) (book_at old place).rows)
 
--- the part of a history up to a moment when this many installs and clears of the point at a place
--- had been accepted, the state then, and what came later
+-- the part of a history up to a moment when this many calls to the point at a place had been added,
+-- the state then, and what came later
 pub record Moment (old : MachineState) (history : List Event) (new : MachineState)
     (place number : ℕ) : Type 0 where
   pub earlier : List Event
@@ -264,7 +265,7 @@ pub record Moment (old : MachineState) (history : List Event) (new : MachineStat
   pub since : Legal state later new
   pub many : length (accepted_since old place earlier) ≡ number
 
--- each number up to that of the installs and clears of a point that were accepted has its moment
+-- each number up to that of the calls to a point that were added has its moment
 abbrev pub EachCallHasItsMoment : Type 0
 EachCallHasItsMoment =
     (site : SiteState) (numbers : Numbers) (history : List Event) (state : MachineState)
@@ -276,8 +277,8 @@ EachCallHasItsMoment =
 -- A point has any rows, and then obeys calls in the order of sending. Its lasting rows are then
 -- those that the machine had for it at a moment of the last of these calls, whatever came later,
 -- unless a transaction began there with a profile of its own.
--- The moments of call k begin when the k-th install or clear was accepted, and end at the next one.
--- Those of call 0 come before the first.
+-- The moments of call k begin when the k-th call was added, whatever it asks for, and end at the
+-- next one. Those of call 0 come before the first.
 abbrev pub PointsStayInStep : Type 0
 PointsStayInStep =
     (site : SiteState) (numbers : Numbers) (history : List Event) (state : MachineState)

@@ -16,8 +16,8 @@ ghost use Rattle.site_core.specs.CallOrder.{CallsBeginAtZero, CallsStayConsecuti
 /// What the machine keeps of its calls to the point is what the point's own events make of the
 /// opening outbox. The numbers of the calls that Send replies for it begin with 0, and each later
 /// one equals the one before it or is one more. Each call that is sent is the one of its number.
-/// Call 0 clears all profiles, and call k is the k-th Install or Clear of the point that was
-/// accepted. And the calls that are kept are calls 0, 1, .. without the confirmed ones, which are
+/// Call 0 clears all profiles, and call k is the k-th Install, Clear, Audit or RemoteStart of the
+/// point that was accepted. And the calls that are kept are calls 0, 1, .. without the confirmed ones, which are
 /// those that Confirm took note of, in that order.
 pub fn histories_send_calls_in_order()
     ensures outbox { OutboxesFollowHistories }
@@ -47,9 +47,9 @@ pub fn histories_go_on_from_any_state()
 
 /// The laws of the profiles of each point of a site, along every legal history from an opening
 /// state. The rows that the machine has for the point are what the changes by the point's own
-/// events make of none. Each call has its moments in the history. Those of call k begin when the
-/// k-th Install or Clear of the point was accepted, and end at the next one. Those of call 0 are
-/// before the first. And a point that obeys its calls in the order of sending is in step with the
+/// events make of none. Each call has its moments in the history. Those of call k begin when it was
+/// added, as the k-th one that was accepted, and end at the next one. Those of call 0 are before the
+/// first. And a point that obeys its calls in the order of sending is in step with the
 /// machine. Its ChargePointMaxProfiles and TxDefaultProfiles are those that the machine had for it
 /// at each moment of the last of these calls. Only their moments of install may differ. So is a
 /// point that obeys what is sent to it, and each confirmed call at least once: it obeys them in

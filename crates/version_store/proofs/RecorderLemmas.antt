@@ -1,5 +1,5 @@
 -- The state that a step led to is recorded, or needn't be. As many states are the same.
-use Rattle.std.proofs.Common.{◌≡◌, ℕ, ◌+◌, ◌<◌, ◌≤◌, true, false, List, [], ◌∷◌, ◌++◌, length, refl, sym, ap, ◌∙◌, subst, ⊎_elim, arith, Option, Some, is_some, option_map}
+use Rattle.std.proofs.Common.{◌≡◌, ℕ, ◌+◌, ◌<◌, ◌≤◌, Bool, true, false, List, [], ◌∷◌, ◌++◌, length, refl, sym, ap, ◌∙◌, subst, ⊎_elim, arith, Option, Some, option_map}
 use mathlib.Core.List.{IsPrefix}
 use Rattle.site_core.specs.declared.step.Step.{Step}
 use Rattle.site_core.specs.declared.reply.Reply.{Reply}
@@ -8,25 +8,25 @@ use Rattle.site_core.specs.Step.{is_event}
 use Rattle.site_core.specs.StoredHistory.{StoredEvent}
 use Rattle.version_store.specs.Store.{StoreState}
 use Rattle.version_store.specs.Calls.{Adds, Makes, RepliesAlone, event_alone}
-use Rattle.version_store.specs.Recording.{IsAt, IsCountOf, RecordedState, RequestLeads, forget, is_of_request, last_count, or_none}
+use Rattle.version_store.specs.Recording.{IsAt, IsCountOf, RequestLeads, is_of_request, last_count, or_none}
 use Rattle.version_store.specs.Theory.Forgetting.{request_forgotten}
 
 -- ---- requests
 
-left_out : (recorded : RecordedState) (old new : MachineState) → RequestLeads old new
-    → IsAt recorded old → IsAt recorded new
-left_out recorded old new leads was kept =
+left_out : (named : Bool) (states : List MachineState) (old new : MachineState) → RequestLeads old new
+    → IsAt named states old → IsAt named states new
+left_out named states old new leads was kept =
     let before = was kept in (
       before.0,
       before.1 ∙ ap (λ (s : MachineState). before.0 ++ s ∷ []) (sym (request_forgotten old new leads)),
     )
 
 -- an event of a request
-pub adds_request : (recorded : RecordedState) (old : StoreState) (stored : StoredEvent)
+pub adds_request : (named : Bool) (states : List MachineState) (old : StoreState) (stored : StoredEvent)
     (reply : Reply) (new : StoreState) → Adds old stored reply new
-    → is_of_request stored.step ≡ true → IsAt recorded old.present → IsAt recorded new.present
-adds_request recorded old stored reply new adds request was =
-    left_out recorded old.present new.present (record {
+    → is_of_request stored.step ≡ true → IsAt named states old.present → IsAt named states new.present
+adds_request named states old stored reply new adds request was =
+    left_out named states old.present new.present (record {
       stored = stored;
       reply = reply;
       request = request;
@@ -34,37 +34,33 @@ adds_request recorded old stored reply new adds request was =
     }) was
 
 -- where the state is kept
-kept_at : (recorded : RecordedState) (old : StoreState) (step : Step) (reply : Reply)
-    (new : StoreState) → RepliesAlone old step reply new → IsAt recorded old.present
-    → IsAt recorded new.present
-kept_at recorded old step reply new alone was =
-    subst (λ (s : StoreState). IsAt recorded s.present) (sym alone.kept) was
+kept_at : (named : Bool) (states : List MachineState) (old : StoreState) (step : Step) (reply : Reply)
+    (new : StoreState) → RepliesAlone old step reply new → IsAt named states old.present
+    → IsAt named states new.present
+kept_at named states old step reply new alone was =
+    subst (λ (s : StoreState). IsAt named states s.present) (sym alone.kept) was
 
-pub makes_request : (recorded : RecordedState) (old : StoreState) (step : Step) (reply : Reply)
+pub makes_request : (named : Bool) (states : List MachineState) (old : StoreState) (step : Step) (reply : Reply)
     (new : StoreState) → Makes old step reply new → is_of_request step ≡ true
-    → IsAt recorded old.present → IsAt recorded new.present
-makes_request recorded old step reply new makes request was =
+    → IsAt named states old.present → IsAt named states new.present
+makes_request named states old step reply new makes request was =
     ⊎_elim
-    (λ adds. adds_request recorded old (event_alone step) reply new adds request was)
-    (λ alone. kept_at recorded old step reply new alone was)
+    (λ adds. adds_request named states old (event_alone step) reply new adds request was)
+    (λ alone. kept_at named states old step reply new alone was)
     makes
 
 -- ---- other steps
 
-pub makes_no_event : (recorded : RecordedState) (old : StoreState) (step : Step) (reply : Reply)
+pub makes_no_event : (named : Bool) (states : List MachineState) (old : StoreState) (step : Step) (reply : Reply)
     (new : StoreState) → Makes old step reply new → is_event old.present reply ≡ false
-    → IsAt recorded old.present → IsAt recorded new.present
-makes_no_event recorded old step reply new makes none was =
+    → IsAt named states old.present → IsAt named states new.present
+makes_no_event named states old step reply new makes none was =
     ⊎_elim
     (λ adds. absurd (cc (adds.event, none)))
-    (λ alone. kept_at recorded old step reply new alone was)
+    (λ alone. kept_at named states old step reply new alone was)
     makes
 
 -- ---- the same states
-
-abbrev recorded_in : {A : Type 0} → (A → List MachineState) → Option A → RecordedState
-recorded_in entries found =
-    record { is_kept = is_some found; states = or_none (option_map entries found) }
 
 same_list : {A : Type 0} (xs ys : List A) → IsPrefix xs ys → length ys ≤ length xs → xs ≡ ys
 same_list [] [] begins le = refl
@@ -109,11 +105,10 @@ next_count xs ys one other counts others longer next few =
 
 -- where states are recorded, as the code has them
 pub kept_states : {A : Type 0} (entries : A → List MachineState) (found : Option A) (front : A)
-    (view : RecordedState) (count : ℕ)
-    → record { is_kept = is_some found; states = or_none (option_map entries found) } ≡ view
+    (view : List MachineState) (count : ℕ) → or_none (option_map entries found) ≡ view
     → found ≡ Some front → IsCountOf (or_none (option_map entries found)) count
-    → (view ≡ record { is_kept = true; states = entries front }) × IsCountOf (entries front) count
+    → (view ≡ entries front) × IsCountOf (entries front) count
 kept_states {A} entries found front view count view_is is counts = (
-  sym view_is ∙ ap (recorded_in entries) is,
+  sym view_is ∙ ap (λ (o : Option A). or_none (option_map entries o)) is,
   subst (λ (o : Option A). IsCountOf (or_none (option_map entries o)) count) is counts,
 )

@@ -30,12 +30,6 @@ pub record RequestLeads (old new : MachineState) : Type 0 where
 
 -- ---- what is recorded
 
-pub record RecordedState : Type 0 where
-  -- whether states are recorded
-  pub is_kept : Bool
-  -- all of them, without their requests
-  pub states : List MachineState
-
 -- the last of some states is this one
 abbrev pub EndsAt : List MachineState → MachineState → Type 0
 EndsAt states state = (before : List MachineState) × (states ≡ before ++ forget state ∷ [])
@@ -45,14 +39,13 @@ abbrev pub HasState : List MachineState → MachineState → Type 0
 HasState states state =
     (before behind : List MachineState) × (states ≡ before ++ forget state ∷ behind)
 
--- if states are recorded, the last one is this
-abbrev pub IsAt : RecordedState → MachineState → Type 0
-IsAt recorded state = recorded.is_kept ≡ true → EndsAt recorded.states state
+-- where states are recorded, the last one is this
+abbrev pub IsAt : Bool → List MachineState → MachineState → Type 0
+IsAt is_recorded states state = is_recorded ≡ true → EndsAt states state
 
--- the states of the one, and one more
-abbrev pub IsNextOf : RecordedState → RecordedState → Type 0
-IsNextOf recorded later =
-    (state : MachineState) × (later.states ≡ recorded.states ++ state ∷ [])
+-- some states, and one more
+abbrev pub IsNextOf : List MachineState → List MachineState → Type 0
+IsNextOf states later = (state : MachineState) × (later ≡ states ++ state ∷ [])
 
 -- before any change
 abbrev pub opening_states : SiteState → List MachineState

@@ -51,7 +51,7 @@ impl<C: Ledger, A: Ledger, N: ChronicleName> Model for Book<C, A, N> {
     ghost view = { λ book. book.history };
 
     ghost invariant = { λ book. (book.ledgers ≡ book.history.made)
-        × IsAt book.recorder book.history.present };
+        × IsAt N.is_recorded book.recorder book.history.present };
 }
 
 impl<C: Ledger, A: Ledger> Book<C, A> {
@@ -98,6 +98,7 @@ impl<C: Ledger, A: Ledger, N: ChronicleName> Book<C, A, N> {
         requires answers { (answers.name ≡ A.name) × (answers.parts ≡ A.parts)
             × (answers.parts ≡ sessions) }
         requires states { states.name ≡ N.name }
+        requires recorded { N.is_recorded ≡ true }
         ensures book { IfOk result (λ made. made.0 ≡ opening_store site) }
         ensures passes { IfOk result (λ made. length made.1.items ≡ sessions) }
         ensures unused { IfOk result (λ made. All (λ pass. pass ≡ unused_pass) made.1.items) }
@@ -119,7 +120,7 @@ impl<C: Ledger, A: Ledger, N: ChronicleName> Book<C, A, N> {
             × (changes.parts ≡ sessions) }
         requires answers { (answers.name ≡ A.name) × (answers.parts ≡ A.parts)
             × (answers.parts ≡ sessions) }
-        requires recorded { IsAt recorder (opening site) }
+        requires recorded { IsAt N.is_recorded recorder (opening site) }
         ensures book { IfOk result (λ made. made.0 ≡ opening_store site) }
         ensures passes { IfOk result (λ made. length made.1.items ≡ sessions) }
         ensures unused { IfOk result (λ made. All (λ pass. pass ≡ unused_pass) made.1.items) }
@@ -152,7 +153,7 @@ impl<C: Ledger, A: Ledger, N: ChronicleName> Book<C, A, N> {
 impl<C: Ledger, A: Ledger, N: ChronicleName> Book<C, A, N> {
     /// What is recorded of its states by now.
     pub fn recorded(&self) -> RecordedStates<N>
-        ensures { IsAt result self.now.present }
+        ensures { IsAt N.is_recorded result self.now.present }
     {
         self.recorder.recorded()
     }

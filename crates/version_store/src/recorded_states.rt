@@ -1,6 +1,6 @@
 //! The states that a book had, as its journal has to account for them.
 
-ghost use Rattle.std.specs.Prelude.{◌≡◌, ◌∷◌, ◌++◌, [], true, false, IsTrue, is_some};
+ghost use Rattle.std.specs.Prelude.{◌≡◌, true, false};
 ghost use mathlib.Core.List.{IsPrefix};
 ghost use Rattle.site_core.specs.State.{opening};
 ghost use Rattle.version_store.specs.Recording.{IsAt, IsNextOf, forget, opening_states};
@@ -14,9 +14,13 @@ use std::marker::Model;
 pub struct NoName;
 
 impl ChronicleName for NoName {
+    ghost use Rattle.std.specs.Prelude.{false};
+
     ghost name = { 0 };
 
     ghost companion = { 0 };
+
+    ghost is_recorded = { false };
 }
 
 /// A state without its requests for schedules.
@@ -42,17 +46,16 @@ pub(crate) struct StateRecorder<N: ChronicleName> {
 }
 
 impl<N: ChronicleName> Model for StateRecorder<N> {
-    ghost use Rattle.std.specs.Prelude.{is_some, option_map};
-    ghost use Rattle.version_store.specs.Recording.{IsCountOf, RecordedState, or_none};
+    ghost use Rattle.std.specs.Prelude.{◌≡◌, List, is_some, option_map};
+    ghost use Rattle.site_core.specs.State.{MachineState};
+    ghost use Rattle.version_store.specs.Recording.{IsCountOf, or_none};
 
-    ghost Value = { RecordedState };
+    ghost Value = { List MachineState };
 
-    ghost view = { λ r. record {
-      is_kept = is_some r.states;
-      states = or_none (option_map (λ c. c.entries) r.states);
-    } };
+    ghost view = { λ r. or_none (option_map (λ c. c.entries) r.states) };
 
-    ghost invariant = { λ r. IsCountOf (or_none (option_map (λ c. c.entries) r.states)) r.count };
+    ghost invariant = { λ r. (is_some r.states ≡ N.is_recorded)
+        × IsCountOf (or_none (option_map (λ c. c.entries) r.states)) r.count };
 }
 
 /// What was recorded of a book by some moment.
@@ -63,23 +66,22 @@ pub struct RecordedStates<N: ChronicleName> {
 }
 
 impl<N: ChronicleName> Model for RecordedStates<N> {
-    ghost use Rattle.std.specs.Prelude.{is_some, option_map};
-    ghost use Rattle.version_store.specs.Recording.{IsCountOf, RecordedState, or_none};
+    ghost use Rattle.std.specs.Prelude.{◌≡◌, List, is_some, option_map};
+    ghost use Rattle.site_core.specs.State.{MachineState};
+    ghost use Rattle.version_store.specs.Recording.{IsCountOf, or_none};
 
-    ghost Value = { RecordedState };
+    ghost Value = { List MachineState };
 
-    ghost view = { λ r. record {
-      is_kept = is_some r.states;
-      states = or_none (option_map (λ f. f.entries) r.states);
-    } };
+    ghost view = { λ r. or_none (option_map (λ f. f.entries) r.states) };
 
-    ghost invariant = { λ r. IsCountOf (or_none (option_map (λ f. f.entries) r.states)) r.count };
+    ghost invariant = { λ r. (is_some r.states ≡ N.is_recorded)
+        × IsCountOf (or_none (option_map (λ f. f.entries) r.states)) r.count };
 }
 
 impl<N: ChronicleName> StateRecorder<N> {
     /// Records nothing.
     pub(crate) fn nothing() -> StateRecorder<N>
-        ensures { result.is_kept ≡ false }
+        requires { N.is_recorded ≡ false }
     {
         StateRecorder {
             states: None,
@@ -89,8 +91,9 @@ impl<N: ChronicleName> StateRecorder<N> {
 
     /// Has the state of a site where nothing was done yet.
     pub(crate) fn new(unnamed: Unnamed, site: &Site) -> StateRecorder<N>
-        requires { unnamed.name ≡ N.name }
-        ensures { result ≡ record { is_kept = true; states = opening_states site.now } }
+        requires name { unnamed.name ≡ N.name }
+        requires recorded { N.is_recorded ≡ true }
+        ensures { result ≡ opening_states site.now }
     {
         let mut states = unnamed.named();
         states.add_from::<Site, Opened>(site);
@@ -102,7 +105,7 @@ impl<N: ChronicleName> StateRecorder<N> {
 
     /// Records the state that a change led to.
     pub(crate) fn record(&mut self, present: &Machine)
-        ensures { IsAt self.new present.now }
+        ensures { IsAt N.is_recorded self.new present.now }
     {
         if let Some(states) = &mut self.states {
             states.add_from::<Machine, Forgotten>(present);
@@ -129,8 +132,8 @@ impl<N: ChronicleName> StateRecorder<N> {
 
 impl<N: ChronicleName> RecordedStates<N> {
     /// Whether states are recorded.
-    pub fn is_kept(&self) -> bool
-        ensures { result ≡ self.now.is_kept }
+    pub fn is_recorded(&self) -> bool
+        ensures { result ≡ N.is_recorded }
     {
         self.states.is_some()
     }
@@ -153,7 +156,7 @@ impl<N: ChronicleName> RecordedStates<N> {
 
     /// Whether states are recorded, and these are the other ones, and perhaps more.
     pub fn is_at_least(&self, other: &RecordedStates<N>) -> bool
-        ensures { result ≡ true → IsPrefix other.now.states self.now.states }
+        ensures { result ≡ true → IsPrefix other.now self.now }
     {
         let (Some(states), Some(others)) = (&self.states, &other.states) else {
             return false;
@@ -165,7 +168,7 @@ impl<N: ChronicleName> RecordedStates<N> {
     /// Whether states are recorded, and these are the other ones and one more.
     pub fn is_next_of(&self, other: &RecordedStates<N>) -> bool
         ensures next { result ≡ true → IsNextOf other.now self.now }
-        ensures kept { result ≡ true → self.now.is_kept ≡ true }
+        ensures recorded { result ≡ true → N.is_recorded ≡ true }
     {
         let (Some(states), Some(others)) = (&self.states, &other.states) else {
             return false;
@@ -177,7 +180,7 @@ impl<N: ChronicleName> RecordedStates<N> {
     /// Whether states are recorded, and these are the other ones: as many, as far as a number counts.
     pub fn is_same(&self, other: &RecordedStates<N>) -> bool
         ensures same { result ≡ true → self.now ≡ other.now }
-        ensures kept { result ≡ true → self.now.is_kept ≡ true }
+        ensures recorded { result ≡ true → N.is_recorded ≡ true }
     {
         let (Some(states), Some(others)) = (&self.states, &other.states) else {
             return false;

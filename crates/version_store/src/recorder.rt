@@ -19,8 +19,8 @@ pub(crate) fn make_recorded<N: ChronicleName>(
     step: Step,
 ) -> Result<Reply, Refused>
     requires can_fold { may_fold step ≡ true }
-    requires recorded { IsAt recorder.old history.old.present }
-    ensures recorded { IsAt recorder.new history.new.present }
+    requires recorded { IsAt N.is_recorded recorder.old history.old.present }
+    ensures recorded { IsAt N.is_recorded recorder.new history.new.present }
     ensures makes { IfOk result (λ reply. Makes history.old step reply history.new) }
     ensures own { IfOk result (λ reply. is_reply_to step reply ≡ true) }
     ensures asked { IfOk result HasAskedConnector }

@@ -1,6 +1,6 @@
 //! The book as threads share it.
 
-ghost use Rattle.std.specs.Prelude.{◌≡◌, ◌<◌, ◌≤◌, false, IfOk, IfErr, IfSome, All, length};
+ghost use Rattle.std.specs.Prelude.{◌≡◌, ◌<◌, ◌≤◌, true, false, IfOk, IfErr, IfSome, All, length};
 ghost use Rattle.std.specs.Sync.Mutex.{mutex_guard_value};
 ghost use Rattle.version_store.specs.Answers.{awaits};
 ghost use Rattle.version_store.specs.Store.{IsStore};
@@ -85,6 +85,7 @@ impl<C: Ledger, A: Ledger, N: ChronicleName> Shared<C, A, N> {
             × (answers.parts ≡ sessions) }
         requires some { 0 < sessions }
         requires states { states.name ≡ N.name }
+        requires recorded { N.is_recorded ≡ true }
         ensures sessions { IfOk result (λ made. made.0 ≡ sessions) }
         ensures passes { IfOk result (λ made. length made.1.items ≡ sessions) }
         ensures unused { IfOk result (λ made. All (λ pass. pass ≡ unused_pass) made.1.items) }

@@ -1,8 +1,9 @@
 //! The link of a point's session, and the calls that go out over it (OCPP-J 1.6, chapter 4).
 
-ghost use Rattle.std.specs.Prelude.{◌≡◌, IfOk, string_bytes};
+ghost use Rattle.std.specs.Prelude.{◌≡◌, IfOk, IfSome, string_bytes};
 ghost use Rattle.messages.specs.ActionKind.{row_of};
 ghost use Rattle.messages.specs.CallText.{action_name, call_text};
+ghost use Rattle.session.specs.Leaving.{IsSentCall};
 ghost use Rattle.session.specs.Serving.{KeepsPass};
 
 use crate::context::Context;
@@ -123,7 +124,10 @@ fn next_call<C: Ledger, A: Ledger, R: Wait, M: Moments, J: Journal<N>, N: Chroni
     point: &PointId,
     link: u64,
     moment: Instant,
-) -> Result<Option<(Call, RecordedStates<N>)>, Ended> {
+) -> Result<Option<(Call, RecordedStates<N>)>, Ended>
+    ensures { IfOk result (λ next. IfSome next
+        (λ sent. IsSentCall N.is_recorded point.now link sent.0 sent.1)) }
+{
     let noted = Noted::Sent { link, call: 0 };
     let entry = match context.journal.prepare(moment, point.as_str(), noted) {
         Ok(entry) => entry,

@@ -26,8 +26,9 @@ pub struct SentCall {
 pub enum Told {
     /// A BootNotification: the point has begun anew.
     Boot,
-    /// The reply to the call of this number, which is confirmed by it. Where the point didn't do what
-    /// it was asked, with what it said instead, in at most [`MAX_REJECTION_BYTES`].
+    /// The reply to the call of this number, which is confirmed by it. Where the point didn't accept
+    /// it, with what it said instead, in at most [`MAX_REJECTION_BYTES`]: its status, such as `Rejected`,
+    /// or `Unknown` where no profile matched.
     Reply {
         call: u64,
         rejection: Option<String>,

@@ -79,7 +79,7 @@ pub(crate) fn note_performed<C: Ledger, A: Ledger, J: Journal<N>, N: ChronicleNa
     performed: &Performed,
 )
     requires { IfSome entry
-        (λ e. IsNotable e confirms performed.now (IsAt before) book.now) }
+        (λ e. IsNotable e confirms performed.now (IsAt N.is_recorded before) book.now) }
 {
     // A law: nothing runs.
     noted_steps_are_restored();
@@ -101,7 +101,7 @@ pub(crate) fn note_made<C: Ledger, A: Ledger, J: Journal<N>, N: ChronicleName>(
     entry: Entry,
     number: u64,
 )
-    requires { IsOfMadeStep entry number (IsAt before) (IsPresent book.now) }
+    requires { IsOfMadeStep entry number (IsAt N.is_recorded before) (IsPresent book.now) }
 {
     journal.note(entry, number, &before, &book.recorded());
 }

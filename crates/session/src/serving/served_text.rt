@@ -115,7 +115,7 @@ pub fn serve_sent_text<
 ) -> Result<Served<N>, Ended>
     ensures pass { KeepsPass pass.old pass.new }
     ensures served { IfOk result (λ served. IsServed core.now pass.old
-        (seen_at served.seen)
+        (seen_at N.is_recorded served.seen)
         (sent_by core.now moment frame.now) (option_map string_bytes served.answer)) }
 {
     let Ok(mut todo) = read_message(context, core, moment, frame) else {
@@ -184,7 +184,7 @@ fn outcome_of<
     requires of_text { IfSome step IsOfText }
     requires entry { IsEntryFor step entry }
     ensures pass { KeepsPass pass.old pass.new }
-    ensures outcome { IfOk result (λ made. HasOutcome pass.old (seen_at made.1)
+    ensures outcome { IfOk result (λ made. HasOutcome pass.old (seen_at N.is_recorded made.1)
         sent.now step made.0) }
 {
     match step {
@@ -218,7 +218,7 @@ fn outcome_of_step<
     requires entry { IfSome entry (IsEntryToNote step) }
     ensures pass { KeepsPass pass.old pass.new }
     ensures outcome { IfOk result (λ made.
-        IsOutcomeOf pass.old (IsAt made.1) sent.now step made.0) }
+        IsOutcomeOf pass.old (IsAt N.is_recorded made.1) sent.now step made.0) }
 {
     let (performed, audit, seen) = perform_noted(context, pass, step, entry)?;
     if let Some(audit) = audit_to_judge(&performed, audit) {
@@ -247,7 +247,7 @@ fn perform_noted<C: Ledger, A: Ledger, R: Wait, M: Moments, J: Journal<N>, N: Ch
     requires entry { IfSome entry (IsEntryToNote step) }
     ensures pass { KeepsPass pass.old pass.new }
     ensures performed { IfOk result (λ performed. IsPerformed pass.old
-        (IsAt performed.2) step performed.0 performed.1) }
+        (IsAt N.is_recorded performed.2) step performed.0 performed.1) }
 {
     let confirms = is_confirm(&step);
     let mut book = context.shared.lock(context.rt);

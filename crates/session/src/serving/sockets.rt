@@ -1,5 +1,7 @@
 //! Messages from a socket and to it.
 
+ghost use Rattle.session.specs.Leaving.{IsAnswerOrCall};
+
 use crate::journal::Journal;
 use crate::serving::ended::{Ended, ended_by, ended_unsaved};
 use crate::serving::heard::Incoming;
@@ -42,7 +44,8 @@ fn is_of_waiting(kind: ErrorKind) -> bool {
     matches!(kind, ErrorKind::WouldBlock | ErrorKind::Interrupted)
 }
 
-/// A message that may leave: all is kept that its step depends on, as the receipt shows.
+/// A message that may leave, an answer or a call: all is kept that its step depends on, as the receipt
+/// shows.
 #[derive(Drop)]
 pub(crate) struct Cleared<'a, N: ChronicleName> {
     text: &'a str,
@@ -53,13 +56,13 @@ pub(crate) struct Cleared<'a, N: ChronicleName> {
 
 impl<'a, N: ChronicleName> Model for Cleared<'a, N> {
     ghost use Rattle.std.specs.Prelude.{ℕ, List};
-    ghost use Rattle.session.specs.Leaving.{IsCovered};
+    ghost use Rattle.session.specs.Leaving.{IsCleared};
 
     ghost Value = { List ℕ };
 
     ghost view = { λ c. c.text.now };
 
-    ghost invariant = { λ c. IsCovered c.receipt c.seen.now };
+    ghost invariant = { λ c. IsCleared N.is_recorded c.text.now c.receipt c.seen.now };
 }
 
 /// Waits until all is kept that a message depends on: its own step, and what others did before.
@@ -68,7 +71,9 @@ pub(crate) fn clear_to_leave<'a, J: Journal<N>, N: ChronicleName>(
     journal: &J,
     text: &'a str,
     seen: &'a Option<RecordedStates<N>>,
-) -> Result<Cleared<'a, N>, Ended> {
+) -> Result<Cleared<'a, N>, Ended>
+    requires { IsAnswerOrCall N.is_recorded text.now seen.now }
+{
     let Some(recorded) = seen else {
         return match journal.write_out() {
             Ok(()) => Ok(Cleared {

@@ -44,34 +44,38 @@ pub(crate) fn told_by(
                 None
             } else {
                 // Without memory it isn't said why.
-                rejection_in(alloc, frame).unwrap_or_else(|_| Some(String::new(alloc)))
+                Some(rejection_in(alloc, frame).unwrap_or_else(|_| String::new(alloc)))
             },
         },
         _ => Told::Other,
     }
 }
 
-/// Why a point didn't do what it was asked, in its own words: the status of its reply, `Rejected` or
-/// `NotSupported` (chapter 7, ChargingProfileStatus), or the beginning of its CALLERROR. None where
-/// nothing is left undone, as where no profile matched.
-fn rejection_in(alloc: Global, frame: &str) -> Result<Option<String>, AllocError> {
+/// Why a point didn't accept what it was asked, in its own words: the status of its reply, where it is
+/// one that OCPP knows (chapter 7), or the beginning of whatever else it said.
+fn rejection_in(alloc: Global, frame: &str) -> Result<String, AllocError> {
     // A long reply isn't read once more.
     if is_long(frame) {
-        return Ok(Some(beginning_of(alloc, frame)?));
+        return beginning_of(alloc, frame);
     }
     let mut memory = ReadingMemory::new(alloc);
     match read_frame(&mut memory, frame) {
-        Ok(Frame::Reply { payload, .. }) => status_of_rejection(alloc, &payload),
-        _ => Ok(Some(beginning_of(alloc, frame)?)),
+        Ok(Frame::Reply { payload, .. }) => match known_status(&payload) {
+            Some(status) => String::from_str(alloc, status),
+            None => beginning_of(alloc, frame),
+        },
+        _ => beginning_of(alloc, frame),
     }
 }
 
-fn status_of_rejection(alloc: Global, payload: &Payload<'_>) -> Result<Option<String>, AllocError> {
+/// The status of a reply that isn't `Accepted`: of ChargingProfileStatus, or `Unknown`, which is of
+/// ClearChargingProfileStatus alone (chapter 7).
+fn known_status<'a>(payload: &Payload<'a>) -> Option<&'a str> {
     match text_field(payload.root(), "status") {
-        Field::Value(status) if status == "Rejected" || status == "NotSupported" => {
-            Ok(Some(String::from_str(alloc, status)?))
+        Field::Value(status) if matches!(status, "Rejected" | "NotSupported" | "Unknown") => {
+            Some(status)
         }
-        _ => Ok(None),
+        _ => None,
     }
 }
 

@@ -1,4 +1,5 @@
 -- The ledgers are those of the two blanks, and the chronicles are those that have no name yet.
+use Rattle.std.specs.Prelude.{true}
 use Rattle.central.proofs.program.running.run_file.Given as goal
 
 abbrev pub ghosts-run_counted-C-Ledger : goal.ghosts-run_counted-C-Ledger
@@ -8,4 +9,8 @@ abbrev pub ghosts-run_counted-A-Ledger : goal.ghosts-run_counted-A-Ledger
 ghosts-run_counted-A-Ledger g a = record { name = a.blanks.1.name; parts = a.blanks.1.parts }
 
 abbrev pub ghosts-run_counted-N-ChronicleName : goal.ghosts-run_counted-N-ChronicleName
-ghosts-run_counted-N-ChronicleName g a = record { name = a.chronicles.0.name; companion = a.chronicles.1.name }
+ghosts-run_counted-N-ChronicleName g a = record {
+  name = a.chronicles.0.name;
+  companion = a.chronicles.1.name;
+  is_recorded = true;
+}

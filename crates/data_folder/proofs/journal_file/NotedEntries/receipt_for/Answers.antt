@@ -5,5 +5,5 @@ use Rattle.data_folder.proofs.journal_file.NotedEntries.receipt_for.Goals as goa
 
 pub returns-then-covers : goal.returns-then-covers
 returns-then-covers g c =
-    subst (λ (r : ReceiptState). Covers r c.args.recorded.now) (sym c.copy.ensures)
+    subst (λ (r : ReceiptState). Covers g.N.ChronicleName.is_recorded r c.args.recorded.now) (sym c.copy.ensures)
     (c.covers.ensures c.if-covers.true)

@@ -5,7 +5,7 @@ use Rattle.journal_writer.proofs.SyncLemmas.{known_among}
 use Rattle.journal_writer.proofs.receipt.Receipt.compare.Goals as goal
 
 pub returns-in-Some : goal.returns-in-Some
-returns-in-Some g c = λ kept.
-    known_among c.self.inside.recorded (option_map (λ f. f.entries) c.self.inside.syncs)
+returns-in-Some g c = λ recorded.
+    known_among g.N.ChronicleName.is_recorded c.self.inside.recorded (option_map (λ f. f.entries) c.self.inside.syncs)
     c.args.self.now c.in-Some.known.entries c.args.syncs.now.entries c.self.view_is c.self.invariant
     (ap (option_map (λ f. f.entries)) c.in-Some.is) c.compare.ensures

@@ -5,5 +5,5 @@ use Rattle.journal_writer.proofs.receipt.Receipt.covers.Goals as goal
 
 pub returns : goal.returns
 returns g c = λ yes.
-    covers c.self.inside.recorded c.args.recorded.now (option_map (λ f. f.entries) c.self.inside.syncs)
+    covers g.N.ChronicleName.is_recorded c.self.inside.recorded c.args.recorded.now (option_map (λ f. f.entries) c.self.inside.syncs)
     c.args.self.now c.self.view_is c.self.invariant (c.is_at_least.ensures yes)

@@ -1,6 +1,6 @@
 -- The lines of what was taken stand behind those that were there.
 use Rattle.std.proofs.Common.{◌++◌, ap, ◌∙◌}
-use Rattle.append_log.specs.Log.{contents}
+use Rattle.append_log.specs.Log.{contents, history}
 use Rattle.journal_writer.specs.Account.{NotedState, texts_of}
 use Rattle.journal_writer.proofs.SyncLemmas.{added_so}
 use Rattle.journal_writer.proofs.written_steps.WrittenSteps.add_lines.Goals as goal
@@ -11,7 +11,8 @@ invariant_of-self-2 g c =
     let taken = inside.taken in
     let lines_are = c.as_bytes.ensures.value ∙ c.in_ok-push_lines.ensures.lines
     ∙ ap (λ t. t ++ texts_of taken.entries) c.new-lines.ensures.bytes in
-    added_so (contents inside.accounted.log) (contents c.add.new.self) inside.accounted.states
+    added_so (contents inside.accounted.log) (contents c.add.new.self)
+    (history inside.accounted.log) (history c.add.new.self) inside.accounted.states
     c.copy.result taken c.reserve.new.self inside.syncs.entries c.as_bytes.result.now
     c.self.invariant c.push_lines.ensures.noted lines_are c.in_ok-add.ensures.ok
     (c.copy.ensures ∙ c.last.ensures)

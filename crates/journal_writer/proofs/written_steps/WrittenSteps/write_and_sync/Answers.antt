@@ -1,11 +1,12 @@
 -- What is synced stands there from then on.
-use Rattle.append_log.specs.Log.{contents}
+use Rattle.append_log.specs.Log.{contents, history}
 use Rattle.journal_writer.proofs.SyncLemmas.{receipt_so, synced_so}
 use Rattle.journal_writer.proofs.written_steps.WrittenSteps.write_and_sync.Goals as goal
 
 pub invariant_of-self-2 : goal.invariant_of-self-2
 invariant_of-self-2 g c =
     synced_so (contents c.self.inside.accounted.log) (contents c.write_and_sync.new.self)
+    (history c.self.inside.accounted.log) (history c.write_and_sync.new.self)
     c.self.inside.accounted.states c.self.inside.taken c.self.inside.syncs.entries
     c.add_from.new.self.entries c.self.invariant c.in_ok-write_and_sync.ensures.acknowledged
     c.add_from.ensures

@@ -1,8 +1,8 @@
 -- Of no fewer states these begin with the others.
-use Rattle.std.proofs.Common.{sym, subst, arith}
+use Rattle.std.proofs.Common.{List, sym, subst, arith}
 use Rattle.std.proofs.lemmas.Bool.Decides.{nat_tests}
 use mathlib.Core.List.{IsPrefix}
-use Rattle.version_store.specs.Recording.{RecordedState}
+use Rattle.site_core.specs.State.{MachineState}
 use Rattle.version_store.proofs.RecorderLemmas.{kept_states, longer_count}
 use Rattle.version_store.proofs.recorded_states.RecordedStates.is_at_least.Goals as goal
 
@@ -11,10 +11,10 @@ returns-then-other-self g c = λ few.
     let here = c.in-Some-Some.states.entries in
     let there = c.in-Some-Some.others.entries in
     let self = kept_states (λ f. f.entries) c.self.inside.states c.in-Some-Some.states
-    c.args.self.now c.self.inside.count c.self.view_is c.in-Some-Some.is-0 c.self.invariant in
+    c.args.self.now c.self.inside.count c.self.view_is c.in-Some-Some.is-0 c.self.invariant.1 in
     let other = kept_states (λ f. f.entries) c.other.inside.states c.in-Some-Some.others
-    c.args.other.now c.other.inside.count c.other.view_is c.in-Some-Some.is-1 c.other.invariant in
+    c.args.other.now c.other.inside.count c.other.view_is c.in-Some-Some.is-1 c.other.invariant.1 in
     let begins = longer_count here there c.self.inside.count c.other.inside.count self.1 other.1
     c.compare.ensures.longer (grind (arith, nat_tests)) (grind (arith, nat_tests)) in
-    subst (λ (r : RecordedState). IsPrefix c.args.other.now.states r.states) (sym self.0)
-    (subst (λ (r : RecordedState). IsPrefix r.states here) (sym other.0) begins)
+    subst (λ (s : List MachineState). IsPrefix c.args.other.now s) (sym self.0)
+    (subst (λ (s : List MachineState). IsPrefix s here) (sym other.0) begins)
