@@ -2,11 +2,11 @@
 """pages.py PROGRAM [write]: runs the commands of the pages on the built program, and prints 'N passed, M failed'.
 
 A command is a code block that calls `packaging/out/central`, or `curl` on what it serves. A block of `text` that follows it is
-what it has to print, but for moments, which are those of the clock, and the length of a journal. `run` and `point`, in the last
+what it has to print, but for moments, which are those of the clock, and what is said of a journal. `run` and `point`, in the last
 line of a block, run beside the commands behind them, up to the end of the page: `run` has to print what it has and where it
 listens, in a folder of its own, and `point` what it sends and gets. A `run` at the address of another one takes its place. With
-`write` the blocks of text are written anew, to be read before they are kept. The cookbook needs `jq`, and
-is left out where that isn't installed.
+`write` the blocks of text are written anew, to be read before they are kept. The cookbook needs `jq` and `tzdata`, and
+is left out where one of them isn't installed.
 """
 import datetime
 import os
@@ -35,7 +35,12 @@ PORT = re.compile(r"(?<=127\.0\.0\.1):9[01]\d\d\b")
 LISTEN = re.compile(r"--listen (\S+)")
 MOMENTS = re.compile(r'"(scheduleStart|currentTime|timestamp)":"[^"]*"')
 # On standard error. A point that runs beside may have got its next call by then, or not.
-JOURNAL_LENGTH = re.compile(r"^central: journal: \d+ lines, the last one of \S+\n?", re.MULTILINE)
+JOURNAL_LENGTH = re.compile(
+    r"^central: (?:journal: \d+ lines, the last one of \S+|\S+ isn't connected: \d+ calls? waits?"
+    r"|\S+ hasn't answered a call: .*|\d+ calls? to \S+ waits?.*: it may not have .* yet)\n?",
+    re.MULTILINE,
+)
+UNDONE_LINE = re.compile(r"^(undo: line )\d+(?= is )", re.MULTILINE)
 INSTANT = re.compile(r"\b(\d{4}-\d\d-\d\d)[ T](\d\d:\d\d)(?::\d\d)?Z?")
 # What the clock says in the pages. An instant within a day of it, or of the clock, is the clock's.
 PAGE_CLOCK = datetime.datetime(2026, 11, 30, 18, tzinfo=datetime.timezone.utc)
@@ -76,7 +81,7 @@ def without_moments(text):
         instant = datetime.datetime.fromisoformat(f"{found[1]}T{found[2]}+00:00")
         return "NOW" if any(abs(instant - clock) < NEAR for clock in clocks) else found[0]
 
-    plain = MOMENTS.sub(r'"\1":"NOW"', text)
+    plain = UNDONE_LINE.sub(r"\g<1>N", MOMENTS.sub(r'"\1":"NOW"', text))
     changed = INSTANT.sub(shown, plain)
     return plain if changed == plain else re.sub("  +", "  ", changed)
 
@@ -175,8 +180,8 @@ def main():
         sys.exit(__doc__)
     passed = failed = 0
     for page in PAGES:
-        if page == COOKBOOK and not shutil.which("jq"):
-            print(f"{page} is left out: jq isn't installed")
+        if page == COOKBOOK and not (shutil.which("jq") and os.path.isfile("/usr/share/zoneinfo/Europe/Berlin")):
+            print(f"{page} is left out: jq or tzdata isn't installed")
             continue
         with tempfile.TemporaryDirectory() as folder:
             data = os.path.join(folder, "data")

@@ -22,11 +22,14 @@ import time
 
 from case_folders import Case, all_cases
 from png_colours import shares_of_colours
+from zones import CaseInZone, has_zones, zone_problems
 
 TOP = os.path.dirname(os.path.dirname(os.path.abspath(__file__)))
 UNPROVED = "UNPROVED" in os.environ
 # Seconds that a run may take on a machine that is busy.
 PATIENCE = 600 if UNPROVED else 120
+# How far a long reading is, on a busy machine perhaps any.
+PROGRESS = re.compile(rb"central: \d+ lines read\n")
 MAX_SITE_BYTES = 16_777_216
 SITE = b'{"unit":"A","points":[{"id":"CP1","ceiling":63.0,"connectors":[32.0,32.0]}]}'
 
@@ -196,9 +199,16 @@ def cut_cases(good):
 
 
 def run(program, arguments, given, stdout=subprocess.PIPE, folder=None):
-    return subprocess.run(
+    done = subprocess.run(
         [program, *arguments], input=given, stdout=stdout, stderr=subprocess.PIPE, timeout=PATIENCE, cwd=folder, check=False,
     )
+    return without_progress(done)
+
+
+def without_progress(done):
+    """A run that has ended, without what it said meanwhile where it took long."""
+    done.stderr = PROGRESS.sub(b"", done.stderr)
+    return done
 
 
 def run_on(program, arguments, given, is_full):
@@ -209,9 +219,9 @@ def run_on(program, arguments, given, is_full):
             return run(program, arguments, given, stdout)
         handle = os.open(given, os.O_RDONLY)
         try:
-            return subprocess.run(
+            return without_progress(subprocess.run(
                 [program, *arguments], stdin=handle, stdout=stdout, stderr=subprocess.PIPE, timeout=PATIENCE, check=False,
-            )
+            ))
         finally:
             os.close(handle)
 
@@ -309,6 +319,7 @@ def device_problems(program, folder):
         ("standard output is full, and nothing to write", good, none, True, none, 0),
         ("standard input can't be read", good, folder, False, read, 3),
         ("neither can be used: the script is read first", good, folder, True, read, 3),
+        ("a page on a full device", ["show", *good[1:]], b"", True, b"central: standard output: No space left on device (os error 28)\n" + write, 3),
         ("the site file can't be read: it is read first", replay(folder), b"x\n", True, read, 3),
         ("the site file has a fault, which comes before the script", bad, folder, True, b"central: site: NotAnObject\n", 1),
     ):
@@ -466,6 +477,9 @@ def memory_problems(program, folder):
         if refused < least:
             problems.append(f"only {refused} allocations were refused")
         yield f"{os.path.basename(name)}: each of {refused} allocations refused", problems
+    if has_zones():
+        refused, problems = refusals(program, library, CaseInZone("tests/cases/explain/two-cars"), [])
+        yield f"explain --zone: each of {refused} allocations refused", problems if refused >= 60 else [f"only {refused}", *problems]
     yield from again_tests(program, library)
     for test, step in (
         ("waiting_sessions::stopping_wakes_all_who_wait", 1),
@@ -576,11 +590,28 @@ def explain_problems(program, folder):
         # Each is told before the script is read: a folder as standard input can't be.
         done = run_on(program, ["explain", "--site", site, *day, *more], folder, False)
         yield f"explain: {name}", list(differences(done, b"", error, 4))
+    yield from zone_problems(lambda words, given: run(program, ["explain", "--site", site, *words], given), bytes_of(script))
     yield from explain_order_problems(program, folder)
+    yield from unzoned_problems(explain)
     yield from present_problems(explain)
     yield from duration_problems(explain)
-    done = explain("--picture", os.path.join(folder, "none", "p.svg"))
-    yield "explain: a picture that can't be written", list(differences(done, b"", b"central: device: write\n", 3))
+    os.mkdir(os.path.join(folder, "taken.svg"))
+    for name, cause in (("none/p.svg", "No such file or directory (os error 2)"), ("taken.svg", FOLDER)):
+        path = os.path.join(folder, name)
+        error = of_file(path, cause) + b"central: device: write\n"
+        yield f"explain: a picture that can't be written: {name}", list(differences(explain("--picture", path), b"", error, 3))
+
+
+def unzoned_problems(explain):
+    """An instant without a zone counts as UTC, and that is said."""
+    start, at = b"central: --start has no zone and counts as UTC\n", b"central: --at has no zone and counts as UTC\n"
+    for instant, said in (
+        ("2025-01-03T12:00:00", start), ("2025-01-03 12:00:00", start), ("2025-01-03 12:00:00Z", b""), ("2025-01-03T13:00:00+01:00", b""),
+    ):
+        done = explain(day=[*DAY[:4], "--start", instant, *DAY[6:]])
+        yield f"explain from {instant} on", list(differences(done, NIGHT_TABLE, said, 0))
+    for instant, said in (("2025-01-03 11:00:00", at), ("2025-01-03 11:00:00Z", b""), ("2", b"")):
+        yield f"explain at {instant}", list(differences(explain("--at", instant), NIGHT_TABLE, said, 0))
 
 
 def present_problems(explain):
@@ -635,18 +666,29 @@ def explain_order_problems(program, folder):
     other, noon = ["--point", "CP9", *DAY[2:]], [*DAY[:4], "--start", "noon", *DAY[6:]]
     picture = b"central: command line: the name of a picture's file ends in .svg or .html\n"
     instant = b"central: command line: --start is no instant, such as 2025-01-01T12:00:00Z, and not now\n"
+    zone = b"central: command line: --zone names no time zone of /usr/share/zoneinfo, such as Europe/Berlin\n"
     point = b"central: command line: no such point in the site file\n"
     for name, site, more, error, status in (
         ("a picture of another kind, and no site file", none, [*DAY, "--picture", "p.png"], picture, 4),
         ("no instant, and no site file", none, noon, instant, 4),
         ("no instant, and no duration", none, [*noon[:6], "--duration", "0"], instant, 4),
-        ("no site file, and no such point", none, other, f"central: {none}: it isn't there, is a folder, or may not be read\n".encode() + b"central: device: read\n", 3),
+        ("no such zone, and no site file", none, [*DAY, "--zone", "Mars/Olympus"], zone, 4),
+        ("no instant, and no such zone", none, [*noon, "--zone", "Mars/Olympus"], instant, 4),
+        ("no site file, and no such point", none, other, of_file(none) + b"central: device: read\n", 3),
         ("a site file with a fault, and no such point", bad, other, b"central: site: NotAnObject\n", 1),
         ("no such point, and a script that can't be read", good, other, point, 4),
         ("a script that can't be read", good, DAY, b"central: device: read\n", 3),
     ):
         done = run_on(program, ["explain", "--site", site, *more], folder, False)
         yield f"explain: {name}", list(differences(done, b"", error, status))
+
+
+FOLDER = "Is a directory (os error 21)"
+
+
+def of_file(path, cause="No such file or directory (os error 2)"):
+    """What is said of a file that can't be read or written."""
+    return f"central: {path}: {cause}\n".encode()
 
 
 def of_journal(folder, cause, did):
@@ -658,27 +700,30 @@ def order_problems(program, folder):
     """The order of the faults of the other commands: the command line, the files that it names, then the script or the sockets."""
     none, bad, good = (os.path.join(folder, name) for name in ("none", "blank", "good"))
     read, words = b"central: device: read\n", b"central: command line: "
-    no_site = f"central: {none}: it isn't there, is a folder, or may not be read\n".encode() + read
-    payload = f"central: {none}: it isn't there, may not be read, isn't UTF-8, or is longer than a message may be\n".encode() + read
+    no_file = of_file(none) + read
     url = b"central: url: not ws://HOST:PORT/PATH\n"
     # Nobody listens at port 9, and nothing can at `nowhere`.
     point = ["point", "--url", "ws://127.0.0.1:9", "--site"]
     call = ["call", "--url", "ws://127.0.0.1:9/operator/CP1", "--set-profile"]
     serve = ["serve", "--listen", "nowhere", "--workers", "1", "--sessions", "1", "--site"]
     for name, arguments, error, status in (
-        ("show: no site file, and no script", ["show", "--site", none], no_site, 3),
+        ("show: no site file, and no script", ["show", "--site", none], no_file, 3),
         ("show: a site file with a fault, and no script", ["show", "--site", bad], b"central: site: NotAnObject\n", 1),
         ("show: no script", ["show", "--site", good], read, 3),
-        ("check: no site file, and no script", ["check", "--site", none], no_site, 3),
-        ("show: no site file, and no script in a file", ["show", "--site", none, "--script", none], no_site, 3),
+        ("show: a folder as site file", ["show", "--site", folder], of_file(folder, FOLDER) + read, 3),
+        ("check: no site file, and no script", ["check", "--site", none], no_file, 3),
+        ("show: no site file, and no script in a file", ["show", "--site", none, "--script", none], no_file, 3),
         ("point: a URL, and no site file", ["point", "--url", "http://x", "--site", none, "--id", "CP1"], url, 4),
-        ("point: no site file, and nobody listens", [*point, none, "--id", "CP1"], no_site, 3),
+        ("point: no site file, and nobody listens", [*point, none, "--id", "CP1"], no_file, 3),
         ("point: a site file with a fault, and no such point", [*point, bad, "--id", "CP9"], b"central: site: NotAnObject\n", 1),
         ("point: no such point, and nobody listens", [*point, good, "--id", "CP9"], words + b"no such point in the site file\n", 4),
         ("call: a URL, and no payload", ["call", "--url", "http://x", "--set-profile", none], url, 4),
-        ("call: no payload, and nobody listens", [*call, none], payload, 3),
-        ("run: no site file, and no folder", ["run", "--site", none, "--data", good, "--listen", "nowhere"], no_site, 3),
+        ("call: no payload, and nobody listens", [*call, none], no_file, 3),
+        ("run: no site file, and no folder", ["run", "--site", none, "--data", good, "--listen", "nowhere"], no_file, 3),
         ("run: a file where the folder should be", ["run", "--site", good, "--data", good, "--listen", "nowhere"], of_journal(good, "Not a directory (os error 20)", "write"), 3),
+        ("run: a site file with a fault, and no folder", ["run", "--site", bad, "--data", good, "--listen", "nowhere"], b"central: site: NotAnObject\ncentral: see central check --site " + bad.encode() + b"\n", 1),
+        ("run: no port", ["run", "--site", good, "--data", os.path.join(folder, "run"), "--listen", "127.0.0.1"], words + b"--listen and --status want HOST:PORT, such as 127.0.0.1:9000\n", 4),
+        ("run: no port of its status", ["run", "--site", good, "--data", os.path.join(folder, "run"), "--listen", "127.0.0.1:0", "--status", "localhost:x"], words + b"--listen and --status want HOST:PORT, such as 127.0.0.1:9000\n", 4),
         ("journal: no folder", ["journal", "--data", none], of_journal(none, "No such file or directory (os error 2)", "read"), 3),
         ("show: no folder", ["show", "--site", good, "--data", none], of_journal(none, "No such file or directory (os error 2)", "read"), 3),
         ("show: no place, and no site file", ["show", "--site", none, "--at", "noon"], words + b"--at is no number of lines, and no instant\n", 4),
@@ -693,8 +738,7 @@ def order_problems(program, folder):
         ok = (done.returncode, done.stderr) == (3, read) and found in done.stdout
         yield f"check: {name}, and no script", [] if ok else [f"{done}"]
         done = run_on(program, ["check", "--site", site, "--script", none], b"", False)
-        error = f"central: {none}: No such file or directory (os error 2)\n".encode() + read
-        ok = (done.returncode, done.stderr) == (3, error) and found in done.stdout
+        ok = (done.returncode, done.stderr) == (3, no_file) and found in done.stdout
         yield f"check: {name}, and no script in a file", [] if ok else [f"{done}"]
 
 

@@ -8,11 +8,15 @@ import socket
 import subprocess
 import tempfile
 import threading
+import time
 
 from serving import ENVIRONMENT, PATIENCE, Serving, expect, free_port, state_of, until
 
 TOP = os.path.dirname(os.path.dirname(os.path.dirname(os.path.abspath(__file__))))
 SITE = '{"unit":"A","points":[{"id":"P1","ceiling":63.0,"connectors":[32.0,16.0]}]}'
+# A line of `call` about points that take long. On a busy machine it may come in any test.
+PROGRESS = re.compile(rb"central: (\d+) of \d+ points\n")
+CLOSE = b"\x88\x00"
 MOMENTS = re.compile(rb'"(scheduleStart|currentTime|timestamp)":"[^"]*"')
 SCHEDULE = b'[3,"%s",{"status":"Accepted","connectorId":%d,"scheduleStart":"NOW","chargingSchedule":{"duration":60,' \
     b'"chargingRateUnit":"A","chargingSchedulePeriod":[{"startPeriod":0,"limit":%s}]}}]\n'
@@ -32,11 +36,11 @@ def without_moments(out):
 
 
 def run(program, arguments, given=b""):
-    """How a run ends by itself: its status, and what it printed, without moments."""
+    """How a run ends by itself: its status, and what it printed, without moments and how far it was meanwhile."""
     done = subprocess.run(
         [program, *arguments], input=given, stdout=subprocess.PIPE, stderr=subprocess.PIPE, timeout=PATIENCE, check=False, env=ENVIRONMENT
     )
-    return done.returncode, without_moments(done.stdout), done.stderr
+    return done.returncode, without_moments(done.stdout), PROGRESS.sub(b"", done.stderr)
 
 
 def operator(serving, *options, given=b"", point="P1"):
@@ -75,7 +79,7 @@ def remote_starts_of_call(program):
         profile.write(TX_PROFILE)
         profile.flush()
         given = operator(serving, "--status", "--ask", "1", "60", "--remote-start", "1", 'T"1', profile.name)
-        why = b"remote-start: warning: transactionId has no effect in a remote start: its transaction has no number yet\n"
+        why = b"remote-start: warning: TxProfile 5: transactionId has no effect in a remote start: its transaction has no number yet\n"
         expect("with a profile", given, (0, accepted + SCHEDULE % (b"ask", 1, b"32.0") + told % (0, 2), why))
         expect("without one", operator(serving, "--remote-start", "2", "T2"), (0, accepted, b""))
         refused = b'[3,"remote-start",{"status":"Rejected","reason":"UnknownConnector"}]\n'
@@ -95,7 +99,7 @@ def remote_starts_of_call(program):
         why = b"remote-start: line 3, column 1: nothing more is wanted behind the value, and `}` stands there\n"
         expect("no JSON", given, (2, b"! remote-start NotACall\n", why))
         expect("the totals", serving.totals(), (2, 2))
-    missing = b"central: /none: it isn't there, may not be read, isn't UTF-8, or is longer than a message may be\ncentral: device: read\n"
+    missing = b"central: /none: No such file or directory (os error 2)\ncentral: device: read\n"
     line = ["call", "--url", "ws://127.0.0.1:9/operator/P1", "--remote-start"]
     expect("no file", run(program, [*line, "1", "T1", "/none"]), (3, b"", missing))
     no_number = b"central: command line: the CONNECTOR of --remote-start is no whole number from 0 on\n"
@@ -219,15 +223,19 @@ def each_point(program):
 def faults_of_call(program):
     """What ends `call` before its time, in its words, and with which status."""
     closed = b"central: url: closed by the central system, which may have no such point\n"
-    with Serving(program, SITE, 1) as serving, tempfile.NamedTemporaryFile("wb") as binary:
+    with Serving(program, SITE, 1) as serving, tempfile.NamedTemporaryFile("wb") as binary, tempfile.NamedTemporaryFile("wb") as long:
         expect("no such point", operator(serving, "--ask", "1", "60", point="P2"), (3, b"", closed))
         why = b"clear: line 1, column 2: a name in double quotes or `}` is wanted, and `i` stands there\n"
         expect("no JSON", operator(serving, "--clear", "{id:1}"), (2, b"! clear NotACall\n", why))
-        for path in ("none", "/", binary.name):
-            binary.write(b"\xff")
-            binary.flush()
-            why = f"central: {path}: it isn't there, may not be read, isn't UTF-8, or is longer than a message may be\n".encode()
-            expect(f"the file {path}", operator(serving, "--set-profile", path), (3, b"", why + b"central: device: read\n"))
+        for file, content in ((binary, b"\xff"), (long, b" " * 1_048_577)):
+            file.write(content)
+            file.flush()
+        for path, why in (
+            ("none", "No such file or directory (os error 2)"), ("/", "Is a directory (os error 21)"),
+            (binary.name, "it isn't UTF-8"), (long.name, "it is longer than a message may be"),
+        ):
+            said = f"central: {path}: {why}\ncentral: device: read\n".encode()
+            expect(f"the file {path}", operator(serving, "--set-profile", path), (3, b"", said))
         expect("the totals", serving.totals(), (0, 0))
     no_url = (4, b"", b"central: url: not ws://HOST:PORT/PATH\n")
     for url in ("", "x", "http://127.0.0.1/", "wss://127.0.0.1/operator/P1"):
@@ -330,8 +338,8 @@ def point_stopped_in_its_pause(program):
         expect("the totals", serving.totals(), (0, 0))
 
 
-def answer_and_stay(listener):
-    """A central system that answers one text, and then nothing any more, a close neither."""
+def shake_hands(listener):
+    """The next client, whose handshake is done."""
     peer, _ = listener.accept()
     head = b""
     while b"\r\n\r\n" not in head:
@@ -340,9 +348,19 @@ def answer_and_stay(listener):
     accept = base64.b64encode(hashlib.sha1(key + b"258EAFA5-E914-47DA-95CA-C5AB0DC85B11").digest())
     lines = (b"HTTP/1.1 101 Switching Protocols", b"Upgrade: websocket", b"Connection: Upgrade", b"Sec-WebSocket-Protocol: ocpp1.6")
     peer.sendall(b"\r\n".join((*lines, b"Sec-WebSocket-Accept: " + accept, b"", b"")))
+    return peer
+
+
+def answer(peer, text=b'[3,"ask",{}]'):
+    """Answers a text."""
     peer.recv(4_096)
-    text = b'[3,"ask",{}]'
     peer.sendall(b"\x81" + bytes([len(text)]) + text)
+
+
+def answer_and_stay(listener, *texts):
+    """A central system that answers one text, and then nothing any more, a close neither."""
+    peer = shake_hands(listener)
+    answer(peer, *texts)
     while peer.recv(4_096):
         pass
     peer.close()
@@ -360,6 +378,52 @@ def server_that_never_closes(program):
         serving.join(PATIENCE)
 
 
+def server_out_of_memory(program):
+    """A central system that can't keep a change answers as out of memory, and `call` says what else that may be."""
+    error = b'[4,"clear","InternalError","OutOfMemory",{}]'
+    with socket.socket() as listener:
+        listener.bind(("127.0.0.1", 0))
+        listener.listen()
+        serving = threading.Thread(target=answer_and_stay, args=(listener, error))
+        serving.start()
+        url = f"ws://127.0.0.1:{listener.getsockname()[1]}/operator/P1"
+        why = b"clear: OutOfMemory: memory ran out, or the central system's device is full: see its status\n"
+        expect("its end", run(program, ["call", "--url", url, "--clear", '{"id":1}']), (2, error + b"\n", why))
+        serving.join(PATIENCE)
+
+
+def answer_slowly(listener, pauses):
+    """A central system that answers one text of each client, so many seconds after its handshake."""
+    for pause in pauses:
+        with shake_hands(listener) as peer:
+            time.sleep(pause)
+            answer(peer)
+            peer.sendall(CLOSE)
+
+
+def progress_of_calls(program):
+    """Calls to many points that take long say how far they are, at most each second, and in the end that all are done."""
+    points = [f'{{"id":"P{place}","ceiling":63.0,"connectors":[32.0]}}' for place in range(5)]
+    with tempfile.NamedTemporaryFile("w", suffix=".json") as site, socket.socket() as listener:
+        site.write(f'{{"unit":"A","points":[{",".join(points)}]}}')
+        site.flush()
+        listener.bind(("127.0.0.1", 0))
+        listener.listen()
+        serving = threading.Thread(target=answer_slowly, args=(listener, (0.4, 1.1, 0.1, 1.1, 1.1)))
+        serving.start()
+        url = f"ws://127.0.0.1:{listener.getsockname()[1]}/operator"
+        line = [program, "call", "--url", url, "--all", "--site", site.name, "--ask", "1", "60"]
+        begun = time.monotonic()
+        done = subprocess.run(line, capture_output=True, timeout=PATIENCE, check=False, env=ENVIRONMENT)
+        took = time.monotonic() - begun
+        serving.join(PATIENCE)
+    expect("the answers", (done.returncode, done.stdout), (0, b"".join(b'P%d [3,"ask",{}]\n' % place for place in range(5))))
+    told = PROGRESS.findall(done.stderr)
+    expect("nothing else is said", PROGRESS.sub(b"", done.stderr), b"")
+    expect("behind each pause of a second", [b"2", b"4", b"5"], [count for count in told if count in (b"2", b"4", b"5")])
+    expect("in turn, no more than one a second", told == sorted(set(told)) and len(told) - 1 <= took, True)
+
+
 def faults_of_a_point(program):
     """What ends `point` before its time."""
     no_point = b"central: command line: no such point in the site file\n"
@@ -370,7 +434,7 @@ def faults_of_a_point(program):
         with_site = point(serving, b"heartbeat\n")
         expect("nobody", with_site, (3, b"", b"central: url: no connection\n"))
     arguments = ["point", "--url", "ws://127.0.0.1:1", "--site", "none", "--id", "P1"]
-    words = b"central: none: it isn't there, is a folder, or may not be read\ncentral: device: read\n"
+    words = b"central: none: No such file or directory (os error 2)\ncentral: device: read\n"
     expect("no site file", run(program, arguments), (3, b"", words))
 
 
@@ -410,6 +474,8 @@ def tests():
     yield "a remote start in a pause", remote_start_in_a_pause
     yield "a point that is stopped in its pause", point_stopped_in_its_pause
     yield "a server that never closes", server_that_never_closes
+    yield "a server out of memory", server_out_of_memory
+    yield "how far calls to many points are", progress_of_calls
     yield "the faults of a point", faults_of_a_point
     yield "the example", example
     yield "the example of a back office", back_office

@@ -6,15 +6,18 @@ import tempfile
 from programs import run
 from raw_client import RawClient
 from run_data import SITE, Data, SiteFile, read, stop, transaction_of
-from serving import Running, expect
+from serving import Running, expect, until
 from texts import accepted, clear, heartbeat, install, install_call, profile, start
 
 NOT_SENT = b": it would be refused, so it isn't sent; --force sends it\n"
 FUSE = {"purpose": "ChargePointMaxProfile"}
 TX = {"purpose": "TxProfile", "kind": "Relative"}
+# What is said behind calls: which of them wait.
+WAITING = re.compile(rb"central: \S+ (?:isn't connected: \d+ calls? waits?|hasn't answered a call: \d+ calls? waits? behind it)\n")
 GONE = b": warning: this leaves the point without a ChargePointMaxProfile; it had up to 32.0 A\n"
+HELD_BACK = 2, b"! undo LaterChanges\n"
 NAMED = b"ChargePointMaxProfile 3 (stack level 0, at connector 0)"
-OTHER_ID = b"set-profile: remark: this takes the place of %s, which has its connector, purpose and stack level\n" % NAMED
+OTHER_ID = b"set-profile: remark: ChargePointMaxProfile 7 takes the place of %s, which has its connector, purpose and stack level\n" % NAMED
 
 
 class Site:
@@ -26,7 +29,12 @@ class Site:
         self.checked = ["--site", site, "--data", data.path]
         self.data = data
 
-    def call(self, *options, at="/P1", checked=True):
+    def call(self, *options, **more):
+        """What a call prints, but for which calls wait."""
+        status, out, said = self.call_whole(*options, **more)
+        return status, out, WAITING.sub(b"", said)
+
+    def call_whole(self, *options, at="/P1", checked=True):
         return run(self.program, ["call", "--url", self.base + at, *(self.checked if checked else []), *options])
 
     def set(self, fields, *options, connector=0, **more):
@@ -34,7 +42,6 @@ class Site:
             json.dump({"connectorId": connector, "csChargingProfiles": fields}, file, indent=1)
             file.flush()
             return self.call("--set-profile", file.name, *options, **more)
-
 
     def lines(self):
         """How many lines the journal has as a script."""
@@ -64,8 +71,8 @@ def sent(name, said=b""):
 
 def warnings(site, operator, _point):
     """What only the point's state tells is said before a call is sent, and holds nothing back; without `--data` it isn't."""
-    taken = b"set-profile: %%s: this takes the place of %s, which has the same chargingProfileId\n" % NAMED
-    high = b"set-profile: warning: each limit of this profile is above the ceiling of the site file there, 63.0: it never lowers anything\n"
+    taken = b"set-profile: %%s: TxDefaultProfile 3 takes the place of %s, which has the same chargingProfileId\n" % NAMED
+    high = b"set-profile: warning: ChargePointMaxProfile 3: each of its limits is above the ceiling of the site file there, 63.0: it never lowers anything\n"
     raised = b"set-profile: warning: this raises what the point's ChargePointMaxProfiles allow at most from 32.0 to %s A\n"
     expect("a fuse ten times as high", site.set(profile(3, [320], **FUSE), "--dry-run")[::2], (0, high + raised % b"320.0"))
     expect("a higher fuse", raised % b"40.0" in site.set(profile(3, [40], **FUSE), "--dry-run")[2], True)
@@ -129,7 +136,7 @@ def command_lines(site, operator, _point):
 
 
 def undone(site, operator, _point):
-    """An install, a clear and a replaced profile are undone, and what came behind them with them."""
+    """An install, a clear and a replaced profile are undone, and what came behind them with them, by `--force`."""
     fuse, lower = profile(3, [32.0], **FUSE), profile(3, [16.0], **FUSE)
     nothing = b"undo: P1 has the profiles that it had before line %d, as far as they can be there\n"
     expect("an install", operator.texts_of(install("a", profile(4, [8], level=1))), [accepted("a")])
@@ -147,12 +154,65 @@ def undone(site, operator, _point):
     expect("a lower fuse limit", operator.texts_of(install("l", lower)), [accepted("l")])
     line = site.lines()
     expect("and another profile", operator.texts_of(install("m", profile(5, [8], level=1))), [accepted("m")])
-    status, out, _said = site.undo("--dry-run", line=line)
-    expect("what would undo both", (status, out), (0, b'[2,"clear","ClearChargingProfile",{"id":5}]\n' + frame))
-    status, out, _said = site.undo("--ask", "0", "60", line=line)
+    expect("what would undo both", site.undo("--dry-run", line=line)[:2], HELD_BACK)
+    status, out, said = site.undo("--dry-run", "--force", line=line)
+    expect("what would undo both by force", (status, out), (0, b'[2,"clear","ClearChargingProfile",{"id":5}]\n' + frame))
+    expect("what else is undone", later_in(said), [(site.lines(), "TxDefaultProfile 5")])
+    status, out, _said = site.undo("--force", "--ask", "0", "60", line=line)
     expect("undone, and asked", (status, out.count(b"Accepted")), (0, 3))
     status, out, said = site.undo("--dry-run", line=line)
     expect("none is left", (status, out, said.endswith(nothing % line)), (0, b"", True))
+
+
+def later_in(said):
+    """The later changes that are named on standard error: the line of each, and its profile."""
+    found = re.findall(r"^central: undo takes back line (\d+) of \d{4}-\d\d-\d\dT\d\d:\d\d:\d\dZ too: (.*)$", said.decode(), re.MULTILINE)
+    return [(int(line), profile) for line, profile in found]
+
+
+def later_changes(site, operator, _point):
+    """Of the later changes those are named that are taken back, each once, and nothing is sent unless by `--force`."""
+    lines = []
+    for text in (
+        install("a", profile(4, [8], level=1)), install("b", profile(5, [9], level=2)), clear("c", id=5),
+        install("d", profile(6, [7], level=3)), clear("e", id=4),
+    ):
+        expect("a change", len(operator.texts_of(text)), 1)
+        lines.append(site.lines())
+    first, second, clearing, third, last = lines
+    for line, wanted in (
+        (first, [(third, "TxDefaultProfile 6")]),
+        (second, [(third, "TxDefaultProfile 6"), (last, "the clear of TxDefaultProfile 4")]),
+        (clearing, [(third, "TxDefaultProfile 6"), (last, "the clear of TxDefaultProfile 4")]),
+        (third, [(last, "the clear of TxDefaultProfile 4")]),
+    ):
+        status, out, said = site.undo(line=line)
+        expect(f"what goes with line {line}", (status, out, later_in(said)), (*HELD_BACK, wanted))
+        why = b"undo: it would take back later changes too, so it isn't sent; --force sends it"
+        expect("why it isn't sent", said.splitlines()[-1], why)
+    status, out, said = site.undo("--status", at="", line=third)
+    expect("what is asked besides", (status, out.splitlines()[0], out.count(b"Accepted")), (2, b"P1 ! undo LaterChanges", 1))
+    status, out, said = site.undo(line=last)
+    expect("the last one alone", (status, out, later_in(said)), (0, sent(b"set-profile")[1], []))
+    status, out, said = site.undo(line=third)
+    expect("with it undone the one before", (status, out, later_in(said)), (0, sent(b"clear")[1], []))
+
+
+def waiting_calls(site, _operator, point):
+    """Behind calls it is said which points aren't connected, or have calls that wait, but not what a dry run would do."""
+    away = b"central: P2 isn't connected: 1 call waits\n"
+    behind = b"central: P1 hasn't answered a call: 1 call waits behind it\n"
+    expect("two points", site.call_whole("--all", "--status", at="")[2], behind + away)
+    expect("one of them", site.call_whole("--status")[2], behind)
+    expect("a dry run", site.call_whole("--all", "--status", "--dry-run", at="")[2], b"")
+    expect("without the folder", site.call_whole("--status", checked=False)[2], b"")
+    for number in ("0", "1"):
+        point.texts_of(accepted(number))
+    until("the replies are written", lambda: site.call_whole("--all", "--status", at="")[2] == away)
+    point.close()
+    until("the point is away", lambda: site.call_whole("--status")[2] == b"central: P1 isn't connected: 0 calls wait\n")
+    status, _out, said = site.call_whole("--clear", '{"id":3}')
+    expect("a call to it", (status, said.splitlines(True)[-1]), (0, b"central: P1 isn't connected: 1 call waits\n"))
 
 
 def ended_transactions(site, operator, point):
@@ -190,6 +250,6 @@ def tests():
     named = {
         "warnings": warnings, "connectors together": together, "refusals": refusals, "each point": each_point,
         "command lines": command_lines, "what is undone": undone, "ended transactions": ended_transactions,
-        "lines of --undo": lines_of_undo,
+        "lines of --undo": lines_of_undo, "later changes": later_changes, "calls that wait": waiting_calls,
     }
     return [(name, of_site(test)) for name, test in named.items()]

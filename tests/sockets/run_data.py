@@ -1,6 +1,7 @@
 """The folder of a site that is run, how large the tests of it are, and what its readers say."""
 import json
 import os
+import re
 import subprocess
 import sys
 import tempfile
@@ -9,6 +10,8 @@ from serving import ENVIRONMENT, PATIENCE, expect, limit
 from texts import call, plain_site
 
 SITE = plain_site(2)
+# How far a long reading is, on a busy machine perhaps any.
+PROGRESS = re.compile(r"central: \d+ lines read\n")
 
 # The unproved program looks for leaks when it ends, which it can't below strace.
 NO_LEAKS = {"ASAN_OPTIONS": ENVIRONMENT["ASAN_OPTIONS"] + ":detect_leaks=0"}
@@ -119,8 +122,9 @@ def run_words(program, data, site_path):
 
 
 def read(program, data, *command, of=SITE):
-    """What a command says that reads the journal. The site file is called F."""
-    return done_with(program, of, command, "", ("--data", data.path))
+    """What a command says that reads the journal, but for how far it is. The site file is called F."""
+    status, out, said = done_with(program, of, command, "", ("--data", data.path))
+    return status, out, PROGRESS.sub("", said)
 
 
 def of_script(program, script, *command, of=SITE):

@@ -10,7 +10,7 @@ import time
 from days import compare
 from histories import CONNECTORS, POINTS, History
 from raw_client import RawClient
-from run_data import Data, of_script, read, size, tell
+from run_data import PROGRESS, Data, of_script, read, size, tell
 from serving import Running, Unexpected, expect, until
 from stations import Station, stations_site
 from texts import CALL_0, accepted, call, heartbeat, plain_site, profile, start
@@ -195,7 +195,7 @@ def starts_behind(program, lines, count, extra):
         data.write(kept + (lines[count][:extra] if extra else b""))
         with Running(program, stations_site(1), data.path) as running:
             expect("what it resumes with", running.resumed, counts_behind(lines[:count]))
-            said = running.kill().decode()
+            said = PROGRESS.sub("", running.kill().decode())
         wanted = f"central: {data.journal}: its last line is torn, and was cut: {extra} bytes\n" if extra else ""
         expect("what is said", said, wanted)
         content = data.bytes()

@@ -99,17 +99,17 @@ def who_may_come(program):
             expect("it is served", point.texts_of(heartbeat("h"))[1:], [CALL_0])
 
 
-def next_refusal(running):
-    """What the next line on standard error says of a client that isn't let in."""
+def next_said(running):
+    """What the next line on standard error says of a client."""
     came, _, _ = select.select([running.process.stderr], [], [], PATIENCE)
     expect("whether a line came", len(came), 1)
     line = running.process.stderr.readline().decode()
-    found = re.fullmatch(r"central: \S+Z 127\.0\.0\.1:\d+: refused, (.*)\n", line)
+    found = re.fullmatch(r"central: \S+Z 127\.0\.0\.1:\d+: (.*)\n", line)
     return found[1] if found else line
 
 
 def what_is_said_of_others(program):
-    """Of each that isn't let in its path and its user are told, on one line, and nothing of its password."""
+    """Of each that isn't let in, and of each operator, path and user are told on one line, and nothing of a password."""
     with Keys(program) as keys, Data() as data, Running(program, SITE, data.path, keys=keys.path) as running:
         p1, p2, secret = keys.of["P1"], keys.of["P2"], "S3cret"
         wrong = secret.encode()
@@ -131,9 +131,11 @@ def what_is_said_of_others(program):
             ("/" + 500 * "a" + "/P1", [], "HTTP 401: " + 97 * "a" + "/P1, no user"),
         ):
             status = status_of(running, path, *headers)
-            said = next_refusal(running)
-            expect(f"what is said of {path} with {headers}", said, wanted)
-            expect("its status", said.partition(":")[0], f"HTTP {status}")
+            said = next_said(running)
+            expect(f"what is said of {path} with {headers}", said, f"refused, {wanted}")
+            expect("its status", said.partition(":")[0], f"refused, HTTP {status}")
+        expect("an operator", status_of(running, "/operator/P1", basic("ann", keys.of["ann"].encode())), 101)
+        expect("what is said of the operator", next_said(running), "connected: /operator/P1, user ann")
         expect("what else is said", running.kill_and_hear(), b"")
 
 

@@ -10,6 +10,7 @@ import threading
 import time
 from xml.etree import ElementTree
 
+from audits import schedule_reply
 from browser import browser, contrast, schemes, seen_at
 from raw_client import RawClient
 from run_data import SITE, Data, SmallDevice, read
@@ -157,6 +158,47 @@ def point_that_may_have_forgotten(program):
             point.texts_of(heartbeat("h"))
             point.texts_of(accepted("2"))
             expect("once it is confirmed anew", forgotten(), False)
+
+
+def replies_that_accept_nothing(program):
+    """What isn't `Accepted` rejects an install, and shows nothing of what the point has. That no profile matched leaves nothing of a clear undone."""
+    fields = profile(1, [7.0])
+    with Data() as data, Running(program, SITE, data.path, has_status=True) as running:
+        with RawClient.connected(running, "/operator/P1") as operator, RawClient.connected(running, "/P1") as point:
+            operator.texts_of(install("i", fields))
+            point.texts_of(heartbeat("h"))
+            point.texts_of('[3,"0",{"status":"Unknown"}]')
+            expect("a clear that matched none", point_of(running)["rejections"], 0)
+            point.texts_of(accepted("1"))
+            point.texts_of(boot("b"))
+            expect("behind the boot", point_of(running)["mayHaveForgotten"], True)
+            replies = ('[3,"2",{}]', '[3,"3",7]', '[3,"4",{"status":"accepted"}]', '[3,"5",{"status":"Unknown"}]')
+            for count, reply in enumerate(replies, 1):
+                operator.texts_of(install(f"j{count}", fields))
+                point.texts_of(heartbeat(f"h{count}"))
+                point.texts_of(reply)
+                now = point_of(running)
+                reason = "Unknown" if "Unknown" in reply else reply
+                expect(f"the rejection by {reply}", (now["rejections"], now["rejected"]["reason"]), (count, reason))
+                expect(f"what it may have forgotten behind {reply}", now["mayHaveForgotten"], True)
+            expect("in the figures", metrics(running)['central_calls_rejected_total{point="P1"}'], len(replies))
+
+
+def an_audit_that_differs(program):
+    """A point that tells another schedule in its audit has a figure, and a warning on the page, until it agrees."""
+    figure, warning = 'central_point_audit_differs{point="P1"}', "In its last audit it told another schedule"
+    with Data() as data, Running(program, SITE, data.path, has_status=True) as running:
+        with RawClient.connected(running, "/operator/P1") as operator, RawClient.connected(running, "/P1") as point:
+            operator.texts_of(install("i", profile(1, [16.0])))
+            point.texts_of(heartbeat("h"))
+            point.texts_of(accepted("0"))
+            point.texts_of(accepted("1"))
+            expect("before an audit", (metrics(running)[figure], warning in get(running, "/")[2]), (0, False))
+            for number, (limit, differs) in enumerate(((15.9, True), (16.0, False)), 2):
+                operator.texts_of(call(f"a{number}", "AuditPoint", {"connectorId": 1, "duration": 60}))
+                point.texts_of(heartbeat(f"h{number}"))
+                point.texts_of(schedule_reply(number, [(0, limit)]))
+                expect(f"told {limit}", (metrics(running)[figure], warning in get(running, "/")[2]), (int(differs), differs))
 
 
 def boots_in(data):
@@ -454,6 +496,8 @@ def tests():
     yield "each path", each_path
     yield "figures that follow", figures_that_follow
     yield "a point that may have forgotten", point_that_may_have_forgotten
+    yield "replies that accept nothing", replies_that_accept_nothing
+    yield "an audit that differs", an_audit_that_differs
     yield "boots over restarts", boots_over_restarts
     yield "boots on a full device", boots_on_a_full_device
     yield "faulty boots", faulty_boots

@@ -6,12 +6,13 @@ import re
 import resource
 import socket
 import subprocess
+import threading
 import time
 
 from days import Day, charging, compare, evening, morning, replay
 from python_client import PythonClient
 from raw_client import CLOSE, CONTINUATION, TEXT, RawClient, frame_bytes, request_bytes
-from run_data import SITE, Data, SiteFile, SmallDevice, of_script, once, read, run_words, stop, transaction_of
+from run_data import SITE, Data, SiteFile, SmallDevice, done_with, of_script, once, read, run_words, stop, transaction_of
 from serving import ENVIRONMENT, PATIENCE, Running, expect, until
 from texts import (
     CALL_0, OCPP, accepted, ask, call, clear, error, heartbeat, install, install_call, plain_site, profile, site, start,
@@ -214,9 +215,9 @@ def one_process_at_a_time(program):
 def who_may_read(program):
     """What a run makes is for its own user alone: the lines have idTags."""
     with Data() as data, Running(program, SITE, data.path):
-        paths = ("", "journal", "boots")
+        paths = ("", "journal", "boots", "reserve")
         modes = [os.stat(os.path.join(data.path, path)).st_mode & 0o777 for path in paths]
-        expect("the modes", modes, [0o700, 0o600, 0o600])
+        expect("the modes", modes, [0o700, 0o600, 0o600, 0o600])
 
 
 def begun_at_once(program):
@@ -553,12 +554,15 @@ def killed_on_a_full_device(program):
             expect("what is kept", profiles - answered in (1, 2), True)  # what wasn't answered may be there
 
 
-# What `explain` says of an install and a start.
+# What `explain` says of an install, of which the point hasn't confirmed the call, and a start.
 LATER = r"central: 2 changes at P1 are later than --start: --at 2025-01-01T00:00:00Z is without them\n"
+WAITS = r"central: 1 call to P1 waits since \S+Z: it may not have this yet\n"
+# Before the first line call 0 waits.
+BEFORE = r"central: the journal begins at \S+Z, after --at\ncentral: 1 call to P1 waits: it may not have this yet\n"
 
 
 def readers(program):
-    """`show`, `explain`, `check` and `replay` read the journal, while it is written too, as they read its script."""
+    """`show`, `explain`, `check` and `replay` read the journal, while it is written too, as they read its script, up to each line."""
     explained = ("--point", "P1", "--connector", "1", "--start", "2025-01-01T00:00:00Z", "--duration", "86400")
     with Data() as data, Running(program, SITE, data.path) as running:
         with RawClient.connected(running, "/operator/P1") as operator, RawClient.connected(running, "/P1") as point:
@@ -568,13 +572,55 @@ def readers(program):
             point.texts_of(start("s"))
             status, script, said = read(program, data, "journal")
             expect("how it is printed", (status, said), (0, ""))
-            count = len(data.lines()) + 1
-            explaining = ((("explain", *explained), LATER), (("explain", *explained, "--at", explained[5]), ""))
-            for command, notes in ((("replay",), ""), (("check",), ""), (("check", "--trace"), ""), (("show",), ""), *explaining):
+            count = script.count("\n")
+            showing = (("show", "--json", *at) for at in ((), *(("--at", str(number)) for number in range(count + 1))))
+            fewer = rf"central: the journal has {count} lines, fewer than --at\n"
+            beyond = ("--at", str(count + 1))
+            others = (
+                (("explain", *explained), LATER + WAITS), (("explain", *explained, "--at", explained[5]), BEFORE),
+                (("explain", *explained, *beyond), fewer + LATER + WAITS), (("show", *beyond), fewer),
+                (("show", "--at", explained[5]), BEFORE.split("\\n")[0] + r"\n"),
+            )
+            for command, notes in ((("replay",), ""), (("check",), ""), (("check", "--trace"), ""), (("show",), ""), *((words, "") for words in showing), *others):
                 status, out, said = read(program, data, *command)
-                expect(f"what {command[0]} prints", (status, out), of_script(program, script, *command))
+                ends, printed = of_script(program, script, *command)
+                ends = 2 if "central: the journal " in notes else ends
+                expect(f"what {' '.join(command)} prints", without_links(status, out), without_links(ends, printed))
                 wanted = rf"central: journal: {count} lines, the last one of \S+\n{notes}" if command[0] in ("show", "explain") else notes
                 expect(f"what {command[0]} says", bool(re.fullmatch(wanted, said)), True)
+
+
+def without_links(status, out):
+    """What a command says, but for whether points have links: a script has a link from its point's first message on."""
+    return status, re.sub(r'"linked":\w+,', "", out)
+
+
+def progress_of_readers(program):
+    """Who waits for a journal for more than two seconds is told how many lines are read: here from a pipe that is slow."""
+    with Data() as data:
+        whole = journal_of_a_day(program, data)
+        status, script, _ = read(program, data, "journal")
+        expect("how it is printed", status, 0)
+        count = script.count("\n")
+        os.remove(data.journal)
+        os.mkfifo(data.journal)
+        explained = ("explain", "--point", "P1", "--connector", "1", "--start", "2025-01-01T00:00:00Z", "--duration", "60", "--at", "0")
+        for command in (("show",), explained):
+            writing = threading.Thread(target=write_late, args=(data.journal, whole))
+            writing.start()
+            status, _, said = done_with(program, SITE, command, "", ("--data", data.path))
+            writing.join(PATIENCE)
+            call_0 = r"central: 1 call to P1 waits: it may not have this yet\n" if command == explained else ""
+            wanted = rf"central: {count} lines read\ncentral: journal: {count} lines, the last one of \S+\n{call_0}"
+            expect(f"how {command[0]} ends", status, 0)
+            expect(f"what {command[0]} says", bool(re.fullmatch(wanted, said)), True)
+
+
+def write_late(path, whole):
+    """Lets whoever reads a pipe wait for more than two seconds."""
+    with open(path, "wb") as pipe:
+        time.sleep(2.2)
+        pipe.write(whole)
 
 
 def tests():
@@ -602,5 +648,6 @@ def tests():
     yield "killed on a full device", killed_on_a_full_device
     yield "readers", readers
     yield "readers of a torn journal", readers_of_a_torn_journal
+    yield "how far readers are", progress_of_readers
     yield "a reader that left", a_reader_that_left
     yield "readers of a long change", readers_of_a_long_change

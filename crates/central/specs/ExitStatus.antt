@@ -1,7 +1,6 @@
 -- The program's exit statuses: 0 done; 1 the site file or a journal has a fault; 2 the script has
 -- one; 3 a device or a socket failed or memory ran out; 4 no such command line, or another process
--- runs on the folder. A file of keys or of a
--- login has faults as a site file has.
+-- runs on the folder. A file of keys or of a login has faults as a site file has.
 use Rattle.std.specs.Prelude.{ℕ, ◌==◌, if◌then◌else◌}
 use Rattle.replay.specs.declared.script.run.ReplayFault.{ReplayFault}
 use Rattle.replay.specs.declared.script.run.ReplayFault.TheVariants as replay_fault
@@ -13,7 +12,7 @@ use Rattle.data_folder.specs.declared.folder_fault.FolderFault.TheVariants as fo
 use Rattle.client.specs.declared.fault.ClientFault.{ClientFault}
 use Rattle.client.specs.declared.fault.ClientFault.TheVariants as client_fault
 use Rattle.central.specs.declared.program.program_fault.ProgramFault.{ProgramFault}
-use Rattle.central.specs.declared.program.program_fault.ProgramFault.TheVariants.{Words, Site, SiteFile, Write, Replay, Serve, Folder, Client, File, NoSuchPoint, NoSuchConnector, NoInstant, NoDuration, NoScriptEnd, NoNumber, AllWithoutSite, AllWithoutCalls, AllElsewhere, UndoWithoutData, NoUndoLine, UndoElsewhere, PastCalendar, NoPicture, NoKeys, StatusOpen, StatusUrl, NoStatus, Keys, Login, KeyName, Clock, Random, OutOfMemory}
+use Rattle.central.specs.declared.program.program_fault.ProgramFault.TheVariants.{Words, Site, SiteFile, Write, Replay, Serve, Folder, Client, File, NoSuchPoint, NoSuchConnector, NoInstant, NoDuration, NoScriptEnd, NoNumber, AllWithoutSite, AllWithoutCalls, AllElsewhere, UndoWithoutData, NoUndoLine, UndoElsewhere, PastCalendar, NoPicture, NoZone, ZoneElsewhere, ZonePastCalendar, NoPort, NoKeys, StatusOpen, StatusUrl, NoStatus, Keys, Login, KeyName, Clock, Random, OutOfMemory}
 
 abbrev pub replay_status : ReplayFault → ℕ
 replay_status replay_fault.Read = 3
@@ -68,6 +67,10 @@ fault_status NoUndoLine = 4
 fault_status UndoElsewhere = 4
 fault_status PastCalendar = 4
 fault_status NoPicture = 4
+fault_status NoZone = 4
+fault_status ZoneElsewhere = 4
+fault_status ZonePastCalendar = 4
+fault_status NoPort = 4
 fault_status NoKeys = 4
 fault_status StatusOpen = 4
 fault_status StatusUrl = 4

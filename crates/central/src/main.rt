@@ -5,6 +5,8 @@
 //! operator's client, and a simulated charge point.
 #![tactic(auto)]
 
+ghost use Rattle.std.specs.Prelude.{◌≤◌};
+
 mod program;
 
 use crate::program::calling::call_site;
@@ -19,9 +21,10 @@ use crate::program::replaying::replay_file;
 use crate::program::running::run_file;
 use crate::program::serving::serve_file;
 use crate::program::showing::show_file;
+use crate::program::site_file::say_unread;
 use crate::program::status::show_status;
 use clap::error::ErrorKind;
-use command_line::{Job, job_of};
+use command_line::{Job, Running, job_of};
 use data_folder::{FolderFault, print_journal};
 use std::alloc::AllocGlobal;
 use std::fs::File;
@@ -30,7 +33,7 @@ use std::marker::{Send, Sync};
 use std::net::{Net, TcpListener, TcpStream};
 use std::process::ExitCode;
 use std::random::RandomSource;
-use std::rt::{Env, Files, Runtime};
+use std::rt::{Clock, Env, Files, Runtime};
 use std::sync::Wait;
 use std::thread::Threads;
 use std::{env, io};
@@ -84,11 +87,7 @@ fn do_job<
     let words = command_words(rt)?;
     match job_of(rt.alloc(), words.as_slice()) {
         Ok(Job::Replay(replaying)) => Ok(summary_status(replay_file(rt, replaying)?)),
-        Ok(Job::Run(running)) => {
-            let run = naming_folder(rt, running.folder, run_file(rt, running));
-            naming(rt, running.site, run)?;
-            Ok(0)
-        }
+        Ok(Job::Run(running)) => run_site(rt, running),
         Ok(Job::Status { url }) => show_status(rt, url),
         Ok(Job::Journal { folder }) => {
             print_journal(rt, folder)?;
@@ -126,14 +125,48 @@ fn do_job<
     }
 }
 
+/// Runs a site. Where its file has a fault, also says which command tells more of it.
+fn run_site<
+    R: Files<File = File>
+        + Print
+        + Eprint
+        + AllocGlobal
+        + Clock
+        + RandomSource
+        + Net<Listener = TcpListener, Stream = TcpStream>
+        + Threads
+        + Wait
+        + Copy
+        + Send
+        + Sync
+        + Drop
+        + 'static,
+>(rt: &R, running: Running<'_>) -> Result<u8, ProgramFault>
+    requires workers { 1 ≤ running.workers }
+    requires seats { 1 ≤ running.seats }
+{
+    let path = running.site;
+    let run = naming_folder(rt, running.folder, run_file(rt, running));
+    match naming(rt, path, run) {
+        Ok(()) => Ok(0),
+        Err(ProgramFault::Site(fault)) => {
+            let fault = ProgramFault::Site(fault);
+            say_fault(rt, &fault);
+            let _ = eprintln!(rt; "central: see central check --site {path}");
+            Ok(fault.status())
+        }
+        Err(fault) => Err(fault),
+    }
+}
+
 /// Names the site file that a job couldn't read, if that is why it stopped.
-fn naming<T, R: Eprint>(
+fn naming<T, R: Files<File = File> + Eprint>(
     rt: &R,
     path: &str,
     done: Result<T, ProgramFault>,
 ) -> Result<T, ProgramFault> {
     if let Err(ProgramFault::SiteFile) = &done {
-        let _ = eprintln!(rt; "central: {path}: it isn't there, is a folder, or may not be read");
+        say_unread(rt, path);
     }
     done
 }

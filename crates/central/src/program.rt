@@ -26,4 +26,7 @@ pub mod status;
 pub mod status_request;
 pub mod status_table;
 pub mod undoing;
+pub mod unzoned;
+pub mod waiting_calls;
 pub mod watched_file;
+pub mod zone_file;

@@ -181,16 +181,17 @@ with_request app =
     (needed (codes "start")))
     (needed (codes "duration"))
 
--- how it is printed: `[--at PLACE] [--picture FILE] [--json]`
+-- how it is printed: `[--at PLACE] [--zone NAME] [--picture FILE] [--json]`
 abbrev pub with_picture : App → App
 with_picture app =
-    with_rule (with_rule (with_rule app
+    with_rule (with_rule (with_rule (with_rule app
     (optional (codes "at")))
+    (optional (codes "zone")))
     (optional (codes "picture")))
     (flag (codes "json"))
 
 -- `explain --site F --point ID --connector C --start INSTANT --duration D
--- [--data DIR | --script FILE] [--at PLACE] [--picture FILE] [--json]`
+-- [--data DIR | --script FILE] [--at PLACE] [--zone NAME] [--picture FILE] [--json]`
 abbrev pub explain_command : App
 explain_command = with_picture (with_script (with_request (new_app (codes "explain"))))
 
@@ -381,6 +382,7 @@ pub record IsExplaining (rows : List Row) (explaining : Explaining) : Type 0 whe
   pub duration : first_of (codes "duration") rows ≡ Some explaining.duration.now
   pub source : IsSource rows explaining.source
   pub at : first_of (codes "at") rows ≡ option_map (λ text. text.now) explaining.at
+  pub zone : first_of (codes "zone") rows ≡ option_map (λ text. text.now) explaining.zone
   pub picture : first_of (codes "picture") rows ≡ option_map (λ text. text.now) explaining.picture
   pub json : IsFlag (codes "json") rows explaining.json
 

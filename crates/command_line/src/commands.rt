@@ -15,7 +15,7 @@ use crate::help_text::{
     RUN_STATUS_HELP, RUN_WORKERS_HELP, SCRIPT_HELP, SEATS_HELP, SERVE_ABOUT, SERVE_NOTES,
     SESSIONS_HELP, SET_PROFILE_HELP, SHOW_ABOUT, SHOW_NOTES, SITE_HELP, START_HELP, START_VALUES,
     STATUS_ABOUT, STATUS_HELP, STATUS_NOTES, STATUS_OPEN_HELP, STATUS_URL_HELP, STATUSES,
-    TRACE_HELP, UNDO_HELP, VERSION, WORKERS_HELP,
+    TRACE_HELP, UNDO_HELP, VERSION, WORKERS_HELP, ZONE_HELP,
 };
 use crate::limits::{
     MAX_CALL_TIMEOUT, MAX_CONNECTORS, MAX_LINE, MAX_SEATS, MAX_SESSIONS, MAX_WORKERS,
@@ -254,7 +254,7 @@ fn point<'a>(alloc: Global) -> Result<Command<'a>, AllocError>
 }
 
 /// `explain --site F --point ID --connector C --start INSTANT --duration D
-/// [--data DIR | --script FILE] [--at PLACE] [--picture FILE] [--json]`.
+/// [--data DIR | --script FILE] [--at PLACE] [--zone NAME] [--picture FILE] [--json]`.
 fn explain<'a>(alloc: Global) -> Result<Command<'a>, AllocError>
     ensures { IfOk result (λ command. app_of command ≡ explain_command) }
 {
@@ -279,12 +279,13 @@ fn with_request<'a>(alloc: Global, command: Command<'a>) -> Result<Command<'a>, 
         .arg(needed(alloc, "duration", "D", DURATION_HELP))
 }
 
-/// Adds how it is printed: `[--at PLACE] [--picture FILE] [--json]`.
+/// Adds how it is printed: `[--at PLACE] [--zone NAME] [--picture FILE] [--json]`.
 fn with_picture<'a>(alloc: Global, command: Command<'a>) -> Result<Command<'a>, AllocError>
     ensures { IfOk result (λ added. app_of added ≡ with_picture (app_of command.entry)) }
 {
     command
         .arg(optional(alloc, "at", "PLACE", AT_HELP))?
+        .arg(optional(alloc, "zone", "NAME", ZONE_HELP))?
         .arg(optional(alloc, "picture", "FILE", PICTURE_HELP))?
         .arg(flag(alloc, "json", JSON_HELP))
 }

@@ -317,7 +317,11 @@ pub const DURATION_HELP: &str =
 
 /// What `--at` counts.
 pub const AT_HELP: &str =
-    "After this number of lines of the script or journal, or at this instant, not after all";
+    "After so many lines of the script or of 'central journal', or at this instant, not after all";
+
+/// What `--zone` names.
+pub const ZONE_HELP: &str =
+    "The table has local times of this time zone, such as Europe/Berlin, in place of UTC";
 
 /// What `--picture` names.
 pub const PICTURE_HELP: &str = "Write a picture too: FILE.svg, or a page with it: FILE.html";
@@ -336,7 +340,7 @@ Example:
   central explain --site site.json --point CP1 --connector 1 --start 2025-01-03T12:00:00Z --duration 86400 < script
 
 The exit statuses are those of 'central --help'; 4 also where the site has no such point, the point no such
-connector, or INSTANT or D isn't one.";
+connector, or INSTANT, D or the NAME of a zone isn't one.";
 
 /// What `check` does.
 pub const CHECK_ABOUT: &str = "Says everything that is wrong with a site file and a script.";

@@ -171,6 +171,8 @@ pub struct Explaining<'a> {
     pub source: Source<'a>,
     /// The text of how far the script is played: a number of lines, or an instant. Or all is.
     pub at: Option<&'a str>,
+    /// The time zone in which the table has its times.
+    pub zone: Option<&'a str>,
     /// The file of the picture to write.
     pub picture: Option<&'a str>,
     /// Whether for programs.

@@ -262,6 +262,7 @@ fn explaining_of<'a>(given: &ArgMatches<'a>) -> Option<Explaining<'a>>
     let duration = text_of(given, "duration")?;
     let source = source_of(given)?;
     let at = text_of(given, "at");
+    let zone = text_of(given, "zone");
     let picture = text_of(given, "picture");
     let json = is_given(given, "json");
     Some(Explaining {
@@ -272,6 +273,7 @@ fn explaining_of<'a>(given: &ArgMatches<'a>) -> Option<Explaining<'a>>
         duration,
         source,
         at,
+        zone,
         picture,
         json,
     })

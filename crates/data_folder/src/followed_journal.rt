@@ -2,10 +2,13 @@
 
 ghost use Rattle.std.specs.Prelude.{◌≡◌};
 
+use crate::added_calls::AddedCalls;
 use crate::folder_fault::FolderFault;
 use crate::journal_lines::{JournalLines, Lines};
-use crate::journal_script::{say_torn, unread};
+use crate::journal_script::{ScriptLines, say_torn, unread};
+use crate::named_file::NamedFile;
 use crate::opening::open_to_read;
+use crate::progress::Progress;
 use crate::restoring::say_other_site;
 use crate::script_end::ScriptEnd;
 use ocpp_scalars::{Instant, push_instant};
@@ -17,7 +20,7 @@ use site_rules::Site;
 use std::alloc::{AllocError, AllocGlobal, Global};
 use std::fs::File;
 use std::marker::Brand;
-use std::rt::Files;
+use std::rt::{Clock, Files};
 use std::sync::ledger::{Blank, Ledger};
 use version_store::{Book, Pass};
 
@@ -33,6 +36,8 @@ pub struct Following<'a> {
     /// The changes at this point are counted that are later than the moment, if there is one.
     pub point: &'a str,
     pub counted_from: Option<Instant>,
+    /// Whether nothing is said of the journal itself.
+    pub is_quiet: bool,
 }
 
 /// What the lines of a journal lead to, and what became of the calls to each point.
@@ -41,12 +46,14 @@ pub struct FollowedJournal {
     machine: Machine,
     /// Each at its place in the site file.
     calls: Vec<PointCalls>,
-    /// The number of the last line that was followed.
-    number: u64,
+    /// How many lines of the journal's script were followed.
+    lines: u64,
     /// How many changes were counted.
     changes: u64,
-    /// Whether the journal ends in a line that is torn.
-    is_torn: bool,
+    /// Since when the first call waits to the point whose changes were counted.
+    since: Option<Instant>,
+    /// Whether no line is torn, and the journal has the end that was wanted.
+    is_as_wanted: bool,
 }
 
 impl FollowedJournal {
@@ -61,7 +68,7 @@ impl FollowedJournal {
             machine: &self.machine,
             points: self.calls.as_slice(),
             held: &[],
-            lines: self.number,
+            lines: self.lines,
             faults: 0,
         }
     }
@@ -71,15 +78,30 @@ impl FollowedJournal {
         self.changes
     }
 
-    /// Whether the journal ends in a line that is torn, and wasn't followed.
-    pub fn is_torn(&self) -> bool {
-        self.is_torn
+    /// How many calls the point of an identity hasn't confirmed.
+    pub fn unconfirmed_of(&self, point: &str) -> usize {
+        match self.machine.outbox_of(point) {
+            Some(outbox) => outbox.len(),
+            None => 0,
+        }
+    }
+
+    /// Since when the first of these waits, at the point whose changes were counted. Call 0 waits from
+    /// the beginning.
+    pub fn waiting_since(&self) -> Option<Instant> {
+        self.since
+    }
+
+    /// Whether no line is torn, and the journal has the end that was wanted.
+    pub fn is_as_wanted(&self) -> bool {
+        self.is_as_wanted
     }
 }
 
-/// Follows the journal of a folder on a site. Says on standard error how many lines there are, and
-/// the moment of the last one.
-pub fn follow_journal<R: Files<File = File> + Eprint + AllocGlobal>(
+/// Follows the journal of a folder on a site. Lines are counted as in its script. Says on standard
+/// error how many there are, and the moment of the last one, and where it takes long how many are
+/// read.
+pub fn follow_journal<R: Files<File = File> + Eprint + Clock + AllocGlobal>(
     rt: &R,
     following: Following<'_>,
 ) -> Result<FollowedJournal, FolderFault> {
@@ -88,7 +110,7 @@ pub fn follow_journal<R: Files<File = File> + Eprint + AllocGlobal>(
 }
 
 /// Follows a journal on a book whose changes and answers these two ledgers count.
-fn follow_counted<C: Ledger, A: Ledger, R: Files<File = File> + Eprint + AllocGlobal>(
+fn follow_counted<C: Ledger, A: Ledger, R: Files<File = File> + Eprint + Clock + AllocGlobal>(
     rt: &R,
     following: Following<'_>,
     blanks: (Blank, Blank),
@@ -105,6 +127,7 @@ fn follow_counted<C: Ledger, A: Ledger, R: Files<File = File> + Eprint + AllocGl
         end,
         point,
         counted_from,
+        is_quiet,
     } = following;
     let wanted = Wanted {
         end,
@@ -114,16 +137,47 @@ fn follow_counted<C: Ledger, A: Ledger, R: Files<File = File> + Eprint + AllocGl
     let mut file = open_to_read(rt, folder)?;
     let mut follower: Follower<C, A> = Follower::begin(rt.alloc(), site, blanks)?;
     let mut journal = JournalLines::new(rt.alloc());
+    follow_parts(rt, &mut file, &mut journal, &mut follower, &wanted)?;
+    let mut has_end = true;
+    if !is_quiet {
+        let _ = say_other_site(rt, &file, &journal, &digest);
+        has_end = say_followed(rt, &file, &journal, &follower, &wanted)?;
+    }
+    follower.into_followed(point, has_end && journal.torn() == 0)
+}
+
+/// Follows all parts of a journal. Where that takes long, says how many lines are read.
+fn follow_parts<C: Ledger, A: Ledger, R: Eprint + Clock + AllocGlobal>(
+    rt: &R,
+    file: &mut NamedFile,
+    journal: &mut JournalLines,
+    follower: &mut Follower<C, A>,
+    wanted: &Wanted<'_>,
+) -> Result<(), FolderFault> {
+    let mut progress = Progress::of_lines(rt);
     for _part in 0..u64::MAX {
-        match journal.next(rt, &mut file)? {
-            Some(lines) => follower.follow_lines(lines, &wanted)?,
+        progress.say_lines(rt, follower.script.count());
+        match journal.next(rt, file)? {
+            Some(lines) => follower.follow_lines(lines, wanted)?,
             None => break,
         }
     }
-    let _ = say_other_site(rt, &file, &journal, &digest);
-    say_torn(rt, &file, &journal);
-    say_read(rt, journal.count(), follower.last)?;
-    follower.into_followed(journal.torn() > 0)
+    Ok(())
+}
+
+/// Says what was read of a journal, and whether it has the end that is wanted.
+fn say_followed<C: Ledger, A: Ledger, R: Eprint + AllocGlobal>(
+    rt: &R,
+    file: &NamedFile,
+    journal: &JournalLines,
+    follower: &Follower<C, A>,
+    wanted: &Wanted<'_>,
+) -> Result<bool, FolderFault> {
+    say_torn(rt, file, journal);
+    let lines = follower.script.count();
+    say_read(rt, lines, follower.last)?;
+    let has_end = say_end(rt, wanted, lines, follower.first)?;
+    Ok(has_end)
 }
 
 /// How far a journal is followed, and which changes are counted.
@@ -143,12 +197,17 @@ struct Follower<C: Ledger, A: Ledger> {
     pass: Pass<C, A>,
     /// Each at its place in the site file.
     calls: Vec<PointCalls>,
-    /// The number of the last line that was followed, and whether those behind it are only read.
-    number: u64,
+    /// The script's lines that were read, and how many of them were followed.
+    script: ScriptLines,
+    followed: u64,
+    /// Whether the others are only read.
     is_ended: bool,
-    /// The moment of the last line that was read.
+    /// The moments of the first and the last line that was read.
+    first: Option<Instant>,
     last: Option<Instant>,
     changes: u64,
+    /// The calls that wait to the point whose changes are counted.
+    added: AddedCalls,
 }
 
 impl<C: Ledger, A: Ledger> Follower<C, A> {
@@ -178,28 +237,40 @@ impl<C: Ledger, A: Ledger> Follower<C, A> {
             book,
             pass,
             calls,
-            number: 0,
+            script: ScriptLines::new(alloc),
+            followed: 0,
             is_ended: false,
+            first: None,
             last: None,
             changes: 0,
+            added: AddedCalls::new(alloc),
         })
     }
 
-    /// What was followed, once all is.
-    fn into_followed(self, is_torn: bool) -> Result<FollowedJournal, FolderFault> {
+    /// What was followed, once all is, with the calls to this point.
+    fn into_followed(
+        self,
+        point: &str,
+        is_as_wanted: bool,
+    ) -> Result<FollowedJournal, FolderFault> {
         let machine = self.book.present().copy()?;
+        let since = match machine.outbox_of(point) {
+            Some(outbox) => self.added.first_since(outbox.first_number()),
+            None => None,
+        };
         let Follower {
             calls,
-            number,
+            followed,
             changes,
             ..
         } = self;
         Ok(FollowedJournal {
             machine,
             calls,
-            number,
+            lines: followed,
             changes,
-            is_torn,
+            since,
+            is_as_wanted,
         })
     }
 
@@ -223,8 +294,8 @@ impl<C: Ledger, A: Ledger> Follower<C, A> {
         Ok(())
     }
 
-    /// Follows the line of a number, unless it is behind the end that is wanted. The text is the
-    /// line's with its line feed.
+    /// Follows the line of a number in the file, unless it is behind the end that is wanted. The text
+    /// is the line's with its line feed.
     fn follow_line(
         &mut self,
         line: &Line<'_>,
@@ -232,8 +303,11 @@ impl<C: Ledger, A: Ledger> Follower<C, A> {
         number: u64,
         wanted: &Wanted<'_>,
     ) -> Result<(), FolderFault> {
+        self.first = self.first.or(Some(line.moment));
         self.last = Some(line.moment);
-        self.is_ended = self.is_ended || wanted.end.is_before(number, line.moment);
+        self.script.take_in(line)?;
+        let said = self.script.count();
+        self.is_ended = self.is_ended || wanted.end.is_before(said, line.moment);
         if self.is_ended {
             return Ok(());
         }
@@ -243,15 +317,25 @@ impl<C: Ledger, A: Ledger> Follower<C, A> {
                 fault: unrestored.fault,
             }));
         }
-        self.number = number;
+        self.followed = said;
         if is_counted(line, wanted) {
             self.changes = self.changes.saturating_add(1);
         }
-        self.follow_calls(line, number)?;
+        self.follow_added(line, wanted)?;
+        self.follow_calls(line, said)?;
         Ok(())
     }
 
-    /// Takes in what a line did to the calls of its point.
+    /// Takes in since when calls wait, where the line is of the point whose changes are counted.
+    fn follow_added(&mut self, line: &Line<'_>, wanted: &Wanted<'_>) -> Result<(), AllocError> {
+        match self.book.present().outbox_of(line.point) {
+            Some(outbox) if line.point == wanted.point => self.added.follow(outbox, line.moment),
+            _ => Ok(()),
+        }
+    }
+
+    /// Takes in what a line did to the calls of its point. It belongs to the script's line of this
+    /// number.
     fn follow_calls(&mut self, line: &Line<'_>, number: u64) -> Result<(), AllocError> {
         let machine = self.book.present();
         let (Some(place), Some(outbox)) = (
@@ -288,6 +372,44 @@ fn say_read<R: Eprint + AllocGlobal>(
     push_instant(&mut moment, last)?;
     let _ = eprintln!(rt; "central: journal: {lines} lines, the last one of {moment}");
     Ok(())
+}
+
+/// Says where the journal hasn't the end that is wanted. Whether it has.
+fn say_end<R: Eprint + AllocGlobal>(
+    rt: &R,
+    wanted: &Wanted<'_>,
+    lines: u64,
+    first: Option<Instant>,
+) -> Result<bool, AllocError> {
+    match wanted.end {
+        ScriptEnd::Whole => Ok(true),
+        ScriptEnd::Lines(count) => {
+            if count <= lines {
+                return Ok(true);
+            }
+            let _ = eprintln!(rt; "central: the journal has {lines} lines, fewer than --at");
+            Ok(false)
+        }
+        ScriptEnd::Moment(moment) => match first {
+            Some(first) => say_begun(rt, moment, first),
+            None => Ok(true),
+        },
+    }
+}
+
+/// Says where the journal begins later than the moment that is wanted. Whether it doesn't.
+fn say_begun<R: Eprint + AllocGlobal>(
+    rt: &R,
+    moment: Instant,
+    first: Instant,
+) -> Result<bool, AllocError> {
+    if first <= moment {
+        return Ok(true);
+    }
+    let mut begin = String::new(rt.alloc());
+    push_instant(&mut begin, first)?;
+    let _ = eprintln!(rt; "central: the journal begins at {begin}, after --at");
+    Ok(false)
 }
 
 /// Whether a line is a change that is to be counted.

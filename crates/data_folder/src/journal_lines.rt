@@ -9,6 +9,9 @@ use std::mem;
 /// So many bytes are read at a time. No line is so long.
 const PART: u64 = 4 * 1_048_576;
 
+/// So many lines are handed out at a time at most, so that whoever waits can be told how far it is.
+const MOST_LINES: usize = 1_024;
+
 /// How a line begins that names a site file, the first line among them. The others begin with an
 /// instant.
 const SITE_LINE: &[u8] = b"central journal ";
@@ -142,8 +145,8 @@ impl JournalLines {
         Ok(())
     }
 
-    /// Takes the lines that come before the next one that names a site file. Returns whether there
-    /// are any.
+    /// Takes the next lines that come before one that names a site file. Returns whether there are
+    /// any.
     fn take_steps(&mut self) -> Result<bool, AllocError> {
         let ahead = mem::replace(&mut self.ahead, Vec::new(self.alloc));
         let (steps, rest) = steps_before_site(ahead.as_slice());
@@ -189,10 +192,10 @@ fn copied(alloc: Global, bytes: &[u8]) -> Result<Vec<u8>, AllocError> {
     Ok(copy)
 }
 
-/// The lines that come before the next one that names a site file, and the rest.
+/// The next lines that come before one that names a site file, and the rest.
 fn steps_before_site(whole: &[u8]) -> (&[u8], &[u8]) {
     let mut rest = whole;
-    for _line in 0..whole.len() {
+    for _line in 0..MOST_LINES {
         match split_line(rest) {
             Some((line, others)) if !line.starts_with(SITE_LINE) => rest = others,
             _ => break,

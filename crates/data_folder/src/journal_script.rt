@@ -98,8 +98,7 @@ pub fn unread(line: u64, fault: LineFault) -> FolderFault {
 struct ScriptReading {
     alloc: Global,
     journal: JournalLines,
-    /// The point whose message is the script's last line, if that is a point's.
-    sender: Option<String>,
+    lines: ScriptLines,
 }
 
 impl ScriptReading {
@@ -107,7 +106,7 @@ impl ScriptReading {
         ScriptReading {
             alloc,
             journal: JournalLines::new(alloc),
-            sender: None,
+            lines: ScriptLines::new(alloc),
         }
     }
 
@@ -120,7 +119,7 @@ impl ScriptReading {
         let mut script = String::new(self.alloc);
         match self.journal.next(rt, file)? {
             Some(lines) => {
-                push_lines(&mut script, lines, &mut self.sender)?;
+                push_lines(&mut script, lines, &mut self.lines)?;
                 Ok(Some(script))
             }
             None => Ok(None),
@@ -128,12 +127,11 @@ impl ScriptReading {
     }
 }
 
-/// Appends the script's lines for lines of a journal. The sender is the point whose message is the
-/// script's last line.
+/// Appends the script's lines for lines of a journal.
 fn push_lines(
     script: &mut String,
     lines: Lines<'_>,
-    sender: &mut Option<String>,
+    taken: &mut ScriptLines,
 ) -> Result<(), FolderFault> {
     let (mut rest, mut number) = (lines.bytes, lines.first);
     for _line in 0..lines.bytes.len() {
@@ -141,7 +139,7 @@ fn push_lines(
             break;
         };
         match read_bytes(line) {
-            Ok(line) => push_line(script, &line, sender)?,
+            Ok(line) => push_line(script, &line, taken)?,
             Err(fault) => return Err(unread(number, fault)),
         }
         rest = others;
@@ -150,32 +148,67 @@ fn push_lines(
     Ok(())
 }
 
-/// Appends the script's line for a line of a journal, if it has one. A call goes out behind each
-/// message of a point. So where it went out otherwise, the point says something before it.
+/// Appends the script's line for a line of a journal, if it has one.
 fn push_line(
     script: &mut String,
     line: &Line<'_>,
-    sender: &mut Option<String>,
+    taken: &mut ScriptLines,
 ) -> Result<(), AllocError> {
-    let (side, frame) = match line.noted {
-        Noted::Message { sender, frame, .. } => (sender, frame),
-        Noted::Reply { frame, .. } => (Side::Point, frame),
-        Noted::Sent { .. } if is_of(sender, line.point) => return Ok(()),
-        Noted::Sent { .. } => (Side::Point, BEFORE_A_CALL),
-        Noted::Verdict { .. } | Noted::Attached { .. } | Noted::Lost { .. } => return Ok(()),
-    };
-    *sender = match side {
-        Side::Operator => None,
-        Side::Point => Some(String::from_str(*script.allocator(), line.point)?),
-    };
-    push_message(script, line, side, frame)
+    match taken.take_in(line)? {
+        Some((side, frame)) => push_message(script, line, side, frame),
+        None => Ok(()),
+    }
 }
 
-/// Whether the sender of the script's last line is this point.
-fn is_of(sender: &Option<String>, point: &str) -> bool {
-    match sender {
-        Some(sender) => sender.as_str() == point,
-        None => false,
+/// The lines of a journal's script that were taken in.
+#[derive(Drop)]
+pub struct ScriptLines {
+    alloc: Global,
+    count: u64,
+    /// The point whose message is the last line, if that is a point's.
+    sender: Option<String>,
+}
+
+impl ScriptLines {
+    /// None yet.
+    pub fn new(alloc: Global) -> ScriptLines {
+        ScriptLines {
+            alloc,
+            count: 0,
+            sender: None,
+        }
+    }
+
+    /// How many there are. `central journal` prints the last one under this number.
+    pub fn count(&self) -> u64 {
+        self.count
+    }
+
+    /// Takes in a line of the journal. Returns the message of the script's line for it, and whose it
+    /// is, if it has one. A call goes out behind each message of a point. So where it went out
+    /// otherwise, the point says something before it.
+    pub fn take_in<'a>(&mut self, line: &Line<'a>) -> Result<Option<(Side, &'a str)>, AllocError> {
+        let (side, frame) = match line.noted {
+            Noted::Message { sender, frame, .. } => (sender, frame),
+            Noted::Reply { frame, .. } => (Side::Point, frame),
+            Noted::Sent { .. } if self.is_from(line.point) => return Ok(None),
+            Noted::Sent { .. } => (Side::Point, BEFORE_A_CALL),
+            Noted::Verdict { .. } | Noted::Attached { .. } | Noted::Lost { .. } => return Ok(None),
+        };
+        self.sender = match side {
+            Side::Operator => None,
+            Side::Point => Some(String::from_str(self.alloc, line.point)?),
+        };
+        self.count = self.count.saturating_add(1);
+        Ok(Some((side, frame)))
+    }
+
+    /// Whether the last line is from this point.
+    fn is_from(&self, point: &str) -> bool {
+        match &self.sender {
+            Some(sender) => sender.as_str() == point,
+            None => false,
+        }
     }
 }
 

@@ -2,6 +2,7 @@
 //! while the site is run; and which points booted.
 #![tactic(auto)]
 
+mod added_calls;
 mod boots_file;
 mod folder_fault;
 mod followed_journal;
@@ -10,6 +11,7 @@ mod journal_lines;
 mod journal_script;
 mod named_file;
 mod opening;
+mod progress;
 mod reserve_file;
 mod restored_journal;
 mod restoring;
@@ -24,6 +26,7 @@ pub use journal_file::JournalFile;
 pub use journal_script::{LONGEST_FRAME, print_journal, read_journal_script};
 pub use named_file::or_stop;
 pub use opening::{OpenJournal, open_journal};
+pub use progress::Progress;
 pub use restoring::{Resumed, restore_shared};
 pub use script_end::ScriptEnd;
 pub use system_clock::SystemClock;

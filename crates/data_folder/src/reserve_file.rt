@@ -1,8 +1,10 @@
 //! Room on the device that is set aside for the journal.
 
+use crate::opening::OWN_FILE;
 use std::fs::{File, OpenOptions};
 use std::io;
 use std::io::{Seek, SeekFrom, Write};
+use std::os::unix::fs::OpenOptionsExt;
 use std::rt::Files;
 
 /// How many bytes are set aside.
@@ -65,7 +67,11 @@ impl ReserveFile {
 /// The file of a name, which is made where it isn't there, filled with zeros.
 fn make_filled<R: Files<File = File>>(rt: &R, path: &str) -> io::Result<File> {
     let mut options = OpenOptions::new();
-    let mut file = options.write(true).create(true).open(rt, path)?;
+    let mut file = options
+        .write(true)
+        .create(true)
+        .mode(OWN_FILE)
+        .open(rt, path)?;
     fill(&mut file)?;
     Ok(file)
 }

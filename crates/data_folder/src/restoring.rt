@@ -7,6 +7,7 @@ use crate::journal_file::JournalFile;
 use crate::journal_lines::{JournalLines, Lines};
 use crate::named_file::NamedFile;
 use crate::opening::OpenJournal;
+use crate::progress::Progress;
 use crate::restored_journal::RestoredJournal;
 use crate::system_clock::SystemClock;
 use chronicle::{ChronicleName, Unnamed};
@@ -76,7 +77,7 @@ pub fn restore_shared<
 fn restore_book<
     C: Ledger,
     A: Ledger,
-    R: Files<File = File> + AllocGlobal + Eprint,
+    R: Files<File = File> + AllocGlobal + Eprint + Clock,
     N: ChronicleName,
 >(
     rt: &R,
@@ -104,15 +105,17 @@ fn restore_book<
     }
 }
 
-/// Restores a book from the lines of a journal.
-fn restore_lines<C: Ledger, A: Ledger, R: AllocGlobal + Eprint, N: ChronicleName>(
+/// Restores a book from the lines of a journal. Where that takes long it is said how many are read.
+fn restore_lines<C: Ledger, A: Ledger, R: AllocGlobal + Eprint + Clock, N: ChronicleName>(
     rt: &R,
     file: &mut NamedFile,
     journal: &mut JournalLines,
     book: &mut Book<C, A, N>,
     pass: &mut Pass<C, A>,
 ) -> Result<(), FolderFault> {
+    let mut progress = Progress::of_lines(rt);
     for _part in 0..u64::MAX {
+        progress.say_lines(rt, journal.count());
         let Some(Lines { first, bytes }) = journal.next(rt, file)? else {
             break;
         };

@@ -23,7 +23,8 @@ impl ScriptEnd {
         }
     }
 
-    /// Whether a line of a journal, of this number and moment, isn't played any more.
+    /// Whether a line of a journal, of this number in its script and this moment, isn't played any
+    /// more.
     pub fn is_before(self, number: u64, moment: Instant) -> bool {
         match self {
             ScriptEnd::Whole => false,

@@ -3,6 +3,7 @@
 use crate::clock::{ClockTime, needs_seconds, push_date, push_time};
 use crate::explained_ask::ExplainedAsk;
 use crate::words::{push_length, push_limit, push_why};
+use crate::zone_clock::ZoneClock;
 use std::alloc::{AllocError, Global};
 use sweep_compiler::Interval;
 
@@ -24,16 +25,22 @@ pub(crate) struct Cells {
 #[derive(Drop)]
 pub(crate) struct CellMaker<'a> {
     explained: &'a ExplainedAsk<'a>,
+    /// The zone by whose clock times are, if not in UTC.
+    zone: Option<ZoneClock<'a>>,
     with_seconds: bool,
     /// The day on which the interval before begins.
     day: Option<u64>,
 }
 
 impl<'a> CellMaker<'a> {
-    pub(crate) fn new(explained: &'a ExplainedAsk<'a>) -> CellMaker<'a> {
+    pub(crate) fn new(
+        explained: &'a ExplainedAsk<'a>,
+        zone: Option<ZoneClock<'a>>,
+    ) -> CellMaker<'a> {
         CellMaker {
             explained,
-            with_seconds: needs_seconds(explained),
+            zone,
+            with_seconds: needs_seconds(explained, zone),
             day: None,
         }
     }
@@ -44,8 +51,8 @@ impl<'a> CellMaker<'a> {
         alloc: Global,
         interval: &Interval,
     ) -> Result<Cells, AllocError> {
-        let from = ClockTime::of(self.explained.moment(interval.start));
-        let to = ClockTime::of(self.explained.moment(interval.end));
+        let from = ClockTime::shown(self.zone, self.explained.moment(interval.start));
+        let to = ClockTime::shown(self.zone, self.explained.moment(interval.end));
         let dates = (self.day != Some(from.day), to.day != from.day);
         self.day = Some(from.day);
         let mut length = String::new(alloc);
@@ -79,8 +86,9 @@ impl<'a> CellMaker<'a> {
 pub(crate) fn all_cells(
     alloc: Global,
     explained: &ExplainedAsk<'_>,
+    zone: Option<ZoneClock<'_>>,
 ) -> Result<Vec<Cells>, AllocError> {
-    let mut maker = CellMaker::new(explained);
+    let mut maker = CellMaker::new(explained, zone);
     let mut all = Vec::new(alloc);
     for interval in explained.intervals {
         all.push(maker.cells(alloc, interval)?)?;

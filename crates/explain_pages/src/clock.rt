@@ -1,13 +1,14 @@
-//! Times of day and dates in UTC.
+//! Times of day and dates, in UTC or by the clock of a zone.
 
 use crate::explained_ask::ExplainedAsk;
+use crate::zone_clock::{ZoneClock, shown_at};
 use ocpp_scalars::{Instant, LAST_SECOND, push_instant};
 use std::alloc::{AllocError, Global};
 
 /// Seconds in a day.
 pub(crate) const DAY: u64 = 86_400;
 
-/// A moment as a clock in UTC shows it.
+/// A moment as a clock shows it.
 #[derive(Clone, Copy)]
 pub(crate) struct ClockTime {
     /// Days since 1970-01-01.
@@ -17,7 +18,7 @@ pub(crate) struct ClockTime {
 }
 
 impl ClockTime {
-    /// The clock time of a moment, in seconds since 1970.
+    /// What a clock in UTC shows at a moment, in seconds since 1970.
     pub(crate) fn of(moment: u64) -> ClockTime {
         if moment > LAST_SECOND {
             return ClockTime {
@@ -29,6 +30,11 @@ impl ClockTime {
             day: moment / DAY,
             second: moment % DAY,
         }
+    }
+
+    /// What the clock of a zone, or else one in UTC, shows at a moment.
+    pub(crate) fn shown(zone: Option<ZoneClock<'_>>, moment: u64) -> ClockTime {
+        ClockTime::of(shown_at(zone, moment))
     }
 }
 
@@ -49,7 +55,7 @@ pub(crate) fn push_time(
 }
 
 /// Appends the last two digits of a number.
-fn push_two_digits(out: &mut String, number: u64) -> Result<(), AllocError> {
+pub(crate) fn push_two_digits(out: &mut String, number: u64) -> Result<(), AllocError> {
     push_digit(out, number / 10 % 10)?;
     push_digit(out, number % 10)
 }
@@ -85,12 +91,18 @@ pub(crate) fn weekday(day: u64) -> &'static str {
     }
 }
 
-/// Whether a time in the intervals isn't a whole minute.
-pub(crate) fn needs_seconds(explained: &ExplainedAsk<'_>) -> bool {
+/// Whether a time in the intervals isn't a whole minute, by the clock of a zone or in UTC.
+pub(crate) fn needs_seconds(explained: &ExplainedAsk<'_>, zone: Option<ZoneClock<'_>>) -> bool {
     for interval in explained.intervals {
-        if explained.moment(interval.start) % 60 != 0 || explained.moment(interval.end) % 60 != 0 {
+        if has_seconds(zone, explained.moment(interval.start))
+            || has_seconds(zone, explained.moment(interval.end))
+        {
             return true;
         }
     }
-    explained.moment(0) % 60 != 0 || explained.end() % 60 != 0
+    has_seconds(zone, explained.moment(0)) || has_seconds(zone, explained.end())
+}
+
+fn has_seconds(zone: Option<ZoneClock<'_>>, moment: u64) -> bool {
+    shown_at(zone, moment) % 60 != 0
 }

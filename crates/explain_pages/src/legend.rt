@@ -121,6 +121,6 @@ pub(crate) fn push_cut(
         return Ok(());
     }
     out.push_str(", drawn up to ")?;
-    push_moment(alloc, out, explained, steps.end)?;
+    push_moment(alloc, out, explained, None, steps.end)?;
     out.push_str(" alone: it has too many steps")
 }

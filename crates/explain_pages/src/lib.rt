@@ -27,6 +27,7 @@ mod ticks;
 mod uncounted;
 mod words;
 mod wrapping;
+mod zone_clock;
 
 pub use entries::{profile_of, telling_instant};
 pub use explained_ask::{ExplainedAsk, NoPart, NotCounted, is_named};
@@ -39,3 +40,4 @@ pub use steps::{MAX_INTERVALS, MAX_STEPS};
 pub use table::write_table;
 pub use uncounted::not_counted;
 pub use words::{push_cause, push_length, push_limit, push_profile, push_why, sentence};
+pub use zone_clock::{ClockShift, ZoneClock};

@@ -16,7 +16,7 @@ use std::alloc::{AllocError, Global};
 /// page says so.
 pub fn write_page(alloc: Global, explained: &ExplainedAsk<'_>) -> Result<String, AllocError> {
     let mut out = String::new(alloc);
-    let title = heading(alloc, explained)?;
+    let title = heading(alloc, explained, None)?;
     out.push_str("<!DOCTYPE html>\n<html lang=\"en\">\n<head>\n<meta charset=\"utf-8\">\n")?;
     out.push_str("<meta name=\"viewport\" content=\"width=device-width, initial-scale=1\">\n")?;
     push_element(
@@ -51,7 +51,7 @@ fn push_table(
     explained: &ExplainedAsk<'_>,
 ) -> Result<(), AllocError> {
     out.push_str(HEAD)?;
-    let mut maker = CellMaker::new(explained);
+    let mut maker = CellMaker::new(explained, None);
     for interval in explained.intervals.iter().take(MAX_INTERVALS) {
         let cells = maker.cells(alloc, interval)?;
         out.push_str("<tr><th scope=\"row\">")?;

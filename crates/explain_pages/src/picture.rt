@@ -70,7 +70,7 @@ fn push_description(
     out: &mut String,
     explained: &ExplainedAsk<'_>,
 ) -> Result<(), AllocError> {
-    let title = heading(alloc, explained)?;
+    let title = heading(alloc, explained, None)?;
     push_element(
         out,
         "<title id=\"picture-title\">The limit of ",
@@ -78,7 +78,7 @@ fn push_description(
         "</title>\n",
     )?;
     out.push_str("<desc id=\"picture-description\">Times in UTC.")?;
-    let mut maker = CellMaker::new(explained);
+    let mut maker = CellMaker::new(explained, None);
     for interval in explained.intervals.iter().take(DESCRIBED) {
         let cells = maker.cells(alloc, interval)?;
         push_element(out, " ", cells.from.as_str(), " to ")?;
@@ -113,9 +113,9 @@ fn push_head(
     let mut text = String::from_str(alloc, "limit in ")?;
     text.push_str(unit_name(explained.unit))?;
     text.push_str(", ")?;
-    push_moment(alloc, &mut text, explained, 0)?;
+    push_moment(alloc, &mut text, explained, None, 0)?;
     text.push_str(" to ")?;
-    push_moment(alloc, &mut text, explained, explained.ask.duration)?;
+    push_moment(alloc, &mut text, explained, None, explained.ask.duration)?;
     text.push_str(" UTC (")?;
     push_length(&mut text, explained.ask.duration)?;
     text.push(')')?;

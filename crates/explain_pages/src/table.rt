@@ -7,6 +7,7 @@ use crate::clock::{ClockTime, needs_seconds, push_date, push_time};
 use crate::explained_ask::{ExplainedAsk, NotCounted};
 use crate::words::{push_length, push_profile, sentence};
 use crate::wrapping::{Margins, push_left, push_lines, push_right, push_times};
+use crate::zone_clock::{ZoneClock, push_ahead};
 use messages::unit_name;
 use ocpp_scalars::push_integer;
 use std::alloc::{AllocError, Global};
@@ -14,43 +15,86 @@ use std::alloc::{AllocError, Global};
 /// The fewest columns of a bar, and the most.
 const BAR: (usize, usize) = (8, 40);
 
-/// The table of an explained schedule. Each interval has a line with its beginning and its end in UTC, its
-/// length, its limit and why. Below them are the profiles that never set the limit. Where the columns of a
-/// terminal are given, no line is broader than they are (unless one word is), and bars show the limits.
+/// The table of an explained schedule. Each interval has a line with its beginning and its end, its length,
+/// its limit and why. Below them are the profiles that never set the limit. Times are by the clock of the
+/// zone, whose changes are said first, or in UTC where there is none. Where the columns of a terminal are
+/// given, no line is broader than they are (unless one word is), and bars show the limits.
 pub fn write_table(
     alloc: Global,
     explained: &ExplainedAsk<'_>,
     columns: Option<usize>,
+    zone: Option<ZoneClock<'_>>,
 ) -> Result<String, AllocError> {
     let mut out = String::new(alloc);
-    push_heading(alloc, &mut out, explained, columns)?;
-    push_intervals(alloc, &mut out, explained, columns)?;
+    push_heading(alloc, &mut out, explained, columns, zone)?;
+    push_intervals(alloc, &mut out, explained, columns, zone)?;
     push_not_counted(alloc, &mut out, explained.not_counted, columns)?;
     Ok(out)
 }
 
-/// Appends what is explained, in a line.
+/// Appends what is explained, in a line, and the changes of the zone's clock.
 fn push_heading(
     alloc: Global,
     out: &mut String,
     explained: &ExplainedAsk<'_>,
     columns: Option<usize>,
+    zone: Option<ZoneClock<'_>>,
 ) -> Result<(), AllocError> {
-    let mut text = heading(alloc, explained)?;
+    let mut text = heading(alloc, explained, zone)?;
     text.push_str(". The limit in ")?;
     text.push_str(unit_name(explained.unit))?;
-    text.push_str(", times in UTC.")?;
+    text.push_str(", times in ")?;
+    match zone {
+        Some(clock) => clock.push_name(&mut text)?,
+        None => text.push_str("UTC")?,
+    }
+    text.push('.')?;
     push_lines(out, text.as_str(), Margins { indent: 0, columns })?;
+    if let Some(clock) = zone {
+        push_changes(alloc, out, clock, columns)?;
+    }
     out.push('\n')
 }
 
+/// Appends a line for each change of a zone's clock in the time that is explained.
+fn push_changes(
+    alloc: Global,
+    out: &mut String,
+    clock: ZoneClock<'_>,
+    columns: Option<usize>,
+) -> Result<(), AllocError> {
+    let margins = Margins { indent: 0, columns };
+    let mut before = None;
+    for shift in clock.shifts {
+        if let Some(before) = before {
+            let mut line = String::new(alloc);
+            let time = ClockTime::of(shift.from);
+            push_date(alloc, &mut line, time.day)?;
+            line.push(' ')?;
+            push_time(&mut line, time.second, time.second % 60 != 0)?;
+            line.push_str(" UTC: the clocks go from ")?;
+            push_ahead(&mut line, before)?;
+            line.push_str(" to ")?;
+            push_ahead(&mut line, shift.ahead)?;
+            line.push('.')?;
+            push_lines(out, line.as_str(), margins)?;
+        }
+        before = Some(shift.ahead);
+    }
+    Ok(())
+}
+
 /// What is explained: the point, the connector, and from when until when.
-pub(crate) fn heading(alloc: Global, explained: &ExplainedAsk<'_>) -> Result<String, AllocError> {
+pub(crate) fn heading(
+    alloc: Global,
+    explained: &ExplainedAsk<'_>,
+    zone: Option<ZoneClock<'_>>,
+) -> Result<String, AllocError> {
     let mut text = place(alloc, explained)?;
     text.push_str(", from ")?;
-    push_moment(alloc, &mut text, explained, 0)?;
+    push_moment(alloc, &mut text, explained, zone, 0)?;
     text.push_str(" to ")?;
-    push_moment(alloc, &mut text, explained, explained.ask.duration)?;
+    push_moment(alloc, &mut text, explained, zone, explained.ask.duration)?;
     text.push_str(" (")?;
     push_length(&mut text, explained.ask.duration)?;
     text.push(')')?;
@@ -69,17 +113,18 @@ pub(crate) fn place(alloc: Global, explained: &ExplainedAsk<'_>) -> Result<Strin
     Ok(text)
 }
 
-/// Appends a second of the request with its date.
+/// Appends a second of the request with its date, by the clock of a zone or in UTC.
 pub(crate) fn push_moment(
     alloc: Global,
     out: &mut String,
     explained: &ExplainedAsk<'_>,
+    zone: Option<ZoneClock<'_>>,
     second: u32,
 ) -> Result<(), AllocError> {
-    let time = ClockTime::of(explained.moment(second));
+    let time = ClockTime::shown(zone, explained.moment(second));
     push_date(alloc, out, time.day)?;
     out.push(' ')?;
-    push_time(out, time.second, needs_seconds(explained))
+    push_time(out, time.second, needs_seconds(explained, zone))
 }
 
 /// The widths of a table's columns.
@@ -189,8 +234,9 @@ fn push_intervals(
     out: &mut String,
     explained: &ExplainedAsk<'_>,
     columns: Option<usize>,
+    zone: Option<ZoneClock<'_>>,
 ) -> Result<(), AllocError> {
-    let all = all_cells(alloc, explained)?;
+    let all = all_cells(alloc, explained, zone)?;
     let bare = Widths::of(all.as_slice());
     let layout = Layout::of(bare, columns);
     let sheet = Sheet {

@@ -1,3 +1,4 @@
 pub mod ExitStatus
+pub mod Fuse
 pub mod Hidden
 pub mod NeverRated

@@ -60,15 +60,16 @@ fn replaced(
     gone: PrevailingProfile,
 ) -> Result<Finding, AllocError> {
     let place = Location::Line(number);
+    let (purpose, id) = (purpose_name(came.purpose), came.id);
     let name = named(alloc, gone)?;
-    if came.id != gone.id {
+    if id != gone.id {
         let message = format!(in alloc;
-            "this takes the place of {name}, which has its connector, purpose and stack level"
+            "{purpose} {id} takes the place of {name}, which has its connector, purpose and stack level"
         )?;
         return Ok(Finding::remark(place, message));
     }
     let message = format!(in alloc;
-        "this takes the place of {name}, which has the same chargingProfileId"
+        "{purpose} {id} takes the place of {name}, which has the same chargingProfileId"
     )?;
     if came.purpose == gone.purpose {
         return Ok(Finding::remark(place, message));

@@ -1,5 +1,8 @@
 //! What a call makes of the fuse limit of its point.
 
+ghost use Rattle.std.specs.Prelude.{◌↔◌, IfOk, IsSome};
+ghost use Rattle.findings.specs.Fuse.{IsRaised, IsRaisedOrGone};
+
 use crate::finding::{Finding, Location};
 use crate::standing_check::highest_limit;
 use crate::words::tenths_text;
@@ -27,7 +30,9 @@ pub fn check_fuse(
     point: &str,
     before: Option<u32>,
     after: Option<u32>,
-) -> Result<Option<Finding>, AllocError> {
+) -> Result<Option<Finding>, AllocError>
+    ensures { IfOk result (λ found. IsSome found ↔ IsRaisedOrGone before after) }
+{
     let Some(was) = before else {
         return Ok(None);
     };
@@ -47,7 +52,9 @@ pub fn check_raise(
     line: u64,
     before: Option<u32>,
     after: Option<u32>,
-) -> Result<Option<Finding>, AllocError> {
+) -> Result<Option<Finding>, AllocError>
+    ensures { IfOk result (λ found. IsSome found ↔ IsRaised before after) }
+{
     let (Some(was), Some(now)) = (before, after) else {
         return Ok(None);
     };

@@ -66,10 +66,15 @@ pub(crate) fn check_parts(
     }
 }
 
+/// A warning of a profile, which is named.
+fn warn_of(report: &mut Report, profile: &Profile, message: &str) -> Result<(), AllocError> {
+    report.warn_of(profile.purpose, profile.id, message)
+}
+
 /// A profile that never has a rate.
 pub(crate) fn warn_never_rated(report: &mut Report, profile: &Profile) -> Result<(), AllocError> {
     match never_rated(profile) {
-        Some(why) => report.warn_text(never_sentence(why)),
+        Some(why) => warn_of(report, profile, never_sentence(why)),
         None => Ok(()),
     }
 }
@@ -91,16 +96,19 @@ fn place_found(
 
 /// Fields that have no meaning with the profile's purpose or kind.
 fn warn_dropped(report: &mut Report, parts: &ProfileParts) -> Result<(), AllocError> {
-    if parts.transaction.is_some() && !matches!(parts.purpose, Purpose::TxProfile) {
-        report.warn_text("transactionId has no effect except in a TxProfile")?;
+    let (purpose, id) = (parts.purpose, parts.id);
+    if parts.transaction.is_some() && !matches!(purpose, Purpose::TxProfile) {
+        let message = "transactionId has no effect except in a TxProfile";
+        report.warn_of(purpose, id, message)?;
     }
     if parts.recurrency.is_some() && parts.kind != ProfileKind::Recurring {
-        report.warn_text("recurrencyKind has no effect unless chargingProfileKind is Recurring")?;
+        let message = "recurrencyKind has no effect unless chargingProfileKind is Recurring";
+        report.warn_of(purpose, id, message)?;
     }
     if parts.schedule.start.is_some() && parts.kind == ProfileKind::Relative {
-        report.warn_text(
-            "startSchedule has no effect in a Relative profile, which begins with its transaction",
-        )?;
+        let message =
+            "startSchedule has no effect in a Relative profile, which begins with its transaction";
+        report.warn_of(purpose, id, message)?;
     }
     Ok(())
 }
@@ -142,8 +150,10 @@ fn out_of_order(alloc: Global, periods: &[Period]) -> Result<String, AllocError>
 /// A TxProfile that isn't bound to its transaction.
 fn warn_transaction(report: &mut Report, profile: &Profile) -> Result<(), AllocError> {
     if matches!(profile.purpose, Purpose::TxProfile) && profile.transaction.is_none() {
-        report.warn_text(
-            "this TxProfile has no transactionId: where its transaction ends before the call reaches the point, the point may take it for the NEXT car",
+        warn_of(
+            report,
+            profile,
+            "it has no transactionId: where its transaction ends before the call reaches the point, the point may take it for the NEXT car",
         )?;
     }
     Ok(())
@@ -176,9 +186,9 @@ fn warn_ceiling(
     }
     let ceiling = tenths_text(report.alloc, u64::from(ceiling))?;
     let message = format!(in report.alloc;
-        "each limit of this profile is above the ceiling of the site file there, {ceiling}: it never lowers anything"
+        "each of its limits is above the ceiling of the site file there, {ceiling}: it never lowers anything"
     )?;
-    report.warn(message)
+    warn_of(report, profile, message.as_str())
 }
 
 /// The highest ceiling that a profile could lower, in tenths. For the whole point it is the
@@ -204,7 +214,7 @@ pub(crate) fn warn_rates(
     profile: &Profile,
 ) -> Result<(), AllocError> {
     if let Some(why) = never_rated(profile) {
-        return report.warn_text(never_sentence(why));
+        return warn_of(report, profile, never_sentence(why));
     }
     if let Some(end) = profile.valid_to {
         if end <= moment {
@@ -212,7 +222,7 @@ pub(crate) fn warn_rates(
             let message = format!(in report.alloc;
                 "validTo, {end}, is over when the profile is installed: no later schedule counts it"
             )?;
-            report.warn(message)?;
+            warn_of(report, profile, message.as_str())?;
         }
     }
     warn_duration(report, profile)?;
@@ -232,7 +242,7 @@ fn warn_duration(report: &mut Report, profile: &Profile) -> Result<(), AllocErro
             let message = format!(in report.alloc;
                 "chargingSchedulePeriod[{index}] starts at {start} s, when the duration of {duration} s is over: it never counts"
             )?;
-            report.warn(message)
+            warn_of(report, profile, message.as_str())
         }
         None => Ok(()),
     }
@@ -266,14 +276,14 @@ fn warn_recurrence(
         let message = format!(in alloc;
             "chargingSchedulePeriod[{index}] starts at {start} s, when the {unit} of {length} s is over: it never counts"
         )?;
-        report.warn(message)?;
+        warn_of(report, profile, message.as_str())?;
     }
     if let Some(duration) = profile.schedule.duration {
         if u64::from(duration) > length {
             let message = format!(in alloc;
                 "the duration of {duration} s is longer than the {unit} of {length} s, which begins anew all the same"
             )?;
-            report.warn(message)?;
+            warn_of(report, profile, message.as_str())?;
         } else if u64::from(duration) < length {
             warn_gap(report, profile, recurrency, u64::from(duration), length)?;
         }
@@ -306,9 +316,9 @@ fn warn_gap(
         (None, Recurrency::Weekly) => format!(in alloc; "from {from} s to {to} s of each week")?,
     };
     let message = format!(in alloc;
-        "this profile sets no limit {when}: the profile below it counts then, or none"
+        "it sets no limit {when}: the profile below it counts then, or none"
     )?;
-    report.warn(message)
+    warn_of(report, profile, message.as_str())
 }
 
 /// The times of the day at two offsets from an instant, where both lie in the calendar.

@@ -61,9 +61,9 @@ fn check_start_profile(
     parts: ProfileParts,
 ) -> Result<Option<Profile>, AllocError> {
     if parts.transaction.is_some() {
-        report.warn_text(
-            "transactionId has no effect in a remote start: its transaction has no number yet",
-        )?;
+        let message =
+            "transactionId has no effect in a remote start: its transaction has no number yet";
+        report.warn_of(parts.purpose, parts.id, message)?;
     }
     let parts = ProfileParts {
         transaction: None,

@@ -1,6 +1,8 @@
 //! The findings in a script, gathered line by line.
 
 use crate::finding::{FaultName, Finding, Location};
+use messages::purpose_name;
+use profile::Purpose;
 use std::alloc::{AllocError, Global};
 
 /// How often an identity is compared with all those of the site.
@@ -57,6 +59,18 @@ impl Report {
         let place = Location::Line(self.line);
         self.findings.push(Finding::warning(place, message))?;
         Ok(())
+    }
+
+    /// A warning of a profile in this line, which its purpose and its chargingProfileId name.
+    pub(crate) fn warn_of(
+        &mut self,
+        purpose: Purpose,
+        id: i32,
+        message: &str,
+    ) -> Result<(), AllocError> {
+        let purpose = purpose_name(purpose);
+        let message = format!(in self.alloc; "{purpose} {id}: {message}")?;
+        self.warn(message)
     }
 
     /// A remark on the line of a number.

@@ -1,5 +1,6 @@
 -- Which points are visited.
-use Rattle.std.specs.Prelude.{ℕ, List, Bool, true, map, string_bytes}
+use Rattle.std.specs.Prelude.{ℕ, List, Option, Some, None, Bool, true, false, if◌then◌else◌, map, string_bytes}
+use Rattle.std.specs.Str.{bytes_eq}
 use Rattle.site_rules.specs.Site.{SiteState, PointEntry}
 use Rattle.operator_calls.specs.declared.visit.Visit.{Visit}
 
@@ -14,3 +15,9 @@ named point = (point.id, true)
 -- all points of a site, in its order
 abbrev pub all_points : SiteState → List (List ℕ × Bool)
 all_points site = map named site.points
+
+-- the visit to a point by a URL that names a point or none: none where it names another one; lines
+-- about the point begin with its identity where the URL doesn't name it
+abbrev pub visit_to : Option (List ℕ) → List ℕ → Option (List ℕ × Bool)
+visit_to None id = Some (id, true)
+visit_to (Some named) id = if bytes_eq named id then Some (id, false) else None

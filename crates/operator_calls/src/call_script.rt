@@ -5,12 +5,10 @@ ghost use Rattle.replay.specs.Limits.{max_script_bytes};
 
 use crate::given_call::GivenCall;
 use crate::visit::Visit;
+use data_folder::LONGEST_FRAME;
 use ocpp_scalars::{Instant, push_instant};
 use replay::MAX_SCRIPT_BYTES;
 use std::alloc::{AllocError, Global};
-
-/// A longer frame has no room on a line of a script, and isn't checked.
-const LONGEST_FRAME: usize = 1_048_576 - 128;
 
 /// A journal's script with calls behind it.
 #[derive(Drop)]
@@ -60,7 +58,8 @@ fn push_visit(
     Ok(())
 }
 
-/// Appends a call to a point as a line of a script. One that is too long for a line is an empty line.
+/// Appends a call to a point as a line of a script. One that is too long for a line is an empty line,
+/// and isn't checked.
 fn push_call(
     script: &mut Vec<u8>,
     moment: Instant,

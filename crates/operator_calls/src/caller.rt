@@ -4,9 +4,11 @@ ghost use Rattle.std.specs.Prelude.{◌≡◌, ◌||◌, not, IfOk};
 ghost use Rattle.findings.specs.ExitStatus.{has_fault};
 
 use crate::given_call::GivenCall;
+use crate::later_changes::LaterChange;
+use crate::undo::UNDO;
 use client::ClientFault;
 use findings::{Finding, SentCheck, Severity, answer_sentence, check_sent, has_fault, json_break};
-use std::alloc::{AllocError, AllocGlobal};
+use std::alloc::{AllocError, AllocGlobal, Global};
 use std::fmt::Display;
 
 /// The exit status where something wasn't sent, or wasn't accepted.
@@ -129,6 +131,29 @@ impl<'a, R: Print + Eprint + AllocGlobal> Caller<'a, R> {
         Ok(false)
     }
 
+    /// Whether an undo is to be sent to the point of an identity that takes back these later changes,
+    /// too. Says them.
+    pub fn passes_undo(
+        &mut self,
+        point: Option<&str>,
+        later: &[LaterChange],
+    ) -> Result<bool, ClientFault> {
+        let alloc = self.rt.alloc();
+        for change in later {
+            let sentence = change.sentence(alloc)?;
+            self.say(format!(in alloc; "central: {sentence}")?);
+        }
+        if self.sending.force || later.is_empty() {
+            return Ok(true);
+        }
+        let label = self.label_of(point)?;
+        let why = "it would take back later changes too, so it isn't sent; --force sends it";
+        self.say(format!(in alloc; "{label}{UNDO}: {why}")?);
+        self.note_refused();
+        self.print(format!(in alloc; "{label}! {UNDO} LaterChanges")?)?;
+        Ok(false)
+    }
+
     /// What each line about a point begins with, where it is called by its identity.
     pub(crate) fn label_of(&self, point: Option<&str>) -> Result<String, AllocError> {
         match point {
@@ -191,7 +216,7 @@ impl<'a, R: Print + Eprint + AllocGlobal> Caller<'a, R> {
         answer: &str,
     ) -> Result<(), ClientFault> {
         self.note_refused();
-        if let Some(sentence) = answer_sentence(self.rt.alloc(), answer)? {
+        if let Some(sentence) = refusal_sentence(self.rt.alloc(), answer)? {
             self.say(format!(in self.rt.alloc(); "{label}{name}: {sentence}")?);
         }
         Ok(())
@@ -212,7 +237,7 @@ impl<'a, R: Print + Eprint + AllocGlobal> Caller<'a, R> {
     }
 
     /// Says something more on standard error. Where that can't be written no answer is lost.
-    fn say(&self, words: String) {
+    pub(crate) fn say(&self, words: String) {
         let _ = self.rt.eprintln(&words);
     }
 
@@ -222,6 +247,18 @@ impl<'a, R: Print + Eprint + AllocGlobal> Caller<'a, R> {
             Ok(()) => Ok(()),
             Err(_) => Err(ClientFault::Write),
         }
+    }
+}
+
+/// What an answer's refusal means. A central system whose device is full says that it lacks memory,
+/// too.
+fn refusal_sentence(alloc: Global, answer: &str) -> Result<Option<String>, AllocError> {
+    match answer_sentence(alloc, answer)? {
+        Some(sentence) if sentence.as_str().starts_with("OutOfMemory:") => {
+            let why = "memory ran out, or the central system's device is full: see its status";
+            Ok(Some(format!(in alloc; "OutOfMemory: {why}")?))
+        }
+        sentence => Ok(sentence),
     }
 }
 

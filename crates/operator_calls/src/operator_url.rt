@@ -7,6 +7,15 @@ pub fn is_without_point(url: &str) -> bool {
     url.trim_end_matches('/').ends_with("/operator")
 }
 
+/// The identity of the point that an operator's URL names, if it names one.
+pub fn point_of_url(url: &str) -> Option<&str> {
+    if is_without_point(url) {
+        None
+    } else {
+        Some(last_segment(url))
+    }
+}
+
 /// The URL of the operator of a point.
 pub fn url_of_point(alloc: Global, base: &str, point: &str) -> Result<String, AllocError> {
     let base = base.trim_end_matches('/');

@@ -6,13 +6,14 @@ use crate::given_call::GivenCall;
 use crate::operator_url::url_of_point;
 use crate::visit::Visit;
 use client::{Address, AnswerLines, CallEnd, ClientFault, Lines, OperatorClient, connect};
+use data_folder::Progress;
 use std::alloc::AllocGlobal;
 use std::fmt::Display;
 use std::io;
 use std::io::Read;
 use std::net::TcpStream;
 use std::random::RandomSource;
-use std::rt::Net;
+use std::rt::{Clock, Net};
 use std::sync::Wait;
 use tungstenite::RandomKeys;
 
@@ -27,16 +28,35 @@ struct Callee<R: RandomSource> {
 
 impl<
     'a,
-    R: Print + Eprint + AllocGlobal + Net<Stream = TcpStream> + RandomSource + Wait + Copy + Drop,
+    R: Print
+        + Eprint
+        + AllocGlobal
+        + Clock
+        + Net<Stream = TcpStream>
+        + RandomSource
+        + Wait
+        + Copy
+        + Drop,
 > Caller<'a, R> {
-    /// Sends calls to points, one after another. Of several a point whose connection fails is named.
+    /// Sends calls to points, one after another. Of several a point whose connection fails is named,
+    /// and where they take long it is said how many are done.
     pub fn send_calls(&mut self, calls: &[GivenCall], visits: &[Visit]) -> Result<(), ClientFault> {
-        for visit in visits {
+        let total = visits.len();
+        let mut progress = Progress::begin(self.rt);
+        let mut is_told = false;
+        for (done, visit) in visits.iter().enumerate() {
+            if progress.is_due(self.rt) {
+                self.say(format!(in self.rt.alloc(); "central: {done} of {total} points")?);
+                is_told = true;
+            }
             match (self.send_to(calls, visit), visit.label()) {
                 (Ok(()), _) => {}
                 (Err(fault), Some(point)) => self.note_failed(point, fault)?,
                 (Err(fault), None) => return Err(fault),
             }
+        }
+        if is_told {
+            self.say(format!(in self.rt.alloc(); "central: {total} of {total} points")?);
         }
         Ok(())
     }

@@ -4,15 +4,20 @@ ghost use Rattle.std.specs.Prelude.{◌≤◌, length};
 ghost use Rattle.replay.specs.Limits.{max_script_bytes};
 
 use crate::given_call::GivenCall;
+use crate::kept::{Kept, is_among, kept_by, transaction_of};
+use crate::later_changes::{LaterChange, PointFollower};
 use client::{clear_call, set_profile_call};
+use data_folder::Progress;
 use findings::takes_place_of;
-use meaning::PrevailingProfile;
-use messages::push_profile;
-use profile::{Purpose, Row};
+use profile::Purpose;
 use replay::Playing;
 use site_core::Machine;
 use site_rules::Site;
-use std::alloc::{AllocError, Global};
+use std::alloc::{AllocError, AllocGlobal, Global};
+use std::rt::Clock;
+
+/// The name of each call of an undo, as its option has it.
+pub const UNDO: &str = "undo";
 
 /// What brings a point back.
 #[derive(Drop)]
@@ -21,6 +26,8 @@ pub struct Undo {
     pub calls: Vec<GivenCall>,
     /// What can't be installed again.
     pub lost: Vec<LostProfile>,
+    /// What later lines changed that is taken back, too.
+    pub later: Vec<LaterChange>,
 }
 
 /// A TxProfile whose transaction has ended.
@@ -30,22 +37,11 @@ pub struct LostProfile {
     pub connector: u32,
 }
 
-/// A profile that a point has or had.
-#[derive(Drop)]
-struct Kept {
-    name: PrevailingProfile,
-    /// The payload that installs it.
-    payload: String,
-    /// The number of its connector's active transaction, of a TxProfile.
-    transaction: Option<i32>,
-    /// Whether it is gone, and is to be installed again.
-    comes_back: bool,
-}
-
 /// What brings the point of an identity back to the profiles that it had before the line of a number
-/// in a script, from those that it has at the end.
-pub fn undo_to(
-    alloc: Global,
+/// in a script, from those that it has at the end. Where playing it takes long it is said on standard
+/// error how many lines are read.
+pub fn undo_to<R: Clock + Eprint + AllocGlobal>(
+    rt: &R,
     script: &[u8],
     site: Site,
     number: u64,
@@ -53,14 +49,20 @@ pub fn undo_to(
 ) -> Result<Undo, AllocError>
     requires { length script.now ≤ max_script_bytes }
 {
+    let alloc = rt.alloc();
+    let mut progress = Progress::of_lines(rt);
     let mut playing = Playing::new(alloc, script, site)?;
-    play_to(&mut playing, script.len(), number)?;
+    play_to(rt, &mut playing, &mut progress, script.len(), number)?;
     let mut before = kept_by(alloc, playing.machine(), point)?;
-    play_to(&mut playing, script.len(), u64::MAX)?;
+    let behind = number.saturating_add(1);
+    play_to(rt, &mut playing, &mut progress, script.len(), behind)?;
+    let mut follower = PointFollower::begin(alloc, playing.machine(), point)?;
+    follow_rest(rt, &mut playing, &mut progress, script.len(), &mut follower)?;
     let now = kept_by(alloc, playing.machine(), point)?;
     let lost = find_lost(alloc, playing.machine(), point, &mut before, now.as_slice())?;
     let calls = calls_between(alloc, before.as_slice(), now.as_slice())?;
-    Ok(Undo { calls, lost })
+    let later = follower.taken_back(before.as_slice())?;
+    Ok(Undo { calls, lost, later })
 }
 
 /// Notes which profiles come back that the point has no more. Returns those that can't.
@@ -89,8 +91,15 @@ fn find_lost(
 
 /// Plays the lines of a script that stand before the line of a number. It has no more lines than
 /// bytes.
-fn play_to(playing: &mut Playing<'_>, length: usize, number: u64) -> Result<(), AllocError> {
+fn play_to<R: Clock + Eprint>(
+    rt: &R,
+    playing: &mut Playing<'_>,
+    progress: &mut Progress,
+    length: usize,
+    number: u64,
+) -> Result<(), AllocError> {
     for _line in 0..length {
+        progress.say_lines(rt, playing.next_line().saturating_sub(1));
         if playing.next_line() >= number || playing.follow_next()?.is_none() {
             break;
         }
@@ -98,52 +107,23 @@ fn play_to(playing: &mut Playing<'_>, length: usize, number: u64) -> Result<(), 
     Ok(())
 }
 
-/// The profiles that a point has.
-fn kept_by(alloc: Global, machine: &Machine, point: &str) -> Result<Vec<Kept>, AllocError> {
-    let mut kept = Vec::new(alloc);
-    if let Some(book) = machine.book_of(point) {
-        for row in book.view().rows {
-            kept.push(Kept {
-                name: name_of(row),
-                payload: payload_of(alloc, row)?,
-                transaction: transaction_of(machine, point, row.connector),
-                comes_back: false,
-            })?;
-        }
+/// Plays the other lines of a script, and follows what they change at a point. They are no more than
+/// its bytes.
+fn follow_rest<R: Clock + Eprint>(
+    rt: &R,
+    playing: &mut Playing<'_>,
+    progress: &mut Progress,
+    length: usize,
+    follower: &mut PointFollower<'_>,
+) -> Result<(), AllocError> {
+    for _line in 0..length {
+        progress.say_lines(rt, playing.next_line().saturating_sub(1));
+        let Some(played) = playing.follow_next()? else {
+            break;
+        };
+        follower.follow(playing.machine(), &played)?;
     }
-    Ok(kept)
-}
-
-/// A profile by its id, its purpose and where it stands.
-fn name_of(row: &Row) -> PrevailingProfile {
-    PrevailingProfile {
-        id: row.profile.id,
-        purpose: row.profile.purpose,
-        stack_level: row.profile.stack_level,
-        connector: row.connector,
-    }
-}
-
-/// The payload of the SetChargingProfile that installs a profile.
-fn payload_of(alloc: Global, row: &Row) -> Result<String, AllocError> {
-    let connector = row.connector;
-    let mut payload = format!(in alloc; "{{\"connectorId\":{connector},\"csChargingProfiles\":")?;
-    push_profile(&mut payload, &row.profile)?;
-    payload.push_str("}")?;
-    Ok(payload)
-}
-
-/// The number of the active transaction at a connector of a point.
-fn transaction_of(machine: &Machine, point: &str, connector: u32) -> Option<i32> {
-    let book = machine.book_of(point)?;
-    let transaction = book.transaction_at(connector)?;
-    Some(transaction.id)
-}
-
-/// Whether one of these profiles is the same, and stands at the same connector.
-fn is_among(kept: &Kept, others: &[Kept]) -> bool {
-    let payload = kept.payload.as_str();
-    others.iter().any(|other| other.payload.as_str() == payload)
+    Ok(())
 }
 
 /// Whether a point may get a profile again: a TxProfile only while its transaction is active.
@@ -163,12 +143,12 @@ fn calls_between(
         if !is_among(added, before) && !is_replaced(added, before) {
             let id = added.name.id;
             let criteria = format!(in alloc; "{{\"id\":{id}}}")?;
-            calls.push(GivenCall::plain("undo", clear_call(alloc, criteria.as_str())?))?;
+            calls.push(GivenCall::plain(UNDO, clear_call(alloc, criteria.as_str())?))?;
         }
     }
     for kept in before {
         if kept.comes_back {
-            calls.push(GivenCall::plain("undo", set_profile_call(alloc, kept.payload.as_str())?))?;
+            calls.push(GivenCall::plain(UNDO, set_profile_call(alloc, kept.payload.as_str())?))?;
         }
     }
     Ok(calls)

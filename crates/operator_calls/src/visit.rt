@@ -1,9 +1,10 @@
 //! Which calls go to which points.
 
-ghost use Rattle.std.specs.Prelude.{◌≡◌, true, false, map, IfOk, IfSome, string_bytes};
-ghost use Rattle.operator_calls.specs.Visits.{visited, all_points};
+ghost use Rattle.std.specs.Prelude.{◌≡◌, true, false, map, option_map, IfOk};
+ghost use Rattle.operator_calls.specs.Visits.{visited, all_points, visit_to};
 
-use crate::operator_url::{is_without_point, last_segment};
+use crate::given_call::GivenCall;
+use crate::operator_url::last_segment;
 use site_rules::Site;
 use std::alloc::{AllocError, Global};
 
@@ -41,21 +42,27 @@ impl Visit {
         Visit::new(alloc, last_segment(url), false, count)
     }
 
-    /// The visit to the point of an identity, with so many calls. None where the operator's URL has
-    /// another point's identity.
+    /// The visit to the point of an identity, with so many calls. None where the operator's URL names
+    /// another point. It may name none.
     pub fn at_point(
         alloc: Global,
-        url: &str,
+        named: Option<&str>,
         id: &str,
         count: usize,
     ) -> Result<Option<Visit>, AllocError>
-        ensures { IfOk result (λ made. IfSome made (λ visit. string_bytes visit.id ≡ id.now)) }
+        ensures { IfOk result (λ made.
+            option_map visited made ≡ visit_to (option_map (λ point. point.now) named.entry) id.now) }
     {
-        let is_labelled = is_without_point(url);
-        if !is_labelled && last_segment(url) != id {
-            return Ok(None);
+        match named {
+            Some(point) if point == id => Ok(Some(Visit::new(alloc, id, false, count)?)),
+            Some(_) => Ok(None),
+            None => Ok(Some(Visit::new(alloc, id, true, count)?)),
         }
-        Ok(Some(Visit::new(alloc, id, is_labelled, count)?))
+    }
+
+    /// Leaves out the calls that have this name.
+    pub fn leave_out(&mut self, name: &str, calls: &[GivenCall]) {
+        self.calls.retain(|place| calls.get(*place).is_some_and(|call| call.name != name));
     }
 
     /// The point's identity, where the URL lacks it.

@@ -1,7 +1,7 @@
 //! The handshake of a connection (RFC 6455, section 4.2): who connects, and whether in OCPP 1.6.
 
 use crate::entry::Entry;
-use crate::refused_request::said_of;
+use crate::request_words::{said_of, user_of};
 use http::{HeaderMap, HeaderName, HeaderValue, Request, Response, StatusCode};
 use std::alloc::{AllocError, Global};
 use std::io::{Read, Write};
@@ -20,6 +20,8 @@ pub(crate) struct ClientRequest {
     pub(crate) path: String,
     /// Whether it offered OCPP 1.6 among its subprotocols.
     pub(crate) offers_ocpp: bool,
+    /// The user that it gave, if it gave one.
+    pub(crate) user: Option<String>,
 }
 
 /// What a client without a right key is asked for (RFC 7617).
@@ -76,7 +78,10 @@ fn accepted(
 ) -> Response<()> {
     let mut response = response;
     let offers_ocpp = offers_ocpp(request.headers());
-    let Ok(path) = String::from_str(alloc, request.uri().path()) else {
+    let (Ok(path), Ok(user)) = (
+        String::from_str(alloc, request.uri().path()),
+        user_of(alloc, request),
+    ) else {
         return response;
     };
     if offers_ocpp {
@@ -86,7 +91,11 @@ fn accepted(
             return response;
         };
     }
-    *asked = Some(ClientRequest { path, offers_ocpp });
+    *asked = Some(ClientRequest {
+        path,
+        offers_ocpp,
+        user,
+    });
     response
 }
 

@@ -4,6 +4,7 @@
 #![tactic(auto)]
 
 mod accepting;
+mod arrivals;
 mod attending;
 mod boot_changes;
 mod boot_keeper;
@@ -20,7 +21,7 @@ mod own_host;
 mod pace;
 mod path;
 mod present_streams;
-mod refused_request;
+mod request_words;
 mod seat;
 mod seat_context;
 mod seats;
@@ -31,7 +32,6 @@ mod site_watch;
 mod status_port;
 mod status_service;
 mod status_stream;
-mod unadmitted;
 mod unfinished_handshakes;
 mod watched_journal;
 mod workers;

@@ -2,6 +2,7 @@
 
 ghost use Rattle.session.specs.Serving.{KeepsPass};
 
+use crate::arrivals::{note_operator, note_unknown, note_unshaken};
 use crate::attending::attend_session;
 use crate::connection::{Admitted, admit, close_at_once};
 use crate::entry::Entry;
@@ -9,7 +10,6 @@ use crate::handshake::{ClientRequest, Unshaken, shake_hands};
 use crate::incoming_stream::IncomingStream;
 use crate::seat_context::SeatContext;
 use crate::session_watch::SessionWatch;
-use crate::unadmitted::{note_unknown, note_unshaken};
 use chronicle::ChronicleName;
 use compile_pool::Jobs;
 use crossbeam_channel::Receiver;
@@ -105,7 +105,12 @@ fn serve_incoming<
     }
     socket.set_config(limits());
     match admit(context, &asked) {
-        Ok(Some(admitted)) => serve_admitted(seats, context, socket, admitted, pass),
+        Ok(Some(admitted)) => {
+            if let Peer::Operator { .. } = admitted.core.peer() {
+                note_operator(seats, &asked, from);
+            }
+            serve_admitted(seats, context, socket, admitted, pass)
+        }
         Ok(None) => {
             note_unknown(seats, &asked, from);
             close_at_once(socket);

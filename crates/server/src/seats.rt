@@ -1,6 +1,6 @@
 //! A server that goes on: it serves N connections at a time, and any number one after another.
 
-ghost use Rattle.std.specs.Prelude.{◌≡◌, ◌≤◌, ◌+◌, IfOk, length};
+ghost use Rattle.std.specs.Prelude.{◌≡◌, ◌≤◌, ◌+◌, true, IfOk, length};
 
 use crate::accepting::accept_connections;
 use crate::seat::keep_seat;
@@ -85,6 +85,7 @@ impl<C: Ledger, A: Ledger, N: ChronicleName> SeatedBook<C, A, N> {
         requires answers { (blanks.1.name ≡ A.name) × (blanks.1.parts ≡ A.parts)
             × (blanks.1.parts ≡ seats + 1) }
         requires states { states.name ≡ N.name }
+        requires recorded { N.is_recorded ≡ true }
         ensures { IfOk result (λ book. length book.seats.items ≡ seats) }
     {
         let (changes, answers) = blanks;

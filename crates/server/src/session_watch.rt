@@ -1,7 +1,7 @@
 //! What a session is seen to do: for the status of its site, and as lines for people.
 
 use crate::seat_context::SeatContext;
-use crate::site_watch::Reply;
+use crate::site_watch::{Rejected, Reply};
 use chronicle::ChronicleName;
 use messages::ActionKind;
 use ocpp_scalars::{Instant, Moments};
@@ -129,12 +129,10 @@ impl<
     fn hear_reply(&self, core: &SessionCore, reply: Reply) {
         let seats = self.seats;
         let call = reply.call;
-        let is_rejected = reply.rejection.is_some();
         let said = reason_of(seats.alloc, &reply);
-        let action = seats.watch.reply(&seats.rt, self.place, reply);
-        if !is_rejected {
+        let Some(Rejected { action }) = seats.watch.reply(&seats.rt, self.place, reply) else {
             return;
-        }
+        };
         let what: Result<String, AllocError> = match said {
             Ok(reason) => rejected(seats.alloc, call, action, reason.as_str()),
             Err(AllocError) => Err(AllocError),

@@ -4,7 +4,9 @@ use crate::boot_changes::BootChanges;
 use messages::ActionKind;
 use ocpp_scalars::Instant;
 use site_core::Machine;
-use site_status::{Boot, CallMoments, CallNumbers, PointNews, Sighting, SiteCounts, boot_to_keep};
+use site_status::{
+    Boot, CallMoments, CallNumbers, PointNews, SentMoment, Sighting, SiteCounts, boot_to_keep,
+};
 use std::alloc::{AllocError, Global};
 use std::sync::{Mutex, Wait};
 
@@ -32,6 +34,13 @@ pub(crate) struct Reply {
     /// Why the point rejects it, if it does.
     pub(crate) rejection: Option<String>,
     pub(crate) moment: Instant,
+}
+
+/// A call was rejected.
+#[derive(Clone, Copy, Debug)]
+pub(crate) struct Rejected {
+    /// What it asked, where that is known.
+    pub(crate) action: Option<ActionKind>,
 }
 
 impl SiteWatch {
@@ -147,18 +156,28 @@ impl SiteWatch {
         Ok(since)
     }
 
-    /// The point at a place replied to a call. Returns what that asked, where it is known.
-    pub(crate) fn reply<R: Wait>(&self, rt: &R, place: usize, reply: Reply) -> Option<ActionKind> {
+    /// The point at a place replied to a call. Where it rejects it, returns what that asked.
+    pub(crate) fn reply<R: Wait>(&self, rt: &R, place: usize, reply: Reply) -> Option<Rejected> {
+        let Reply {
+            call,
+            rejection,
+            moment,
+        } = reply;
         let mut seen = self.seen.lock(rt);
         let news = seen.points.get_mut(place)?;
         let kept = boot_to_keep(news);
-        let action = news.reply(reply.call, reply.rejection, reply.moment);
+        let rejection = rejection_of(news.sent, call, rejection);
+        let is_rejected = rejection.is_some();
+        let action = news.reply(call, rejection, moment);
         let is_new = boot_to_keep(news) != kept;
         drop(seen);
         if is_new {
             self.boots.note(rt);
         }
-        action
+        if is_rejected {
+            return Some(Rejected { action });
+        }
+        None
     }
 
     /// The connection over which the point at a place had this link has ended. Returns whether it
@@ -228,5 +247,18 @@ fn no_counts() -> SiteCounts {
         answers: 0,
         refused_handshakes: 0,
         turned_away: 0,
+    }
+}
+
+/// Why a call is rejected, if it is. That no profile matched a ClearChargingProfile leaves nothing
+/// undone.
+fn rejection_of(sent: Option<SentMoment>, call: u64, rejection: Option<String>) -> Option<String> {
+    let status = rejection?;
+    match sent {
+        Some(sent)
+            if sent.number == call
+                && sent.action == ActionKind::ClearChargingProfile
+                && status.as_str() == "Unknown" => { None }
+        _ => Some(status),
     }
 }

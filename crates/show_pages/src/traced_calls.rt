@@ -33,7 +33,7 @@ pub struct RejectedCall {
     pub call: SentCall,
     /// The line with the point's reply.
     pub line: u64,
-    /// The reply's status, or `CALLERROR`.
+    /// The reply's status, or that it has none that is known, or `CALLERROR`.
     pub status: String,
 }
 
@@ -123,7 +123,7 @@ impl PointCalls {
         let Some(call) = self.in_flight.take() else {
             return Ok(());
         };
-        match rejection_in(alloc, memory, reply)? {
+        match rejection_in(alloc, memory, call.action, reply)? {
             Some(status) => self.rejected.push(RejectedCall { call, line, status })?,
             None => {
                 let done = call.what.as_str();

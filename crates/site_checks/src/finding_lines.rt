@@ -9,12 +9,12 @@ use std::fmt::Write;
 const SCRIPT: &str = "script";
 
 /// What is found in a site file, line by line: faults first, which would be hard to find among the
-/// remarks on many points. Equal remarks on points are one line.
+/// remarks on many points. Equal warnings and remarks on points are one line.
 pub fn site_page(alloc: Global, name: &str, findings: &[Finding]) -> Result<String, AllocError> {
     let mut page = String::new(alloc);
-    push_of_severity(&mut page, name, findings, Severity::Fault)?;
-    push_of_severity(&mut page, name, findings, Severity::Warning)?;
-    push_remarks(&mut page, name, findings)?;
+    for severity in [Severity::Fault, Severity::Warning, Severity::Remark] {
+        push_of_severity(&mut page, name, findings, severity)?;
+    }
     Ok(page)
 }
 
@@ -31,7 +31,7 @@ pub fn push_findings(
 }
 
 /// Appends a line for each finding in a script, in the order of its lines, with the points of these.
-/// Equal remarks on what points have at the end, which stands last, are one line.
+/// Equal ones on what points have at the end, which stands last, are one line.
 pub(crate) fn push_script_findings(
     page: &mut String,
     lines: &mut LinePoints<'_>,
@@ -46,12 +46,8 @@ pub(crate) fn push_script_findings(
     for finding in in_lines {
         push_in_line(page, lines, finding)?;
     }
-    for (number, finding) in at_end.iter().enumerate() {
-        if finding.severity == Severity::Remark {
-            push_once(page, SCRIPT, at_end, number)?;
-        } else {
-            push_finding(page, SCRIPT, finding)?;
-        }
+    for number in 0..at_end.len() {
+        push_once(page, SCRIPT, at_end, number)?;
     }
     Ok(())
 }
@@ -89,9 +85,9 @@ fn push_of_severity(
     findings: &[Finding],
     severity: Severity,
 ) -> Result<(), AllocError> {
-    for finding in findings {
+    for (number, finding) in findings.iter().enumerate() {
         if finding.severity == severity {
-            push_finding(page, name, finding)?;
+            push_once(page, name, findings, number)?;
         }
     }
     Ok(())
@@ -104,39 +100,30 @@ fn push_finding(page: &mut String, name: &str, finding: &Finding) -> Result<(), 
     }
 }
 
-/// Appends a line for each remark, with those on later points that say the same.
-fn push_remarks(page: &mut String, name: &str, findings: &[Finding]) -> Result<(), AllocError> {
-    for (number, remark) in findings.iter().enumerate() {
-        if remark.severity == Severity::Remark {
-            push_once(page, name, findings, number)?;
-        }
-    }
-    Ok(())
-}
-
-/// Appends the remark of this number, unless it was made before on another point.
+/// Appends the finding of this number, unless it was made before on another point.
 fn push_once(
     page: &mut String,
     name: &str,
     findings: &[Finding],
     number: usize,
 ) -> Result<(), AllocError> {
-    let Some(remark) = findings.get(number) else {
+    let Some(finding) = findings.get(number) else {
         return Ok(());
     };
     let (earlier, rest) = findings.split_at(number);
-    if earlier.iter().any(|other| is_same_remark(remark, other)) {
+    if earlier.iter().any(|other| are_alike(finding, other)) {
         return Ok(());
     }
-    push_remark(page, name, remark, rest)
+    push_counted(page, name, finding, rest)
 }
 
-/// Whether both are remarks on points, in the same words.
-fn is_same_remark(remark: &Finding, other: &Finding) -> bool {
-    is_on_point(remark)
+/// Whether both are warnings on points, or both remarks, in the same words.
+fn are_alike(finding: &Finding, other: &Finding) -> bool {
+    is_on_point(finding)
         && is_on_point(other)
-        && other.severity == Severity::Remark
-        && remark.message.as_str() == other.message.as_str()
+        && finding.severity != Severity::Fault
+        && finding.severity == other.severity
+        && finding.message.as_str() == other.message.as_str()
 }
 
 /// Whether a finding is on a point of the site file, or on what a point has at the end.
@@ -144,33 +131,33 @@ fn is_on_point(finding: &Finding) -> bool {
     matches!(finding.place, Location::Point { .. } | Location::End(_))
 }
 
-/// Appends a remark, with the last point of the rest on which it is made too, and the number of all.
-fn push_remark(
+/// Appends a finding, with the last point of the rest on which it is made too, and the number of all.
+fn push_counted(
     page: &mut String,
     name: &str,
-    remark: &Finding,
+    finding: &Finding,
     rest: &[Finding],
 ) -> Result<(), AllocError> {
     let mut count = 0usize;
-    let mut last = remark;
+    let mut last = finding;
     for other in rest {
-        if is_same_remark(remark, other) {
+        if are_alike(finding, other) {
             count = count.saturating_add(1);
             last = other;
         }
     }
     if count < 2 {
-        return push_finding(page, name, remark);
+        return push_finding(page, name, finding);
     }
-    let message = remark.message.as_str();
-    let written = match (&remark.place, &last.place) {
+    let (severity, message) = (finding.severity, finding.message.as_str());
+    let written = match (&finding.place, &last.place) {
         (Location::End(from), Location::End(to)) => writeln!(
             page,
-            "{name}: {from} to {to}, {count} points, at the end: remark: {message}"
+            "{name}: {from} to {to}, {count} points, at the end: {severity}: {message}"
         ),
         (from, to) => writeln!(
             page,
-            "{name}: {from} to {to}, {count} points: remark: {message}"
+            "{name}: {from} to {to}, {count} points: {severity}: {message}"
         ),
     };
     match written {

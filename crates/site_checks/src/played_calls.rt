@@ -5,10 +5,12 @@ ghost use Rattle.replay.specs.Limits.{max_script_bytes};
 
 use crate::played_lines::{find_at_point, find_in_changes, find_in_played};
 use crate::point_fuses::fuse_at;
+use data_folder::Progress;
 use findings::{Finding, ScriptCheck, Severity, check_fuse, check_sent};
 use show_pages::{Depth, Trace};
 use site_rules::Site;
 use std::alloc::{AllocError, Global};
+use std::rt::Clock;
 
 /// A script that was played up to the calls behind it, each of which is a line.
 #[derive(Drop)]
@@ -17,8 +19,10 @@ pub struct PlayedCalls<'a> {
 }
 
 impl<'a> PlayedCalls<'a> {
-    /// Plays the first lines of a script, so many.
-    pub fn behind(
+    /// Plays the first lines of a script, so many. Where that takes long it is said on standard error
+    /// how many are read.
+    pub fn behind<R: Clock + Eprint>(
+        rt: &R,
         alloc: Global,
         script: &'a [u8],
         lines: u64,
@@ -27,7 +31,9 @@ impl<'a> PlayedCalls<'a> {
         requires { length script.now ≤ max_script_bytes }
     {
         let mut trace = Trace::new(alloc, script, site, Depth::Refusals)?;
-        for _line in 0..lines {
+        let mut progress = Progress::of_lines(rt);
+        for line in 0..lines {
+            progress.say_lines(rt, line);
             match trace.next()? {
                 Some(played) => trace.take_in(played)?,
                 None => break,

@@ -7,12 +7,14 @@ use crate::finding_lines::push_script_findings;
 use crate::line_points::LinePoints;
 use crate::played_lines::{find_at_point, find_in_changes, find_in_played};
 use crate::point_fuses::PointFuses;
+use data_folder::Progress;
 use findings::{Finding, ScriptCheck, check_boot, sort_by_line};
 use show_pages::{Depth, Trace, ending_text, trace_text};
 use site_core::Machine;
 use site_rules::Site;
 use site_status::{Boot, may_forget_since};
 use std::alloc::{AllocError, Global};
+use std::rt::Clock;
 
 /// What is played on a site.
 #[derive(Clone, Copy, Debug)]
@@ -24,8 +26,9 @@ pub struct PlayedScript<'a> {
 }
 
 /// Appends what is found in a script that is played on a site, and what it leaves undone. Returns
-/// what is found.
-pub fn push_played(
+/// what is found. Where that takes long it is said on standard error how many lines are read.
+pub fn push_played<R: Clock + Eprint>(
+    rt: &R,
     page: &mut String,
     site: Site,
     played: &PlayedScript<'_>,
@@ -39,7 +42,7 @@ pub fn push_played(
         Depth::Refusals
     };
     let mut trace = Trace::new(alloc, played.script, site, depth)?;
-    let mut findings = find_in_lines(alloc, played.script, &mut trace)?;
+    let mut findings = find_in_lines(rt, alloc, played.script, &mut trace)?;
     find_in_changes(alloc, &trace, 0, &mut findings)?;
     find_at_the_end(alloc, &trace, &mut findings)?;
     find_in_boots(
@@ -60,7 +63,8 @@ pub fn push_played(
 
 /// Plays a script line by line. Returns what is found in its lines, and what is found in what they
 /// print.
-fn find_in_lines(
+fn find_in_lines<R: Clock + Eprint>(
+    rt: &R,
     alloc: Global,
     script: &[u8],
     trace: &mut Trace<'_>,
@@ -68,11 +72,13 @@ fn find_in_lines(
     let mut check = ScriptCheck::new(alloc);
     let mut printed = Vec::new(alloc);
     let mut fuses = PointFuses::new(alloc, trace.playing().machine())?;
+    let mut progress = Progress::of_lines(rt);
     // Each line has a byte at least.
     for _line in 0..script.len() {
         let Some(played) = trace.next()? else {
             break;
         };
+        progress.say_lines(rt, played.number);
         if let Some(raise) = fuses.follow(alloc, trace.playing().machine(), &played)? {
             printed.push(raise)?;
         }

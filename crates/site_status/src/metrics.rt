@@ -3,6 +3,7 @@
 use crate::health::Health;
 use crate::point_summary::{PointCalls, PointSummary, calls_of_points, summary_at};
 use crate::site_report::SiteReport;
+use messages::AuditOutcome;
 use ocpp_scalars::Instant;
 use std::alloc::{AllocError, Global};
 
@@ -212,9 +213,10 @@ enum PointFigure {
     Confirmed,
     Rejected,
     MayHaveForgotten,
+    AuditDiffers,
 }
 
-const POINT_FIGURES: [PointFigure; 10] = [
+const POINT_FIGURES: [PointFigure; 11] = [
     PointFigure::Connected,
     PointFigure::LastText,
     PointFigure::Boot,
@@ -225,6 +227,7 @@ const POINT_FIGURES: [PointFigure; 10] = [
     PointFigure::Confirmed,
     PointFigure::Rejected,
     PointFigure::MayHaveForgotten,
+    PointFigure::AuditDiffers,
 ];
 
 impl PointFigure {
@@ -240,6 +243,7 @@ impl PointFigure {
             PointFigure::Confirmed => "central_calls_confirmed_total",
             PointFigure::Rejected => "central_calls_rejected_total",
             PointFigure::MayHaveForgotten => "central_point_may_have_forgotten",
+            PointFigure::AuditDiffers => "central_point_audit_differs",
         }
     }
 
@@ -258,6 +262,7 @@ impl PointFigure {
             PointFigure::MayHaveForgotten => {
                 "Whether it booted and confirmed no install since, so that it may have lost its profiles."
             }
+            PointFigure::AuditDiffers => "Whether it told another schedule in its last audit.",
         }
     }
 
@@ -278,6 +283,9 @@ impl PointFigure {
             PointFigure::Confirmed => Some(point.calls.confirmed),
             PointFigure::Rejected => Some(point.news.rejections),
             PointFigure::MayHaveForgotten => Some(u64::from(point.calls.may_have_forgotten)),
+            PointFigure::AuditDiffers => Some(u64::from(
+                point.calls.audit == AuditOutcome::Differs,
+            )),
         }
     }
 }

@@ -12,6 +12,7 @@ use crate::point_summary::{PointSummary, calls_of_points, summary_at};
 use crate::site_report::SiteReport;
 use crate::strip::{Shown, push_strip};
 use explain_pages::push_element;
+use messages::AuditOutcome;
 use ocpp_scalars::{Instant, push_instant};
 use std::alloc::{AllocError, Global};
 
@@ -160,6 +161,10 @@ fn push_state(out: &mut String, point: &PointSummary<'_>) -> Result<(), AllocErr
     if point.calls.may_have_forgotten {
         out.push_str("<p class=\"warning\">It booted, and may have forgotten its profiles: ")?;
         out.push_str("audit it, or install them anew.</p>\n")?;
+    }
+    if point.calls.audit == AuditOutcome::Differs {
+        out.push_str("<p class=\"warning\">In its last audit it told another schedule: ")?;
+        out.push_str("clear its profiles, and install them anew.</p>\n")?;
     }
     Ok(())
 }

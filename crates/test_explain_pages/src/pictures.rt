@@ -212,7 +212,11 @@ fn expect_everywhere(rt: &impl Abort, alloc: Global, reason: NoPart) -> Result<(
         }],
     };
     let text = sentence(reason);
-    expect(rt, write_table(alloc, &explained, None)?.as_str(), text);
+    expect(
+        rt,
+        write_table(alloc, &explained, None, None)?.as_str(),
+        text,
+    );
     expect(rt, write_json(alloc, &explained)?.as_str(), text);
     let words = text.replace(alloc, "'", "&#39;")?;
     expect(rt, write_page(alloc, &explained)?.as_str(), words.as_str());

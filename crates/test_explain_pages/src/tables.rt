@@ -111,7 +111,10 @@ fn tables_fit_the_terminal(rt: HostRuntime) -> Result<(), Fail> {
         (Some(200), OF_200),
     ];
     for (columns, text) in wanted {
-        assert_eq!(rt; write_table(alloc, &explained, columns)?.as_str(), text);
+        assert_eq!(rt;
+            write_table(alloc, &explained, columns, None)?.as_str(),
+            text
+        );
     }
     Ok(())
 }
@@ -168,7 +171,10 @@ fn a_sum_has_its_shares(rt: HostRuntime) -> Result<(), Fail> {
         intervals: &intervals,
         not_counted: &[],
     };
-    assert_eq!(rt; write_table(alloc, &explained, None)?.as_str(), SUM_TABLE);
+    assert_eq!(rt;
+        write_table(alloc, &explained, None, None)?.as_str(),
+        SUM_TABLE
+    );
     let with_never = ExplainedAsk {
         not_counted: &never,
         ..explained
@@ -202,7 +208,10 @@ fn the_calendar_ends(rt: HostRuntime) -> Result<(), Fail> {
         intervals: &intervals,
         not_counted: &[],
     };
-    assert_eq!(rt; write_table(alloc, &explained, None)?.as_str(), LAST_TABLE);
+    assert_eq!(rt;
+        write_table(alloc, &explained, None, None)?.as_str(),
+        LAST_TABLE
+    );
     assert_eq!(rt; write_json(alloc, &explained)?.as_str(), LAST_JSON);
     Ok(())
 }

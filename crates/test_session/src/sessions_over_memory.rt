@@ -703,7 +703,8 @@ impl<R: Abort + Wait, N: ChronicleName> Journal<N> for Lines<'_, R> {
         _before: &RecordedStates<N>,
         _after: &RecordedStates<N>,
     )
-        requires { IsOfMadeStep entry number (IsAt _before.now) (IsAt _after.now) }
+        requires { IsOfMadeStep entry number
+            (IsAt N.is_recorded _before.now) (IsAt N.is_recorded _after.now) }
     {
         let mut noted = self.noted.lock(self.rt);
         entry.push(&mut noted, number).expect(self.rt, "error");

@@ -48,7 +48,8 @@ central_call_waiting_seconds{point="CP1"} 55
 central_calls_in_flight{point="CP1"} 0
 central_calls_confirmed_total{point="CP2"} 0
 central_calls_rejected_total{point="CP1"} 1
-central_point_may_have_forgotten{point="CP1"} 0"#;
+central_point_may_have_forgotten{point="CP1"} 0
+central_point_audit_differs{point="CP2"} 0"#;
 
 #[test]
 fn figures(rt: HostRuntime) {

@@ -5,11 +5,12 @@ use crate::program::login::read_login;
 use crate::program::program_fault::ProgramFault;
 use crate::program::site_file::read_site_file;
 use crate::program::state_check::check_visits;
-use crate::program::undoing::{Undoing, undo_of};
+use crate::program::undoing::{Undoing, hold_undo, undo_of};
+use crate::program::waiting_calls::say_waiting;
 use client::{Address, Lines};
 use command_line::Calling;
 use operator_calls::{
-    Caller, GivenCall, Sending, Visit, is_without_point, url_of_point, visits_of_site,
+    Caller, GivenCall, Sending, Visit, is_without_point, point_of_url, url_of_point, visits_of_site,
 };
 use site_rules::Site;
 use std::alloc::{AllocError, AllocGlobal, Global};
@@ -54,15 +55,33 @@ pub fn call_site<
         return Ok(caller.status());
     }
     let calls = caller.passed(given)?;
-    let mut visits = match &undo {
-        Some(undoing) => undo_visit(rt.alloc(), calling.url, undoing, calls.len())?,
-        None => visits_of(rt.alloc(), calling, &site, calls.len())?,
-    };
-    if let (Some(folder), Some(site)) = (calling.folder, site) {
-        check_visits(rt, &mut caller, folder, site, calls.as_slice(), &mut visits)?;
-    }
+    let visits = visits_of(rt, calling, &mut caller, &undo, site, calls.as_slice())?;
     caller.send_calls(calls.as_slice(), visits.as_slice())?;
+    say_waiting(rt, calling, visits.as_slice())?;
     Ok(caller.status())
+}
+
+/// Which calls go to which points: to the point of what is undone, to each of the site, or to that of
+/// the URL. Leaves out those that are held back, and says why.
+fn visits_of<R: Files<File = File> + Clock + Print + Eprint + AllocGlobal>(
+    rt: &R,
+    calling: Calling<'_>,
+    caller: &mut Caller<'_, R>,
+    undo: &Option<Undoing>,
+    site: Option<Site>,
+    calls: &[GivenCall],
+) -> Result<Vec<Visit>, ProgramFault> {
+    let mut visits = match undo {
+        Some(undoing) => undo_visit(rt.alloc(), calling.url, undoing, calls.len())?,
+        None => plain_visits(rt.alloc(), calling, &site, calls.len())?,
+    };
+    if let Some(undoing) = undo {
+        hold_undo(caller, undoing, calls, &mut visits)?;
+    }
+    if let (Some(folder), Some(site)) = (calling.folder, site) {
+        check_visits(rt, caller, folder, site, calls, &mut visits)?;
+    }
+    Ok(visits)
 }
 
 /// Refuses a URL that can't be an operator's, and options without what belongs to them.
@@ -91,7 +110,7 @@ fn check_url(alloc: Global, calling: Calling<'_>) -> Result<(), ProgramFault> {
 }
 
 /// What undoes the line that is to be undone, if one is.
-fn undo_in<R: Files<File = File> + Eprint + AllocGlobal>(
+fn undo_in<R: Files<File = File> + Clock + Eprint + AllocGlobal>(
     rt: &R,
     calling: Calling<'_>,
 ) -> Result<Option<Undoing>, ProgramFault> {
@@ -112,7 +131,7 @@ fn undo_calls(alloc: Global, undo: &mut Option<Undoing>) -> Vec<GivenCall> {
 }
 
 /// The points that so many calls go to: each of the site, or that of the URL.
-fn visits_of(
+fn plain_visits(
     alloc: Global,
     calling: Calling<'_>,
     site: &Option<Site>,
@@ -135,7 +154,8 @@ fn undo_visit(
     undoing: &Undoing,
     count: usize,
 ) -> Result<Vec<Visit>, ProgramFault> {
-    let Some(visit) = Visit::at_point(alloc, url, undoing.point.as_str(), count)? else {
+    let named = point_of_url(url);
+    let Some(visit) = Visit::at_point(alloc, named, undoing.point.as_str(), count)? else {
         return Err(ProgramFault::UndoElsewhere);
     };
     let mut visits = Vec::new(alloc);

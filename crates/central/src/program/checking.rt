@@ -13,12 +13,12 @@ use site_rules::{Site, SiteFault, read_site};
 use site_status::Boot;
 use std::alloc::{AllocError, AllocGlobal, Global};
 use std::fs::File;
-use std::rt::Files;
+use std::rt::{Clock, Files};
 
 /// Says everything that is wrong with the site of a file, with a file of keys, and with the script
 /// of standard input or of a file, or with the journal of a folder.
 /// Returns the exit status.
-pub fn check_file<R: Files<File = File> + Input + Print + Eprint + AllocGlobal>(
+pub fn check_file<R: Files<File = File> + Clock + Input + Print + Eprint + AllocGlobal>(
     rt: &R,
     checking: Checking<'_>,
 ) -> Result<u8, ProgramFault> {
@@ -38,7 +38,7 @@ pub fn check_file<R: Files<File = File> + Input + Print + Eprint + AllocGlobal>(
             with_trace: checking.trace,
         };
         let mut page = String::new(alloc);
-        let mut more = push_played(&mut page, site, &played)?;
+        let mut more = push_played(rt, &mut page, site, &played)?;
         findings.append(&mut more)?;
         print_page(rt, page.as_str())?;
     }

@@ -9,10 +9,14 @@ use crate::program::program_fault::ProgramFault;
 use crate::program::script_end::script_end;
 use crate::program::script_input::read_script_of;
 use crate::program::site_file::read_digested_site;
+use crate::program::unzoned::note_unzoned;
+use crate::program::waiting_calls::say_unconfirmed;
+use crate::program::zone_file::{read_clock_shifts, zone_name};
 use command_line::{Explaining, Source, Start, read_duration};
 use data_folder::{Following, ScriptEnd, follow_journal};
 use explain_pages::{
-    ExplainedAsk, not_counted, write_json, write_page, write_picture, write_table,
+    ClockShift, ExplainedAsk, ZoneClock, not_counted, write_json, write_page, write_picture,
+    write_table,
 };
 use meaning::Ask;
 use ocpp_scalars::{Instant, write_instant};
@@ -26,18 +30,20 @@ use std::fs::File;
 use std::rt::{Clock, Files};
 use sweep_compiler::{Turns, explain};
 
-/// Says why the limits of a connector are what they are after a script or a journal. Faults of a
-/// picture's name, the instants and the site file, and what isn't in it, are reported before the
-/// script is read. Returns the exit status.
+/// Says why the limits of a connector are what they are after a script or a journal. Faults of the
+/// names of a picture and a zone, the instants and the site file, and what isn't in it, are reported
+/// before the script is read. Returns the exit status.
 pub fn explain_file<R: Files<File = File> + Input + Print + Eprint + Clock + AllocGlobal>(
     rt: &R,
     screen: Screen,
     explaining: Explaining<'_>,
 ) -> Result<u8, ProgramFault> {
     let picture = picture_of(&explaining)?;
+    let zone = zone_name(&explaining)?;
     let start = start_of(rt, explaining.start)?;
     let ask = ask_of(&explaining, start)?;
-    let end = script_end(explaining.at)?;
+    let end = script_end(rt, explaining.at)?;
+    let shifts = read_clock_shifts(rt, zone, &ask)?;
     let (site, digest) = read_digested_site(rt, explaining.site)?;
     check_connector(&site, explaining.point, ask.connector)?;
     let presentation = Presentation {
@@ -45,6 +51,8 @@ pub fn explain_file<R: Files<File = File> + Input + Print + Eprint + Clock + All
         screen,
         unit: site.unit(),
         picture,
+        zone,
+        shifts: shifts.as_slice(),
     };
     let Source::Journal(folder) = explaining.source else {
         return explain_script(rt, presentation, end, site, &ask);
@@ -56,11 +64,18 @@ pub fn explain_file<R: Files<File = File> + Input + Print + Eprint + Clock + All
         end,
         point: explaining.point,
         counted_from: Some(ask.start),
+        is_quiet: false,
     };
     let followed = follow_journal(rt, following)?;
     note_later_changes(rt, explaining.point, start, followed.changes())?;
+    say_unconfirmed(
+        rt,
+        explaining.point,
+        followed.unconfirmed_of(explaining.point),
+        followed.waiting_since(),
+    )?;
     print_explained(rt, presentation, followed.machine(), &ask)?;
-    Ok(page_status(!followed.is_torn()))
+    Ok(page_status(followed.is_as_wanted()))
 }
 
 /// Explains what a point has after the script of standard input or of a file. Returns the exit
@@ -113,6 +128,21 @@ struct Presentation<'a> {
     screen: Screen,
     unit: Unit,
     picture: Option<Picture<'a>>,
+    /// The zone in which the table has its times.
+    zone: Option<&'a str>,
+    /// How far its clock is ahead of UTC.
+    shifts: &'a [ClockShift],
+}
+
+impl<'a> Presentation<'a> {
+    /// The clock of the zone that is named.
+    fn zone_clock(&self) -> Option<ZoneClock<'a>> {
+        let name = self.zone?;
+        Some(ZoneClock {
+            name,
+            shifts: self.shifts,
+        })
+    }
 }
 
 /// The picture that the options want.
@@ -138,13 +168,17 @@ fn check_connector(site: &Site, point: &str, connector: u32) -> Result<(), Progr
     Ok(())
 }
 
-/// The instant from which on is explained: the present one, or the one that is named.
-fn start_of<R: Clock>(rt: &R, text: &str) -> Result<Instant, ProgramFault> {
+/// The instant from which on is explained: the present one, or the one that is named. Says where that
+/// has no zone.
+fn start_of<R: Clock + Eprint>(rt: &R, text: &str) -> Result<Instant, ProgramFault> {
     let Ok(start) = Start::of(text) else {
         return Err(ProgramFault::NoInstant);
     };
     match start.named() {
-        Some(instant) => Ok(instant),
+        Some(instant) => {
+            note_unzoned(rt, "--start", text);
+            Ok(instant)
+        }
         None => now(rt),
     }
 }
@@ -165,7 +199,7 @@ fn ask_of(explaining: &Explaining<'_>, start: Instant) -> Result<Ask, ProgramFau
 }
 
 /// Prints the explanation of a request by what the point has in this state, and writes its picture.
-fn print_explained<R: Files + Print + AllocGlobal>(
+fn print_explained<R: Files + Print + Eprint + AllocGlobal>(
     rt: &R,
     presentation: Presentation<'_>,
     machine: &Machine,
@@ -183,7 +217,7 @@ fn print_explained<R: Files + Print + AllocGlobal>(
 }
 
 /// Prints the explanation of a request at a connector of the book, and writes its picture.
-fn print_explanation<R: Files + Print + AllocGlobal>(
+fn print_explanation<R: Files + Print + Eprint + AllocGlobal>(
     rt: &R,
     presentation: Presentation<'_>,
     book: &PointBook,
@@ -213,7 +247,12 @@ fn print_explanation<R: Files + Print + AllocGlobal>(
     let page = if presentation.explaining.json {
         write_json(alloc, &explained)?
     } else {
-        write_table(alloc, &explained, presentation.screen.columns())?
+        write_table(
+            alloc,
+            &explained,
+            presentation.screen.columns(),
+            presentation.zone_clock(),
+        )?
     };
     print_page(rt, page.as_str())
 }

@@ -6,11 +6,12 @@ use client::{ask_call, audit_call, clear_call, remote_start_call, set_profile_ca
 use command_line::{Calling, Starting};
 use operator_calls::GivenCall;
 use std::alloc::{AllocError, AllocGlobal, Global};
+use std::fs::File;
 use std::rt::Files;
 
 /// The calls of the options, in their order. A connector that is no number is a fault before the
 /// files are read.
-pub fn given_calls<R: Files + Eprint + AllocGlobal>(
+pub fn given_calls<R: Files<File = File> + Eprint + AllocGlobal>(
     rt: &R,
     calling: Calling<'_>,
 ) -> Result<Vec<GivenCall>, ProgramFault> {
@@ -67,7 +68,7 @@ fn connector_of(starting: Starting<'_>) -> Result<u32, ProgramFault> {
 }
 
 /// The RemoteStartTransaction at a connector, with the profile of its file, where one is given.
-fn remote_start_of<R: Files + Eprint + AllocGlobal>(
+fn remote_start_of<R: Files<File = File> + Eprint + AllocGlobal>(
     rt: &R,
     connector: u32,
     starting: Starting<'_>,

@@ -3,10 +3,11 @@
 use crate::program::payload_file::read_payload_file;
 use crate::program::program_fault::ProgramFault;
 use std::alloc::AllocGlobal;
+use std::fs::File;
 use std::rt::Files;
 
 /// Reads the name and the key of a file, if one is given. They have a colon between them.
-pub fn read_login<R: Files + Eprint + AllocGlobal>(
+pub fn read_login<R: Files<File = File> + Eprint + AllocGlobal>(
     rt: &R,
     path: Option<&str>,
 ) -> Result<Option<String>, ProgramFault> {

@@ -1,6 +1,7 @@
 //! Pages that the program prints or writes to files.
 
 use crate::program::program_fault::ProgramFault;
+use data_folder::or_stop;
 use replay::Playing;
 use std::io::Write;
 use std::rt::Files;
@@ -48,17 +49,19 @@ pub fn note_refused_lines<R: Eprint>(rt: &R, playing: &Playing<'_>) -> bool {
     count == 0
 }
 
-/// Prints a page. One whose reader left, as `head` does, counts as printed.
-pub fn print_page<R: Print>(rt: &R, page: &str) -> Result<(), ProgramFault> {
+/// Prints a page. One whose reader left, as `head` does, counts as printed. Says why it can't be.
+pub fn print_page<R: Print + Eprint>(rt: &R, page: &str) -> Result<(), ProgramFault> {
     let mut writer = io::writer(rt);
-    as_printed(
-        writer
-            .write_all(page.as_bytes())
-            .and_then(|()| writer.flush()),
-    )
+    match writer
+        .write_all(page.as_bytes())
+        .and_then(|()| writer.flush())
+    {
+        Err(error) if error.kind() == io::ErrorKind::BrokenPipe => Ok(()),
+        written => or_stop(rt, "standard output", written, ProgramFault::Write),
+    }
 }
 
-/// What comes of a write to standard output: a pipe that its reader closed is no fault.
+/// What comes of a write of help to standard output: a pipe that its reader closed is no fault.
 pub fn as_printed(written: io::Result<()>) -> Result<(), ProgramFault> {
     match written {
         Ok(()) => Ok(()),
@@ -67,13 +70,11 @@ pub fn as_printed(written: io::Result<()>) -> Result<(), ProgramFault> {
     }
 }
 
-/// Writes a page to a file, in the place of what was there.
-pub fn write_file<R: Files>(rt: &R, path: &str, page: &str) -> Result<(), ProgramFault> {
-    let Ok(mut file) = fs::create(rt, path) else {
-        return Err(ProgramFault::Write);
-    };
-    match file.write_all(page.as_bytes()).and_then(|()| file.flush()) {
-        Ok(()) => Ok(()),
-        Err(_) => Err(ProgramFault::Write),
-    }
+/// Writes a page to a file, in the place of what was there. One that can't be written is named on
+/// standard error, with the cause.
+pub fn write_file<R: Files + Eprint>(rt: &R, path: &str, page: &str) -> Result<(), ProgramFault> {
+    let created = fs::create(rt, path);
+    let mut file = or_stop(rt, path, created, ProgramFault::Write)?;
+    let written = file.write_all(page.as_bytes()).and_then(|()| file.flush());
+    or_stop(rt, path, written, ProgramFault::Write)
 }

@@ -9,6 +9,7 @@ use data_folder::SystemClock;
 use sim_point::SimPoint;
 use site_rules::Site;
 use std::alloc::{AllocError, AllocGlobal, Global};
+use std::fs::File;
 use std::io;
 use std::net::TcpStream;
 use std::random::RandomSource;
@@ -17,7 +18,7 @@ use std::sync::Wait;
 
 /// Simulates a charge point. Returns the exit status.
 pub fn run_point<
-    R: Files
+    R: Files<File = File>
         + Input
         + Print
         + Eprint

@@ -85,6 +85,18 @@ pub enum ProgramFault {
     /// The name of a picture's file ends in neither form.
     #[error("central: command line: the name of a picture's file ends in .svg or .html")]
     NoPicture,
+    /// The name of a zone is none, or the system's database hasn't its file.
+    #[error("central: command line: --zone names no time zone of /usr/share/zoneinfo, such as Europe/Berlin")]
+    NoZone,
+    /// What is printed for programs, and what is drawn, has its times in UTC.
+    #[error("central: command line: --zone is for the table, and goes without --json and --picture")]
+    ZoneElsewhere,
+    /// By the zone's clock what is explained would begin before 1970, or it ends in the last days of the calendar.
+    #[error("central: command line: with --zone it begins in 1970 or later by that clock, and ends before 9999-12-31")]
+    ZonePastCalendar,
+    /// An address to listen at has no port.
+    #[error("central: command line: --listen and --status want HOST:PORT, such as 127.0.0.1:9000")]
+    NoPort,
     /// Without keys nobody from elsewhere may connect.
     #[error("central: command line: without --keys it listens at this machine alone, such as 127.0.0.1:9000")]
     NoKeys,
@@ -141,7 +153,9 @@ impl ProgramFault {
             | ProgramFault::AllElsewhere => 4,
             ProgramFault::UndoWithoutData | ProgramFault::NoUndoLine => 4,
             ProgramFault::UndoElsewhere => 4,
-            ProgramFault::NoKeys | ProgramFault::KeyName => 4,
+            ProgramFault::NoZone | ProgramFault::ZoneElsewhere | ProgramFault::ZonePastCalendar =>
+                4,
+            ProgramFault::NoPort | ProgramFault::NoKeys | ProgramFault::KeyName => 4,
             ProgramFault::StatusOpen | ProgramFault::StatusUrl => 4,
             ProgramFault::NoStatus => 3,
         }

@@ -1,6 +1,6 @@
 //! The job of `central run`.
 
-ghost use Rattle.std.specs.Prelude.{◌≡◌, ◌≤◌, ◌+◌};
+ghost use Rattle.std.specs.Prelude.{◌≡◌, ◌≤◌, ◌+◌, true};
 
 use crate::program::kept_boots::KeptBoots;
 use crate::program::key_file::read_key_file;
@@ -21,6 +21,7 @@ use site_keys::Keys;
 use site_rules::Site;
 use std::alloc::{AllocError, AllocGlobal, Global};
 use std::fs::File;
+use std::io::ErrorKind;
 use std::marker::{Brand, Send, Sync};
 use std::net::{Net, TcpListener, TcpStream};
 use std::random::RandomSource;
@@ -139,8 +140,8 @@ fn listen_for_status<R: Eprint + Net<Listener = TcpListener, Stream = TcpStream>
     Ok(Some(listener))
 }
 
-/// Listens at an address: where it isn't open to others at one of this machine alone, or else it is
-/// this fault.
+/// Listens at an address with a port: where it isn't open to others at one of this machine alone, or
+/// else it is this fault.
 fn listen<R: Eprint + Net<Listener = TcpListener, Stream = TcpStream>>(
     rt: &R,
     address: &str,
@@ -148,6 +149,11 @@ fn listen<R: Eprint + Net<Listener = TcpListener, Stream = TcpStream>>(
     closed: ProgramFault,
 ) -> Result<TcpListener, ProgramFault> {
     let bound = TcpListener::bind(rt, address);
+    if let Err(error) = &bound {
+        if error.kind() == ErrorKind::InvalidInput {
+            return Err(ProgramFault::NoPort);
+        }
+    }
     let listener = or_stop(rt, address, bound, ProgramFault::Serve(ServeFault::Socket))?;
     let told = listener.local_addr();
     let local = or_stop(rt, address, told, ProgramFault::Serve(ServeFault::Socket))?;
@@ -190,6 +196,7 @@ fn run_counted<
     requires answers { (blanks.1.name ≡ A.name) × (blanks.1.parts ≡ A.parts)
         × (blanks.1.parts ≡ plan.seats + 1) }
     requires chronicles { (chronicles.0.name ≡ N.name) × (chronicles.1.name ≡ N.companion) }
+    requires recorded { N.is_recorded ≡ true }
 {
     let Plan {
         site,
@@ -211,14 +218,7 @@ fn run_counted<
         restoring,
         seats,
     } = book;
-    // It is told that the site is being restored, too.
-    let address = owned(rt.alloc(), status_address)?;
-    let port = Arc::new(rt.alloc(), StatusPort::new(*rt, rt.alloc(), address))?;
-    if let Some(listener) = status {
-        if let Err(fault) = begin_status(&port, listener) {
-            return Err(ProgramFault::Serve(fault));
-        }
-    }
+    let port = begin_port(rt, status, status_address)?;
     let (journal, resumed) = restore_shared(rt, opened, &digest, &shared, restoring, syncs)?;
     print_resumed(rt, resumed)?;
     let context = context_of(rt, shared, journal, options)?;
@@ -233,6 +233,37 @@ fn run_counted<
     }
     context.journal().file.until_broken();
     Err(ProgramFault::Folder(FolderFault::Write))
+}
+
+/// Begins to tell how the site is, where that is wanted. It is told that it is being restored, too.
+fn begin_port<
+    C: Ledger + Send + Sync + Drop + 'static,
+    A: Ledger + Send + Sync + Drop + 'static,
+    N: ChronicleName + Send + Sync + Drop + 'static,
+    R: Eprint
+        + AllocGlobal
+        + Clock
+        + RandomSource
+        + Threads
+        + Wait
+        + Copy
+        + Send
+        + Sync
+        + Drop
+        + 'static,
+>(
+    rt: &R,
+    status: Option<TcpListener>,
+    address: Option<&str>,
+) -> Result<Arc<StatusPort<C, A, R, SystemClock<R>, WatchedFile<R, N>, N>, Global>, ProgramFault> {
+    let address = owned(rt.alloc(), address)?;
+    let port = Arc::new(rt.alloc(), StatusPort::new(*rt, rt.alloc(), address))?;
+    if let Some(listener) = status {
+        if let Err(fault) = begin_status(&port, listener) {
+            return Err(ProgramFault::Serve(fault));
+        }
+    }
+    Ok(port)
 }
 
 /// A text of its own, where there is one.

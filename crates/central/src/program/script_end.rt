@@ -1,11 +1,13 @@
 //! How far `--at` says that a script or a journal is played.
 
 use crate::program::program_fault::ProgramFault;
+use crate::program::unzoned::note_unzoned;
 use data_folder::ScriptEnd;
 use ocpp_scalars::read_instant;
 
-/// How far `--at` says that a script is played: a number of lines, or a moment.
-pub fn script_end(at: Option<&str>) -> Result<ScriptEnd, ProgramFault> {
+/// How far `--at` says that a script is played: a number of lines, or a moment. Says where that has
+/// no zone.
+pub fn script_end<R: Eprint>(rt: &R, at: Option<&str>) -> Result<ScriptEnd, ProgramFault> {
     let Some(at) = at else {
         return Ok(ScriptEnd::Whole);
     };
@@ -13,7 +15,10 @@ pub fn script_end(at: Option<&str>) -> Result<ScriptEnd, ProgramFault> {
         return Ok(ScriptEnd::Lines(lines));
     }
     match read_instant(at) {
-        Ok(moment) => Ok(ScriptEnd::Moment(moment)),
+        Ok(moment) => {
+            note_unzoned(rt, "--at", at);
+            Ok(ScriptEnd::Moment(moment))
+        }
         Err(_) => Err(ProgramFault::NoScriptEnd),
     }
 }

@@ -11,14 +11,14 @@ use show_pages::{Depth, Standing, standing_json, standing_text, trace_script};
 use site_rules::Site;
 use std::alloc::AllocGlobal;
 use std::fs::File;
-use std::rt::Files;
+use std::rt::{Clock, Files};
 
 /// Shows what each point of a site has after a script or a journal. Returns the exit status.
-pub fn show_file<R: Files<File = File> + Input + Print + Eprint + AllocGlobal>(
+pub fn show_file<R: Files<File = File> + Input + Print + Eprint + Clock + AllocGlobal>(
     rt: &R,
     showing: Showing<'_>,
 ) -> Result<u8, ProgramFault> {
-    let end = script_end(showing.at)?;
+    let end = script_end(rt, showing.at)?;
     let (site, digest) = read_digested_site(rt, showing.site)?;
     let Source::Journal(folder) = showing.source else {
         return show_script(rt, showing, end, site);
@@ -30,10 +30,11 @@ pub fn show_file<R: Files<File = File> + Input + Print + Eprint + AllocGlobal>(
         end,
         point: "",
         counted_from: None,
+        is_quiet: false,
     };
     let followed = follow_journal(rt, following)?;
     print_standing(rt, showing, &followed.standing())?;
-    Ok(page_status(!followed.is_torn()))
+    Ok(page_status(followed.is_as_wanted()))
 }
 
 /// Shows what each point has after the script of standard input or of a file. Returns the exit
@@ -52,7 +53,7 @@ fn show_script<R: Files<File = File> + Input + Print + Eprint + AllocGlobal>(
     Ok(page_status(is_whole))
 }
 
-fn print_standing<R: Print + AllocGlobal>(
+fn print_standing<R: Print + Eprint + AllocGlobal>(
     rt: &R,
     showing: Showing<'_>,
     standing: &Standing<'_>,

@@ -11,7 +11,7 @@ use sha2::{Digest, Sha256};
 use site_rules::{MAX_SITE_BYTES, Site, SiteFault, read_site};
 use std::alloc::AllocGlobal;
 use std::fs;
-use std::io::ErrorKind;
+use std::io::{ErrorKind, Read};
 use std::rt::Files;
 
 /// Reads the site of a file.
@@ -35,6 +35,19 @@ pub fn read_digested_site<R: Files + AllocGlobal>(
     let bytes = read_site_bytes(rt, path)?;
     let site = read_site(rt.alloc(), bytes.as_slice())?;
     Ok((site, Sha256::digest(bytes.as_slice())))
+}
+
+/// Says on standard error why a site file can't be read. Another try tells the system's cause: the
+/// first one keeps to one line for `replay` and `serve`.
+pub fn say_unread<R: Files + Eprint>(rt: &R, path: &str) {
+    let cause = match fs::open(rt, path) {
+        Ok(mut file) => file.read(&mut [0u8; 1]).err(),
+        Err(error) => Some(error),
+    };
+    let _ = match cause {
+        Some(error) => eprintln!(rt; "central: {path}: {error}"),
+        None => eprintln!(rt; "central: {path}: it couldn't be read"),
+    };
 }
 
 /// Reads the bytes of a site file.

@@ -33,7 +33,7 @@ pub fn check_visits<R: Files<File = File> + Clock + Print + Eprint + AllocGlobal
         return Err(ProgramFault::Replay(ReplayFault::ScriptTooLong));
     };
     let CallScript { script, lines } = made;
-    let mut played = PlayedCalls::behind(alloc, script.as_slice(), lines, site)?;
+    let mut played = PlayedCalls::behind(rt, alloc, script.as_slice(), lines, site)?;
     for visit in visits {
         let passed = passed_calls(alloc, caller, &mut played, calls, &*visit)?;
         visit.calls = passed;

@@ -2,11 +2,13 @@
 
 use crate::program::program_fault::ProgramFault;
 use data_folder::read_journal_script;
-use operator_calls::{LostProfile, Undo, line_at, point_of_line, undo_to};
+use operator_calls::{
+    Caller, GivenCall, LostProfile, UNDO, Undo, Visit, line_at, point_of_line, undo_to,
+};
 use site_rules::Site;
 use std::alloc::{AllocError, AllocGlobal};
 use std::fs::File;
-use std::rt::Files;
+use std::rt::{Clock, Files};
 
 /// So many characters of the line that is undone are shown.
 const LONGEST_SHOWN: usize = 160;
@@ -21,7 +23,7 @@ pub struct Undoing {
 
 /// What brings the point of a line of a folder's journal back to the profiles that it had before
 /// that line. Says which profile can't come back, and where nothing is to be done.
-pub fn undo_of<R: Files<File = File> + Eprint + AllocGlobal>(
+pub fn undo_of<R: Files<File = File> + Clock + Eprint + AllocGlobal>(
     rt: &R,
     folder: &str,
     site: Site,
@@ -34,7 +36,7 @@ pub fn undo_of<R: Files<File = File> + Eprint + AllocGlobal>(
         return Err(ProgramFault::NoUndoLine);
     };
     say_line(rt, number, line)?;
-    let undo = undo_to(alloc, script.as_slice(), site, number, point.as_str())?;
+    let undo = undo_to(rt, script.as_slice(), site, number, point.as_str())?;
     say_lost(rt, undo.lost.as_slice());
     if undo.calls.is_empty() {
         let _ = eprintln!(rt;
@@ -42,6 +44,22 @@ pub fn undo_of<R: Files<File = File> + Eprint + AllocGlobal>(
         );
     }
     Ok(Undoing { point, undo })
+}
+
+/// Leaves out of visits the calls that would take back later changes, too, unless that is forced.
+/// Says which changes those are.
+pub fn hold_undo<R: Print + Eprint + AllocGlobal>(
+    caller: &mut Caller<'_, R>,
+    undoing: &Undoing,
+    calls: &[GivenCall],
+    visits: &mut Vec<Visit>,
+) -> Result<(), ProgramFault> {
+    for visit in visits {
+        if !caller.passes_undo(visit.label(), undoing.undo.later.as_slice())? {
+            visit.leave_out(UNDO, calls);
+        }
+    }
+    Ok(())
 }
 
 /// Says what is undone: the beginning of its line.

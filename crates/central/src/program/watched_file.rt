@@ -33,7 +33,8 @@ impl<R: Wait + Clock + Eprint + AllocGlobal + Drop, N: ChronicleName> Journal<N>
     }
 
     fn note(&self, entry: Entry, number: u64, before: &RecordedStates<N>, after: &RecordedStates<N>)
-        requires { IsOfMadeStep entry number (IsAt before.now) (IsAt after.now) }
+        requires { IsOfMadeStep entry number
+            (IsAt N.is_recorded before.now) (IsAt N.is_recorded after.now) }
     {
         self.file.note(entry, number, before, after)
     }

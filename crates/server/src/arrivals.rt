@@ -1,7 +1,7 @@
-//! Connections for which there is no session.
+//! What is said of connections: those for which there is no session, and operators.
 
 use crate::handshake::{ClientRequest, Unshaken};
-use crate::refused_request::push_path;
+use crate::request_words::{push_path, said_of_operator};
 use crate::seat_context::SeatContext;
 use chronicle::ChronicleName;
 use ocpp_scalars::Moments;
@@ -35,6 +35,17 @@ pub(crate) fn note_unknown<C: Ledger, A: Ledger, R: Wait + Clock, M: Moments, J,
     note_refused(seats, from, pushed.map(|()| what));
 }
 
+/// Says that an operator has come, from where and as whom: what is in the journal by then tells no
+/// more than that it was an operator.
+pub(crate) fn note_operator<C: Ledger, A: Ledger, R: Wait + Clock, M: Moments, J, N: ChronicleName>(
+    seats: &SeatContext<C, A, R, M, J, N>,
+    asked: &ClientRequest,
+    from: Option<SocketAddr>,
+) {
+    let what = said_of_operator(seats.alloc, asked.path.as_str(), &asked.user);
+    say_from(seats, from, what);
+}
+
 fn push_unknown(what: &mut String, asked: &ClientRequest) -> Result<(), AllocError> {
     what.push_str(if asked.offers_ocpp {
         "refused, no such point: "
@@ -50,6 +61,15 @@ fn note_refused<C: Ledger, A: Ledger, R: Wait + Clock, M: Moments, J, N: Chronic
     what: Result<String, AllocError>,
 ) {
     seats.watch.refuse(&seats.rt);
+    say_from(seats, from, what);
+}
+
+/// Says what became of whoever has this address.
+fn say_from<C: Ledger, A: Ledger, R: Wait + Clock, M: Moments, J, N: ChronicleName>(
+    seats: &SeatContext<C, A, R, M, J, N>,
+    from: Option<SocketAddr>,
+    what: Result<String, AllocError>,
+) {
     let who = name_of(seats.alloc, from);
     match who {
         Ok(who) => seats

@@ -1,4 +1,4 @@
-//! What is said of a request that is refused.
+//! What is said of a request for a session.
 
 use crate::entry::AUTHORIZATION;
 use http::{Request, StatusCode};
@@ -21,15 +21,28 @@ pub(crate) fn said_of(
     let status = status.as_u16();
     let mut said = format!(in alloc; "refused, HTTP {status}: ")?;
     push_path(&mut said, request.uri().path())?;
-    let user = match request.headers().get(AUTHORIZATION) {
-        Some(value) => user_in(alloc, value.as_bytes())?,
-        None => None,
-    };
-    match &user {
-        Some(user) => push_user(&mut said, user.as_str())?,
-        None => said.push_str(", no user")?,
-    }
+    push_user(&mut said, &user_of(alloc, request)?)?;
     Ok(said)
+}
+
+/// What is said of an operator's session: which path it asked for, and which user it gave.
+pub(crate) fn said_of_operator(
+    alloc: Global,
+    path: &str,
+    user: &Option<String>,
+) -> Result<String, AllocError> {
+    let mut said = String::from_str(alloc, "connected: ")?;
+    push_path(&mut said, path)?;
+    push_user(&mut said, user)?;
+    Ok(said)
+}
+
+/// The user that a request gives, if it gives one.
+pub(crate) fn user_of(alloc: Global, request: &Request<()>) -> Result<Option<String>, AllocError> {
+    match request.headers().get(AUTHORIZATION) {
+        Some(value) => user_in(alloc, value.as_bytes()),
+        None => Ok(None),
+    }
 }
 
 /// Appends a path, or its end where it is long: that names the point.
@@ -43,12 +56,15 @@ pub(crate) fn push_path(said: &mut String, path: &str) -> Result<(), AllocError>
 
 /// Appends a user, or its beginning where it is long. Who gave a key as the user is told so: a key
 /// isn't told.
-fn push_user(said: &mut String, user: &str) -> Result<(), AllocError> {
-    if is_like_a_key(user) {
+fn push_user(said: &mut String, user: &Option<String>) -> Result<(), AllocError> {
+    let Some(user) = user else {
+        return said.push_str(", no user");
+    };
+    if is_like_a_key(user.as_str()) {
         return said.push_str(", a user that looks like a key");
     }
     said.push_str(", user ")?;
-    for character in user.chars().take(LONGEST_NAME) {
+    for character in user.as_str().chars().take(LONGEST_NAME) {
         said.push(character)?;
     }
     Ok(())

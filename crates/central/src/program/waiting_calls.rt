@@ -1,0 +1,104 @@
+//! Which of the calls that a site has for its points wait.
+
+use crate::program::program_fault::ProgramFault;
+use crate::program::site_file::read_digested_site;
+use command_line::Calling;
+use data_folder::{Following, ScriptEnd, follow_journal};
+use ocpp_scalars::{Instant, push_instant};
+use operator_calls::Visit;
+use site_core::Outbox;
+use std::alloc::{AllocError, AllocGlobal};
+use std::fs::File;
+use std::rt::{Clock, Files};
+
+/// Says which of the visited points aren't connected, or have calls that wait behind another, by the
+/// journal of the folder, if one is named. Where that can't be followed, no answer is lost.
+pub fn say_waiting<R: Files<File = File> + Clock + Eprint + AllocGlobal>(
+    rt: &R,
+    calling: Calling<'_>,
+    visits: &[Visit],
+) -> Result<(), ProgramFault> {
+    let (Some(folder), Some(path)) = (calling.folder, calling.site) else {
+        return Ok(());
+    };
+    if calling.dry_run {
+        return Ok(());
+    }
+    let (site, digest) = read_digested_site(rt, path)?;
+    let following = Following {
+        site,
+        digest,
+        folder,
+        end: ScriptEnd::Whole,
+        point: "",
+        counted_from: None,
+        is_quiet: true,
+    };
+    match follow_journal(rt, following) {
+        Ok(followed) => {
+            for visit in visits {
+                let outbox = followed.machine().outbox_of(visit.id.as_str());
+                if let (Some(outbox), false) = (outbox, visit.calls.is_empty()) {
+                    say_of_point(rt, visit.id.as_str(), outbox);
+                }
+            }
+        }
+        Err(fault) => {
+            let _ = eprintln!(rt; "central: which calls wait isn't known: {fault}");
+        }
+    }
+    Ok(())
+}
+
+/// Says whether a point isn't connected, or has calls that wait behind the one in flight.
+fn say_of_point<R: Eprint>(rt: &R, id: &str, outbox: &Outbox) {
+    if outbox.link().is_none() {
+        let (count, waits) = counted(outbox.len());
+        let _ = eprintln!(rt; "central: {id} isn't connected: {count} {waits}");
+        return;
+    }
+    let behind = outbox.len().saturating_sub(1);
+    if outbox.is_in_flight() && behind > 0 {
+        let (count, waits) = counted(behind);
+        let _ = eprintln!(rt; "central: {id} hasn't answered a call: {count} {waits} behind it");
+    }
+}
+
+/// A number of calls, and the words for it.
+fn counted(calls: usize) -> (usize, &'static str) {
+    (
+        calls,
+        if calls == 1 {
+            "call waits"
+        } else {
+            "calls wait"
+        },
+    )
+}
+
+/// Says how many calls a point hasn't confirmed, and since when, if there are any.
+pub fn say_unconfirmed<R: Eprint + AllocGlobal>(
+    rt: &R,
+    point: &str,
+    calls: usize,
+    since: Option<Instant>,
+) -> Result<(), AllocError> {
+    if calls == 0 {
+        return Ok(());
+    }
+    let mut begin = String::new(rt.alloc());
+    if let Some(since) = since {
+        begin.push_str(if calls == 1 {
+            " since "
+        } else {
+            ", the first since "
+        })?;
+        push_instant(&mut begin, since)?;
+    }
+    let _ = if calls == 1 {
+        eprintln!(rt; "central: 1 call to {point} waits{begin}: it may not have this yet")
+    } else {
+        eprintln!(rt; "central: {calls} calls to {point} wait{begin}: it may not have these yet")
+    };
+    Ok(())
+}

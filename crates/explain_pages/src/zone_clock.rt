@@ -1,0 +1,72 @@
+//! The clock of a time zone.
+
+use crate::clock::push_two_digits;
+use ocpp_scalars::push_integer;
+use std::alloc::AllocError;
+
+/// How far a clock is ahead of UTC from a moment on.
+#[derive(Clone, Copy, Debug, PartialEq, Eq)]
+pub struct ClockShift {
+    /// The moment, in seconds since 1970.
+    pub from: u64,
+    /// Seconds ahead of UTC, less than 0 where the clock is behind.
+    pub ahead: i32,
+}
+
+/// The clock of a time zone in the time that is explained.
+#[derive(Clone, Copy, Debug)]
+pub struct ZoneClock<'a> {
+    /// The name of the zone, such as `Europe/Berlin`.
+    pub name: &'a str,
+    /// How far it is ahead at the first second that is explained, and from each change on; in order.
+    pub shifts: &'a [ClockShift],
+}
+
+impl ZoneClock<'_> {
+    /// The seconds that the clock is ahead of UTC at a moment, in seconds since 1970.
+    fn ahead_at(&self, moment: u64) -> i32 {
+        let mut ahead = 0;
+        for shift in self.shifts {
+            if shift.from <= moment {
+                ahead = shift.ahead;
+            }
+        }
+        ahead
+    }
+
+    /// Appends the zone, with how far it is ahead at first.
+    pub(crate) fn push_name(&self, out: &mut String) -> Result<(), AllocError> {
+        out.push_str(self.name)?;
+        out.push_str(" (")?;
+        push_ahead(out, self.shifts.first().map_or(0, |shift| shift.ahead))?;
+        out.push(')')
+    }
+}
+
+/// What a clock shows at a moment: that of a zone, or else one in UTC. Both are in seconds since 1970.
+pub(crate) fn shown_at(zone: Option<ZoneClock<'_>>, moment: u64) -> u64 {
+    match zone {
+        Some(clock) => moment.saturating_add_signed(i64::from(clock.ahead_at(moment))),
+        None => moment,
+    }
+}
+
+/// Appends how far a clock is ahead of UTC: `UTC`, `UTC+1`, `UTC-3:30`.
+pub(crate) fn push_ahead(out: &mut String, ahead: i32) -> Result<(), AllocError> {
+    out.push_str("UTC")?;
+    if ahead == 0 {
+        return Ok(());
+    }
+    out.push(if ahead < 0 { '-' } else { '+' })?;
+    let seconds = ahead.unsigned_abs();
+    push_integer(out, seconds / 3600)?;
+    if seconds % 3600 != 0 {
+        out.push(':')?;
+        push_two_digits(out, u64::from(seconds / 60 % 60))?;
+    }
+    if seconds % 60 != 0 {
+        out.push(':')?;
+        push_two_digits(out, u64::from(seconds % 60))?;
+    }
+    Ok(())
+}

@@ -1,0 +1,71 @@
+//! The profiles that a point has or had, as an undo compares them.
+
+use meaning::PrevailingProfile;
+use messages::push_profile;
+use profile::Row;
+use site_core::Machine;
+use std::alloc::{AllocError, Global};
+
+/// A profile that a point has or had.
+#[derive(Drop)]
+pub(crate) struct Kept {
+    pub(crate) name: PrevailingProfile,
+    /// The payload that installs it.
+    pub(crate) payload: String,
+    /// The number of its connector's active transaction, of a TxProfile.
+    pub(crate) transaction: Option<i32>,
+    /// Whether it is gone, and is to be installed again.
+    pub(crate) comes_back: bool,
+}
+
+/// The profiles that a point has.
+pub(crate) fn kept_by(
+    alloc: Global,
+    machine: &Machine,
+    point: &str,
+) -> Result<Vec<Kept>, AllocError> {
+    let mut kept = Vec::new(alloc);
+    if let Some(book) = machine.book_of(point) {
+        for row in book.view().rows {
+            kept.push(Kept {
+                name: name_of(row),
+                payload: payload_of(alloc, row)?,
+                transaction: transaction_of(machine, point, row.connector),
+                comes_back: false,
+            })?;
+        }
+    }
+    Ok(kept)
+}
+
+/// A profile by its id, its purpose and where it stands.
+fn name_of(row: &Row) -> PrevailingProfile {
+    PrevailingProfile {
+        id: row.profile.id,
+        purpose: row.profile.purpose,
+        stack_level: row.profile.stack_level,
+        connector: row.connector,
+    }
+}
+
+/// The payload of the SetChargingProfile that installs a profile.
+fn payload_of(alloc: Global, row: &Row) -> Result<String, AllocError> {
+    let connector = row.connector;
+    let mut payload = format!(in alloc; "{{\"connectorId\":{connector},\"csChargingProfiles\":")?;
+    push_profile(&mut payload, &row.profile)?;
+    payload.push_str("}")?;
+    Ok(payload)
+}
+
+/// The number of the active transaction at a connector of a point.
+pub(crate) fn transaction_of(machine: &Machine, point: &str, connector: u32) -> Option<i32> {
+    let book = machine.book_of(point)?;
+    let transaction = book.transaction_at(connector)?;
+    Some(transaction.id)
+}
+
+/// Whether one of these profiles is the same, and stands at the same connector.
+pub(crate) fn is_among(kept: &Kept, others: &[Kept]) -> bool {
+    let payload = kept.payload.as_str();
+    others.iter().any(|other| other.payload.as_str() == payload)
+}

@@ -1,0 +1,79 @@
+//! How far the clock of a zone is ahead of UTC, and when that changes.
+
+use crate::zone_fault::ZoneFault;
+use explain_pages::ClockShift;
+use jiff_core::{Error, Timestamp};
+use jiff_tz::Tzif;
+use std::alloc::Global;
+
+/// The most changes that are looked at. In 31 days, the longest time that is explained, no clock has more than two.
+const MAX_CHANGES: usize = 64;
+
+/// How far the clock of a zone is ahead of UTC from one moment to another, both in seconds since 1970: first what
+/// it is at the first moment, and then each change up to the other one. `bytes` are the zone's TZif file.
+pub fn clock_shifts(
+    alloc: Global,
+    bytes: &[u8],
+    from: u64,
+    until: u64,
+) -> Result<Vec<ClockShift>, ZoneFault> {
+    let zone = match Tzif::parse(alloc, None, bytes) {
+        Ok(zone) => zone,
+        Err(Error::OutOfMemory) => return Err(ZoneFault::OutOfMemory),
+        Err(_) => return Err(ZoneFault::NoZone),
+    };
+    let (start, end) = (timestamp(from)?, timestamp(until)?);
+    let ahead = zone.to_offset(start).seconds;
+    if from.checked_add_signed(i64::from(ahead)).is_none() {
+        return Err(ZoneFault::Calendar);
+    }
+    let mut shifts = Vec::new(alloc);
+    shifts.push(ClockShift { from, ahead })?;
+    push_changes(&mut shifts, &zone, start, end)?;
+    Ok(shifts)
+}
+
+/// Appends what the clock is ahead from each change on, behind one instant and up to another.
+fn push_changes(
+    shifts: &mut Vec<ClockShift>,
+    zone: &Tzif,
+    start: Timestamp,
+    end: Timestamp,
+) -> Result<(), ZoneFault> {
+    let mut at = start;
+    let mut before = zone.to_offset(start).seconds;
+    for _ in 0..MAX_CHANGES {
+        let Some(change) = zone.next_transition(at) else {
+            return Ok(());
+        };
+        at = change.timestamp;
+        if at.nanosecond > end.nanosecond {
+            return Ok(());
+        }
+        let ahead = zone.to_offset(at).seconds;
+        if ahead != before {
+            shifts.push(ClockShift {
+                from: second(at)?,
+                ahead,
+            })?;
+            before = ahead;
+        }
+    }
+    Err(ZoneFault::NoZone)
+}
+
+/// The instant of a moment, in seconds since 1970.
+fn timestamp(moment: u64) -> Result<Timestamp, ZoneFault> {
+    match Timestamp::from_nanosecond(i128::from(moment) * 1_000_000_000) {
+        Ok(timestamp) => Ok(timestamp),
+        Err(_) => Err(ZoneFault::Calendar),
+    }
+}
+
+/// The moment of an instant, in seconds since 1970.
+fn second(timestamp: Timestamp) -> Result<u64, ZoneFault> {
+    match u64::try_from(timestamp.floor_second()) {
+        Ok(second) => Ok(second),
+        Err(_) => Err(ZoneFault::Calendar),
+    }
+}

@@ -1,0 +1,36 @@
+//! The names of zones.
+
+ghost use Rattle.std.specs.Prelude.{◌≡◌, IsTrue};
+ghost use Rattle.std.specs.List.{list_all};
+ghost use Rattle.time_zones.specs.ZoneName.{is_zone_byte};
+
+/// The most bytes of a zone's name.
+const MAX_NAME_BYTES: usize = 64;
+
+/// Whether a text may name a zone: parts of letters, digits, `_`, `-` and `+`, with a `/` between two of them. So the
+/// file of the name lies in the folder of the zones. The files below `right` count leap seconds: they are none of
+/// this calendar.
+pub fn is_zone_name(name: &str) -> bool
+    ensures bytes { IsTrue result → IsTrue (list_all is_zone_byte name.now) }
+{
+    has_zone_bytes(name.as_bytes()) && has_zone_parts(name)
+}
+
+/// Whether a name is as long as one may be, and none of its parts is empty.
+fn has_zone_parts(name: &str) -> bool {
+    name.len() <= MAX_NAME_BYTES
+        && !name.starts_with("right/")
+        && name.split('/').all(|part| !part.is_empty())
+}
+
+fn has_zone_bytes(name: &[u8]) -> bool
+    ensures { result ≡ list_all is_zone_byte name.now }
+{
+    name.iter().all(|byte| is_zone_byte(*byte))
+}
+
+fn is_zone_byte(byte: u8) -> bool
+    ensures { result ≡ is_zone_byte byte }
+{
+    matches!(byte, b'A'..=b'Z' | b'a'..=b'z' | b'0'..=b'9' | b'_' | b'-' | b'+' | b'/')
+}
