@@ -12,4 +12,5 @@ pub mod Names
 pub mod ObjectText
 pub mod ResponseText
 pub mod CallText
+pub mod ReplyStatus
 pub mod ByCases

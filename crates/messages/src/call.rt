@@ -1,8 +1,10 @@
 //! The calls that go to a charge point.
 
 ghost use Rattle.std.specs.Prelude.{◌≡◌, IfOk};
+ghost use Rattle.messages.specs.ActionKind.{row_of};
 ghost use Rattle.messages.specs.CallText.{action_name};
 
+use crate::action_kind::ActionKind;
 use ocpp_scalars::IdTag;
 use profile::{Criteria, Profile, Unit};
 use std::alloc::{AllocError, Global};
@@ -53,15 +55,22 @@ impl Call {
 
 impl CallBody {
     /// Its action.
+    pub fn kind(&self) -> ActionKind
+        ensures { (row_of result).name ≡ action_name self.now }
+    {
+        match self {
+            CallBody::Clear(_) => ActionKind::ClearChargingProfile,
+            CallBody::Set { .. } => ActionKind::SetChargingProfile,
+            CallBody::Audit { .. } => ActionKind::GetCompositeSchedule,
+            CallBody::RemoteStart { .. } => ActionKind::RemoteStartTransaction,
+        }
+    }
+
+    /// The name of its action.
     pub fn action(&self) -> &'static str
         ensures { result.now ≡ action_name self.now }
     {
-        match self {
-            CallBody::Clear(_) => "ClearChargingProfile",
-            CallBody::Set { .. } => "SetChargingProfile",
-            CallBody::Audit { .. } => "GetCompositeSchedule",
-            CallBody::RemoteStart { .. } => "RemoteStartTransaction",
-        }
+        self.kind().name()
     }
 
     /// A copy.

@@ -226,7 +226,7 @@ impl Page {
             self.json.string(answered.status.as_str())?;
             self.json.key("line")?;
             self.json.u64(answered.line)?;
-            self.write_action(answered.call.action, answered.call.fields.as_str())?;
+            self.write_action(answered.call.action.name(), answered.call.fields.as_str())?;
             self.json.end_object()?;
         }
         self.json.end_array()

@@ -1,17 +1,15 @@
 //! What a charge point's reply says of the call that it answers.
 
-use ocppj_frame::{Field, Frame, FrameFault, Payload, ReadingMemory, read_frame, text_field};
+use messages::{ActionKind, ReplyStatus};
+use ocppj_frame::{Frame, FrameFault, Payload, ReadingMemory, read_frame};
 use std::alloc::{AllocError, Global};
-
-/// The action whose reply may say that no profile matched.
-const CLEAR: &str = "ClearChargingProfile";
 
 /// Why a call of this action wasn't done, in the point's words: the status of its reply, `no known
 /// status`, or `CALLERROR`. `None` where it was done, or the text is no reply.
 pub fn rejection_in(
     alloc: Global,
     memory: &mut ReadingMemory,
-    action: &str,
+    action: ActionKind,
     text: &str,
 ) -> Result<Option<String>, AllocError> {
     match read_frame(memory, text) {
@@ -22,18 +20,16 @@ pub fn rejection_in(
     }
 }
 
-/// The status of a reply that doesn't accept a call of this action (chapter 7). That no profile
-/// matched a ClearChargingProfile, `Unknown`, leaves nothing undone.
+/// The status of a reply that leaves a call of this action undone.
 fn status_of_rejection(
     alloc: Global,
-    action: &str,
+    action: ActionKind,
     payload: &Payload<'_>,
 ) -> Result<Option<String>, AllocError> {
-    let status = match text_field(payload.root(), "status") {
-        Field::Value("Accepted") => return Ok(None),
-        Field::Value("Unknown") if action == CLEAR => return Ok(None),
-        Field::Value(status) if matches!(status, "Rejected" | "NotSupported" | "Unknown") => status,
-        _ => "no known status",
+    let status = match ReplyStatus::in_payload(payload) {
+        Some(status) if status.is_done(action) => return Ok(None),
+        Some(status) => status.name(),
+        None => "no known status",
     };
     Ok(Some(String::from_str(alloc, status)?))
 }

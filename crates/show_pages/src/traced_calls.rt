@@ -1,7 +1,7 @@
 //! What became of a charge point's calls, line after line.
 
 use crate::reply::rejection_in;
-use messages::{Call, push_payload_fields, push_subject};
+use messages::{ActionKind, Call, push_payload_fields, push_subject};
 use ocppj_frame::ReadingMemory;
 use site_core::Outbox;
 use std::alloc::{AllocError, Global};
@@ -12,7 +12,7 @@ pub struct SentCall {
     pub number: u64,
     /// Its action and the profiles that it is for, in words.
     pub what: String,
-    pub action: &'static str,
+    pub action: ActionKind,
     /// The fields of its payload, as JSON with commas between them.
     pub fields: String,
     /// The line after which it went out.
@@ -81,8 +81,9 @@ impl PointCalls {
     /// A call went out behind the line of this number.
     pub(crate) fn sent(&mut self, alloc: Global, call: &Call, line: u64) -> Result<(), AllocError> {
         let number = call.number;
-        let action = call.body.action();
-        let mut what = format!(in alloc; "{action}, ")?;
+        let action = call.body.kind();
+        let name = action.name();
+        let mut what = format!(in alloc; "{name}, ")?;
         push_subject(&mut what, &call.body)?;
         let mut fields = String::new(alloc);
         push_payload_fields(&mut fields, &call.body)?;

@@ -1,7 +1,6 @@
 //! The link of a point's session, and the calls that go out over it (OCPP-J 1.6, chapter 4).
 
 ghost use Rattle.std.specs.Prelude.{◌≡◌, IfOk, IfSome, string_bytes};
-ghost use Rattle.messages.specs.ActionKind.{row_of};
 ghost use Rattle.messages.specs.CallText.{action_name, call_text};
 ghost use Rattle.session.specs.Leaving.{IsSentCall};
 ghost use Rattle.session.specs.Serving.{KeepsPass};
@@ -14,7 +13,7 @@ use crate::serving::noting::{note_made, prepare_link};
 use crate::serving::sockets::{clear_to_leave, send_text};
 use crate::session_core::{Peer, SessionCore};
 use chronicle::ChronicleName;
-use messages::{ActionKind, Call, CallBody, push_call};
+use messages::{Call, push_call};
 use ocpp_scalars::{Instant, Moments, Refusal};
 use site_core::PointId;
 use site_journal::{Noted, noted_steps_are_restored};
@@ -101,20 +100,8 @@ pub fn send_call<
     send_text(context.alloc, socket, cleared)?;
     Ok(Some(SentCall {
         number: call.number,
-        action: action_of(&call.body),
+        action: call.body.kind(),
     }))
-}
-
-/// The action of a call, as its text names it.
-fn action_of(body: &CallBody) -> ActionKind
-    ensures { (row_of result).name ≡ action_name body.now }
-{
-    match body {
-        CallBody::Clear(_) => ActionKind::ClearChargingProfile,
-        CallBody::Set { .. } => ActionKind::SetChargingProfile,
-        CallBody::Audit { .. } => ActionKind::GetCompositeSchedule,
-        CallBody::RemoteStart { .. } => ActionKind::RemoteStartTransaction,
-    }
 }
 
 /// The first call that waits for a point, which is in flight from then on, and noted so, and what was

@@ -4,7 +4,8 @@ use crate::outcome::Outcome;
 use crate::serving::heard::{MAX_REJECTION_BYTES, Told};
 use crate::serving::reading::is_long;
 use crate::todo::Todo;
-use ocppj_frame::{Field, Frame, Payload, ReadingMemory, read_frame, text_field};
+use messages::ReplyStatus;
+use ocppj_frame::{Frame, ReadingMemory, read_frame};
 use site_core::{Reply, Step};
 use std::alloc::{AllocError, Global};
 
@@ -51,31 +52,20 @@ pub(crate) fn told_by(
     }
 }
 
-/// Why a point didn't accept what it was asked, in its own words: the status of its reply, where it is
-/// one that OCPP knows (chapter 7), or the beginning of whatever else it said.
-fn rejection_in(alloc: Global, frame: &str) -> Result<String, AllocError> {
+/// Why a point doesn't accept a call, by its reply: the status of that, where it is one that OCPP knows
+/// (chapter 7), or the beginning of whatever else it says.
+pub fn rejection_in(alloc: Global, frame: &str) -> Result<String, AllocError> {
     // A long reply isn't read once more.
     if is_long(frame) {
         return beginning_of(alloc, frame);
     }
     let mut memory = ReadingMemory::new(alloc);
     match read_frame(&mut memory, frame) {
-        Ok(Frame::Reply { payload, .. }) => match known_status(&payload) {
-            Some(status) => String::from_str(alloc, status),
+        Ok(Frame::Reply { payload, .. }) => match ReplyStatus::in_payload(&payload) {
+            Some(status) => String::from_str(alloc, status.name()),
             None => beginning_of(alloc, frame),
         },
         _ => beginning_of(alloc, frame),
-    }
-}
-
-/// The status of a reply that isn't `Accepted`: of ChargingProfileStatus, or `Unknown`, which is of
-/// ClearChargingProfileStatus alone (chapter 7).
-fn known_status<'a>(payload: &Payload<'a>) -> Option<&'a str> {
-    match text_field(payload.root(), "status") {
-        Field::Value(status) if matches!(status, "Rejected" | "NotSupported" | "Unknown") => {
-            Some(status)
-        }
-        _ => None,
     }
 }
 
