@@ -3,8 +3,13 @@
 use crate::rejection::{Rejection, fault_of, refusal_of, rejection_of};
 use crate::sentences::{call_sentence, sentence};
 use crate::words::excerpt;
+use ocpp_scalars::Refusal;
 use ocppj_frame::{FrameFault, ReadingMemory, read_tree};
 use std::alloc::{AllocError, Global};
+
+/// A central system whose device is full answers that it lacks memory, too.
+const SHORT_OR_FULL: &str =
+    "memory ran out, or the central system's device is full: see its status";
 
 /// What an answer's refusal means: its name and its sentence, with the field that it is of where it
 /// has one. None where the answer refuses nothing, or by a name that isn't this system's.
@@ -36,7 +41,10 @@ fn refusal_sentence(alloc: Global, name: &str) -> Result<Option<String>, AllocEr
     let Some(refusal) = refusal_of(name) else {
         return Ok(None);
     };
-    let why = sentence(refusal);
+    let why = match refusal {
+        Refusal::OutOfMemory => SHORT_OR_FULL,
+        other => sentence(other),
+    };
     Ok(Some(format!(in alloc; "{refusal}: {why}")?))
 }
 

@@ -52,7 +52,8 @@ pub record FileState : Type 0 where
   pub bytes : List ℕ
   pub states : List MachineState
 
--- Behind what stood in a file stand the lines of entries, which lead on from what was recorded then.
+-- Behind what stood in a file stand the lines of entries, which lead on from what was recorded
+-- then.
 pub record GoesOn (start later : FileState) : Type 0 where
   pub entries : List NumberedEntry
   pub bytes_are : later.bytes ≡ start.bytes ++ texts_of entries
@@ -134,8 +135,8 @@ pub record StandsSince (start : FileState) (bytes : List ℕ) (synced : FileStat
   pub goes_on : GoesOn start synced
   pub stands : IsFirstPart synced.bytes bytes
 
--- What is always so: the lines lead to the states, the steps that were taken lead on from there, and
--- what was there at each sync is still on the disk.
+-- What is always so: the lines lead to the states, the steps that were taken lead on from there,
+-- and what was there at each sync is still on the disk.
 pub record IsWritten (written : WrittenState) (files : List FileState) : Type 0 where
   pub lines : GoesOn written.start
       (record { bytes = file_of written.contents; states = written.states })

@@ -24,7 +24,8 @@ impl<N: ChronicleName> Model for Receipt<N> {
 
     ghost view = { λ r. receipt_of r.recorded (option_map (λ f. f.entries) r.syncs) };
 
-    ghost invariant = { λ r. IsGiven N.is_recorded r.recorded (option_map (λ f. f.entries) r.syncs) };
+    ghost invariant = { λ r. IsGiven N.is_recorded r.recorded
+        (option_map (λ f. f.entries) r.syncs) };
 }
 
 impl<N: ChronicleName> Receipt<N> {

@@ -8,7 +8,7 @@ use crate::later_changes::LaterChange;
 use crate::undo::UNDO;
 use client::ClientFault;
 use findings::{Finding, SentCheck, Severity, answer_sentence, check_sent, has_fault, json_break};
-use std::alloc::{AllocError, AllocGlobal, Global};
+use std::alloc::{AllocError, AllocGlobal};
 use std::fmt::Display;
 
 /// The exit status where something wasn't sent, or wasn't accepted.
@@ -216,7 +216,7 @@ impl<'a, R: Print + Eprint + AllocGlobal> Caller<'a, R> {
         answer: &str,
     ) -> Result<(), ClientFault> {
         self.note_refused();
-        if let Some(sentence) = refusal_sentence(self.rt.alloc(), answer)? {
+        if let Some(sentence) = answer_sentence(self.rt.alloc(), answer)? {
             self.say(format!(in self.rt.alloc(); "{label}{name}: {sentence}")?);
         }
         Ok(())
@@ -247,18 +247,6 @@ impl<'a, R: Print + Eprint + AllocGlobal> Caller<'a, R> {
             Ok(()) => Ok(()),
             Err(_) => Err(ClientFault::Write),
         }
-    }
-}
-
-/// What an answer's refusal means. A central system whose device is full says that it lacks memory,
-/// too.
-fn refusal_sentence(alloc: Global, answer: &str) -> Result<Option<String>, AllocError> {
-    match answer_sentence(alloc, answer)? {
-        Some(sentence) if sentence.as_str().starts_with("OutOfMemory:") => {
-            let why = "memory ran out, or the central system's device is full: see its status";
-            Ok(Some(format!(in alloc; "OutOfMemory: {why}")?))
-        }
-        sentence => Ok(sentence),
     }
 }
 

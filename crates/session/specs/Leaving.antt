@@ -14,8 +14,8 @@ use Rattle.journal_writer.specs.Account.{Covers, ReceiptState}
 use Rattle.session.specs.Served.{IsServed, seen_at}
 use Rattle.session.specs.Session.{SessionState}
 
--- A call was sent to a point over a link: its Send was made on the book while the session had it. What
--- was recorded of the book ended with the state after it.
+-- A call was sent to a point over a link: its Send was made on the book while the session had it.
+-- What was recorded of the book ended with the state after it.
 pub record IsSentCall (is_recorded : Bool) (point : List ℕ) (link : ℕ) (call : Call)
     (seen : List MachineState) : Type 0 where
   pub old : StoreState

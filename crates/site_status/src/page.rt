@@ -164,7 +164,7 @@ fn push_state(out: &mut String, point: &PointSummary<'_>) -> Result<(), AllocErr
     }
     if point.calls.audit == AuditOutcome::Differs {
         out.push_str("<p class=\"warning\">In its last audit it told another schedule: ")?;
-        out.push_str("clear its profiles, and install them anew.</p>\n")?;
+        out.push_str("install its profiles anew, and audit it again.</p>\n")?;
     }
     Ok(())
 }

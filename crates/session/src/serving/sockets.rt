@@ -1,5 +1,6 @@
 //! Messages from a socket and to it.
 
+ghost use Rattle.std.specs.Prelude.{◌≡◌, IfOk};
 ghost use Rattle.session.specs.Leaving.{IsAnswerOrCall};
 
 use crate::journal::Journal;
@@ -73,6 +74,7 @@ pub(crate) fn clear_to_leave<'a, J: Journal<N>, N: ChronicleName>(
     seen: &'a Option<RecordedStates<N>>,
 ) -> Result<Cleared<'a, N>, Ended>
     requires { IsAnswerOrCall N.is_recorded text.now seen.now }
+    ensures { IfOk result (λ cleared. cleared ≡ text.now) }
 {
     let Some(recorded) = seen else {
         return match journal.write_out() {
