@@ -9,7 +9,7 @@ use crate::named_file::NamedFile;
 use crate::opening::open_to_read;
 use messages::Side;
 use ocpp_scalars::push_instant;
-use replay::MAX_SCRIPT_BYTES;
+use replay::{LONGEST_FRAME, MAX_SCRIPT_BYTES};
 use site_journal::{Line, LineFault, Noted, RestoreFault, Unrestored, read_bytes, split_line};
 use std::alloc::{AllocError, AllocGlobal, Global};
 use std::fs::File;
@@ -19,9 +19,6 @@ use std::rt::Files;
 
 /// A message that the point of a call may have sent before it. It changes nothing.
 const BEFORE_A_CALL: &str = "[2,\"\",\"Heartbeat\",{}]";
-
-/// A longer message has no room on a line of a script.
-pub const LONGEST_FRAME: usize = 1_048_576 - 128;
 
 /// Prints the journal of a folder as a script.
 pub fn print_journal<R: Files<File = File> + Print + Eprint + AllocGlobal>(

@@ -7,14 +7,16 @@ use crate::journal_file::JournalFile;
 use crate::journal_lines::{JournalLines, Lines};
 use crate::named_file::NamedFile;
 use crate::opening::OpenJournal;
-use crate::progress::Progress;
+use crate::rejections::Rejections;
 use crate::restored_journal::RestoredJournal;
 use crate::system_clock::SystemClock;
 use chronicle::{ChronicleName, Unnamed};
 use ocpp_scalars::{Instant, Moments};
+use replay::Progress;
 use site_core::Machine;
-use site_journal::{Unrestored, lose_links, push_header, restore};
-use std::alloc::AllocGlobal;
+use site_journal::{Unrestored, lose_links, push_header, restore, split_line};
+use site_status::RejectedCalls;
+use std::alloc::{AllocGlobal, Global};
 use std::fs::File;
 use std::rt::{Clock, Files};
 use std::sync::Wait;
@@ -25,13 +27,15 @@ use version_store::{Book, Pass, Shared};
 const FIRST_OF_PART: u64 = 2;
 
 /// What a site has when it is run.
-#[derive(Clone, Copy, Debug, PartialEq, Eq)]
+#[derive(Debug, Drop)]
 pub struct Resumed {
     pub points: u64,
     pub profiles: u64,
     pub transactions: u64,
     /// Calls that points haven't confirmed.
     pub calls: u64,
+    /// The calls that each point rejected, at its place in the site.
+    pub rejected: Vec<RejectedCalls>,
 }
 
 /// Restores the book that sessions will share from its journal, with a pass of its own. Returns its
@@ -56,8 +60,17 @@ pub fn restore_shared<
         return Err(FolderFault::Clock);
     };
     let mut book = shared.lock(rt);
-    let (restored, added) = restore_book(rt, opened, digest, &mut book, &mut pass, now)?;
-    let resumed = count_resumed(book.present());
+    let mut rejections = Rejections::new(rt.alloc(), book.present().site().len())?;
+    let (restored, added) = restore_book(
+        rt,
+        opened,
+        digest,
+        &mut book,
+        &mut pass,
+        &mut rejections,
+        now,
+    )?;
+    let resumed = count_resumed(book.present(), rejections.into_points());
     let states = book.recorded();
     drop(book);
     let journal = JournalFile::make(*rt, restored, added.as_str(), states, syncs)?;
@@ -85,12 +98,13 @@ fn restore_book<
     digest: &[u8; 32],
     book: &mut Book<C, A, N>,
     pass: &mut Pass<C, A>,
+    rejections: &mut Rejections,
     now: Instant,
 ) -> Result<(RestoredJournal, String), FolderFault> {
     let alloc = rt.alloc();
     let mut opened = opened;
     let mut journal = JournalLines::new(alloc);
-    let restored = restore_lines(rt, &mut opened.lines, &mut journal, book, pass);
+    let restored = restore_lines(rt, &mut opened.lines, &mut journal, book, pass, rejections);
     let is_of_this_site = say_other_site(rt, &opened.lines, &journal, digest);
     restored?;
     let kept = RestoredJournal::cut_torn(rt, opened, &journal)?;
@@ -112,20 +126,64 @@ fn restore_lines<C: Ledger, A: Ledger, R: AllocGlobal + Eprint + Clock, N: Chron
     journal: &mut JournalLines,
     book: &mut Book<C, A, N>,
     pass: &mut Pass<C, A>,
+    rejections: &mut Rejections,
 ) -> Result<(), FolderFault> {
     let mut progress = Progress::of_lines(rt);
     for _part in 0..u64::MAX {
         progress.say_lines(rt, journal.count());
-        let Some(Lines { first, bytes }) = journal.next(rt, file)? else {
+        let Some(lines) = journal.next(rt, file)? else {
             break;
         };
-        if let Err(Unrestored { line, fault }) = restore(rt.alloc(), book, pass, bytes) {
-            // Each part is counted as if one line stood before it.
-            let line = line.saturating_sub(FIRST_OF_PART).saturating_add(first);
-            return Err(FolderFault::Unrestored(Unrestored { line, fault }));
-        }
+        restore_part(rt.alloc(), lines, book, pass, rejections)?;
     }
     Ok(())
+}
+
+/// Restores a book from lines, and takes in which calls the points rejected. Before such a reply its
+/// call is the first one of its point.
+fn restore_part<C: Ledger, A: Ledger, N: ChronicleName>(
+    alloc: Global,
+    lines: Lines<'_>,
+    book: &mut Book<C, A, N>,
+    pass: &mut Pass<C, A>,
+    rejections: &mut Rejections,
+) -> Result<(), FolderFault> {
+    // What isn't restored yet, and the number of its first line.
+    let (mut left, mut first) = (lines.bytes, lines.first);
+    let (mut rest, mut number) = (left, first);
+    for _line in 0..lines.bytes.len() {
+        let Some((line, others)) = split_line(rest) else {
+            break;
+        };
+        if rejections.is_of_rejection(line)? {
+            let length = left.len().saturating_sub(rest.len());
+            restore_from(alloc, first, left.split_at(length).0, book, pass)?;
+            rejections.take_in(book.present(), line)?;
+            left = rest;
+            first = number;
+        }
+        rest = others;
+        number = number.saturating_add(1);
+    }
+    restore_from(alloc, first, left, book, pass)
+}
+
+/// Restores a book from lines of which the first one has this number.
+fn restore_from<C: Ledger, A: Ledger, N: ChronicleName>(
+    alloc: Global,
+    first: u64,
+    lines: &[u8],
+    book: &mut Book<C, A, N>,
+    pass: &mut Pass<C, A>,
+) -> Result<(), FolderFault> {
+    match restore(alloc, book, pass, lines) {
+        Ok(_) => Ok(()),
+        Err(Unrestored { line, fault }) => {
+            // They are counted as if one line stood before them.
+            let line = line.saturating_sub(FIRST_OF_PART).saturating_add(first);
+            Err(FolderFault::Unrestored(Unrestored { line, fault }))
+        }
+    }
 }
 
 /// Returns whether the lines that were read go on with the site file of this digest. Says so where
@@ -149,14 +207,15 @@ pub fn say_other_site<R: Eprint>(
     }
 }
 
-/// What the points of a site have.
-fn count_resumed(machine: &Machine) -> Resumed {
+/// What the points of a site have, which rejected these calls.
+fn count_resumed(machine: &Machine, rejected: Vec<RejectedCalls>) -> Resumed {
     let site = machine.site();
     let mut resumed = Resumed {
         points: site.len() as u64,
         profiles: 0,
         transactions: 0,
         calls: 0,
+        rejected,
     };
     for place in 0..site.len() {
         if let Some(point) = site.point(place) {

@@ -5,9 +5,8 @@ ghost use Rattle.replay.specs.Limits.{max_script_bytes};
 
 use crate::given_call::GivenCall;
 use crate::visit::Visit;
-use data_folder::LONGEST_FRAME;
 use ocpp_scalars::{Instant, push_instant};
-use replay::MAX_SCRIPT_BYTES;
+use replay::{LONGEST_FRAME, MAX_SCRIPT_BYTES};
 use std::alloc::{AllocError, Global};
 
 /// A journal's script with calls behind it.

@@ -6,7 +6,7 @@ use crate::given_call::GivenCall;
 use crate::operator_url::url_of_point;
 use crate::visit::Visit;
 use client::{Address, AnswerLines, CallEnd, ClientFault, Lines, OperatorClient, connect};
-use data_folder::Progress;
+use replay::Progress;
 use std::alloc::AllocGlobal;
 use std::fmt::Display;
 use std::io;

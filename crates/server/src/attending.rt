@@ -47,7 +47,7 @@ struct SentMoment {
 }
 
 /// Serves messages until the socket is closed or fails, the client is silent for too long, or a call
-/// to it has no reply in time.
+/// to it has no reply in time. Returns how it ended.
 pub(crate) fn attend_session<
     C: Ledger,
     A: Ledger,
@@ -61,11 +61,11 @@ pub(crate) fn attend_session<
     socket: &mut WebSocket<IncomingStream<'_, R>, NoMask>,
     core: &SessionCore,
     pass: &mut Pass<C, A>,
-)
+) -> Ended
     ensures { KeepsPass pass.old pass.new }
 {
     let Ok(now) = Instant::now(context.rt) else {
-        return;
+        return Ended::Broken;
     };
     let mut socket = WatchedSocket::new(context.rt, socket, Some(MOST_OF_OWN));
     let mut attention = Attention {
@@ -78,9 +78,10 @@ pub(crate) fn attend_session<
     };
     let mut pace = Pace::new(&watch.seats.ahead);
     for _message in context.rt.forever() {
-        if attend_next(context, watch, &mut socket, core, &mut attention, pass).is_err() {
+        let attended = attend_next(context, watch, &mut socket, core, &mut attention, pass);
+        if let Err(ended) = attended {
             pace.end();
-            return;
+            return ended;
         }
         let is_ahead = socket.websocket().get_ref().is_ahead();
         pace.keep(context.rt, is_ahead);

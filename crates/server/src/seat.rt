@@ -206,8 +206,8 @@ fn serve_admitted<
     }
     let watch = SessionWatch { seats, place, link };
     watch.begin(&core);
-    attend_session(context, &watch, &mut socket, &core, &mut pass);
-    watch.end(&core);
+    let ended = attend_session(context, &watch, &mut socket, &core, &mut pass);
+    watch.end(&core, ended);
     // What its messages took in memory is free before its place is.
     let mut stream = socket.into_inner();
     stream.end();

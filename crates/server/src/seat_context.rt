@@ -11,7 +11,7 @@ use chronicle::ChronicleName;
 use ocpp_scalars::Moments;
 use session::Journal;
 use site_keys::Keys;
-use site_status::{Boot, resumed_boot};
+use site_status::{Boot, RejectedCalls, resumed_boot};
 use std::alloc::{AllocError, Global};
 use std::rt::Clock;
 use std::sync::ledger::Ledger;
@@ -110,6 +110,13 @@ impl<
             }
         }
         Ok(())
+    }
+
+    /// Goes on with what points rejected before, each at the place of its point in the site.
+    pub fn resume_rejections(&self, rejected: Vec<RejectedCalls>) {
+        for (place, calls) in rejected.into_iter().enumerate() {
+            self.watch.resume_rejections(&self.rt, place, calls);
+        }
     }
 
     /// The journal of what is served.

@@ -5,7 +5,7 @@ use crate::site_watch::{Rejected, Reply};
 use chronicle::ChronicleName;
 use messages::ActionKind;
 use ocpp_scalars::{Instant, Moments};
-use session::{Journal, SentCall, SessionCore, Told};
+use session::{Breach, Ended, Journal, SentCall, SessionCore, Told};
 use site_status::{Boot, CallNumbers, SentMoment, Sighting};
 use std::alloc::{AllocError, Global};
 use std::rt::Clock;
@@ -40,22 +40,20 @@ impl<
         }
     }
 
-    /// It has ended.
-    pub(crate) fn end(&self, core: &SessionCore) {
+    /// It has ended so.
+    pub(crate) fn end(&self, core: &SessionCore, ended: Ended) {
         let seats = self.seats;
         seats.watch.end(&seats.rt, self.link.is_some());
         let Some(link) = self.link else {
             return;
         };
         let is_newest = seats.watch.leave(&seats.rt, self.place, link);
-        self.say(
-            core,
-            if is_newest {
-                Event::Lost
-            } else {
-                Event::Superseded
-            },
-        );
+        let event = match ended {
+            Ended::Breach(breach) if is_newest => Event::Breach(breach),
+            _ if is_newest => Event::Lost,
+            _ => Event::Superseded,
+        };
+        self.say(core, event);
     }
 
     /// A message came, and told this.
@@ -167,6 +165,8 @@ enum Event {
     Connected,
     Booted,
     Lost,
+    /// Its connection has ended, since it broke the protocol.
+    Breach(Breach),
     /// Its earlier connection has ended. It has a later one.
     Superseded,
 }
@@ -177,6 +177,9 @@ impl Event {
             Event::Connected => "connected",
             Event::Booted => "booted",
             Event::Lost => "lost",
+            Event::Breach(Breach::TooLong) => "lost: its message was too long",
+            Event::Breach(Breach::NotUtf8) => "lost: its message wasn't UTF-8",
+            Event::Breach(Breach::Frame) => "lost: it broke the WebSocket protocol",
             Event::Superseded => "its earlier connection is closed",
         }
     }

@@ -1,11 +1,12 @@
 //! What is seen of a site's connections.
 
 use crate::boot_changes::BootChanges;
-use messages::ActionKind;
+use messages::{ActionKind, ReplyStatus};
 use ocpp_scalars::Instant;
 use site_core::Machine;
 use site_status::{
-    Boot, CallMoments, CallNumbers, PointNews, SentMoment, Sighting, SiteCounts, boot_to_keep,
+    Boot, CallMoments, CallNumbers, PointNews, RejectedCalls, SentMoment, Sighting, SiteCounts,
+    boot_to_keep,
 };
 use std::alloc::{AllocError, Global};
 use std::sync::{Mutex, Wait};
@@ -111,6 +112,14 @@ impl SiteWatch {
         let mut seen = self.seen.lock(rt);
         if let Some(news) = seen.points.get_mut(place) {
             news.see(Sighting::Booted(boot));
+        }
+    }
+
+    /// The point at a place rejected these calls before the program began.
+    pub(crate) fn resume_rejections<R: Wait>(&self, rt: &R, place: usize, rejected: RejectedCalls) {
+        let mut seen = self.seen.lock(rt);
+        if let Some(news) = seen.points.get_mut(place) {
+            news.resume_rejections(rejected);
         }
     }
 
@@ -250,15 +259,11 @@ fn no_counts() -> SiteCounts {
     }
 }
 
-/// Why a call is rejected, if it is. That no profile matched a ClearChargingProfile leaves nothing
-/// undone.
+/// Why a call is rejected, if it is. Where a status leaves nothing undone, it isn't.
 fn rejection_of(sent: Option<SentMoment>, call: u64, rejection: Option<String>) -> Option<String> {
-    let status = rejection?;
-    match sent {
-        Some(sent)
-            if sent.number == call
-                && sent.action == ActionKind::ClearChargingProfile
-                && status.as_str() == "Unknown" => { None }
-        _ => Some(status),
+    let reason = rejection?;
+    match (sent, ReplyStatus::named(reason.as_str())) {
+        (Some(sent), Some(status)) if sent.number == call && status.is_done(sent.action) => None,
+        _ => Some(reason),
     }
 }

@@ -15,9 +15,9 @@ pub use context::Context;
 pub use journal::{Journal, JournalFault, NoJournal};
 pub use outcome::{Outcome, Performed};
 pub use serving::{
-    Ended, Heard, MAX_REJECTION_BYTES, SentCall, Served, Told, Watched, WatchedSocket,
-    attach_session, end_session, send_call, serve_next, serve_noted_socket, serve_sent_text,
-    serve_session, serve_socket,
+    Breach, Ended, Heard, MAX_REJECTION_BYTES, SentCall, Served, Told, Watched, WatchedSocket,
+    attach_session, end_session, rejection_in, send_call, serve_next, serve_noted_socket,
+    serve_sent_text, serve_session, serve_socket,
 };
 pub use session_core::{Peer, SessionCore};
 pub use site_journal::{Entry, Noted};

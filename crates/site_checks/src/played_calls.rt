@@ -5,8 +5,8 @@ ghost use Rattle.replay.specs.Limits.{max_script_bytes};
 
 use crate::played_lines::{find_at_point, find_in_changes, find_in_played};
 use crate::point_fuses::fuse_at;
-use data_folder::Progress;
 use findings::{Finding, ScriptCheck, Severity, check_fuse, check_sent};
+use replay::Progress;
 use show_pages::{Depth, Trace};
 use site_rules::Site;
 use std::alloc::{AllocError, Global};

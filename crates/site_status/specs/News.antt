@@ -8,6 +8,7 @@ use Rattle.messages.specs.declared.action_kind.ActionKind.{ActionKind}
 use Rattle.messages.specs.declared.action_kind.ActionKind.TheVariants.{SetChargingProfile}
 use Rattle.site_status.specs.declared.point_news.Connection.{Connection}
 use Rattle.site_status.specs.declared.point_news.PointNews.{PointNews}
+use Rattle.site_status.specs.declared.point_news.RejectedCalls.{RejectedCalls}
 use Rattle.site_status.specs.declared.point_news.SentMoment.{SentMoment}
 use Rattle.site_status.specs.declared.point_news.Sighting.{Sighting}
 use Rattle.site_status.specs.declared.point_news.Sighting.TheVariants.{Connected, Heard, Booted, Sent}
@@ -73,3 +74,8 @@ replied old call (Some reason) moment = record old {
     reason = reason;
   });
 }
+
+-- after it is known what was rejected before
+abbrev pub resumed : PointNews → RejectedCalls → PointNews
+resumed old rejected =
+    record old { rejections = rejected.count; rejection = rejected.last }

@@ -32,7 +32,7 @@ pub use kept_boot::{boot_to_keep, may_forget_since, resumed_boot};
 pub use metrics::metrics_text;
 pub use next_day::connector_picture;
 pub use page::{POINTS_OF_PAGE, site_page};
-pub use point_news::{Boot, Connection, PointNews, Rejection, SentMoment, Sighting};
+pub use point_news::{Boot, Connection, PointNews, RejectedCalls, Rejection, SentMoment, Sighting};
 pub use reboot::{Reboot, may_have_forgotten};
 pub use site_report::{SiteCounts, SiteReport};
 pub use state_page::state_json;

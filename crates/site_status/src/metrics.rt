@@ -258,7 +258,7 @@ impl PointFigure {
             PointFigure::InFlight => "Calls to it that were sent and have no reply: one at most.",
             PointFigure::InFlightSeconds => "How long ago that call was sent.",
             PointFigure::Confirmed => "Calls that it confirmed, whatever it replied.",
-            PointFigure::Rejected => "Calls that it rejected since the program began.",
+            PointFigure::Rejected => "Calls that it rejected since the journal began.",
             PointFigure::MayHaveForgotten => {
                 "Whether it booted and confirmed no install since, so that it may have lost its profiles."
             }

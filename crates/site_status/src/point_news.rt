@@ -1,7 +1,7 @@
 //! What was seen of a charge point since the program began.
 
 ghost use Rattle.std.specs.Prelude.{◌≡◌, ◌==◌, IfOk};
-ghost use Rattle.site_status.specs.News.{action_of, connected, left, replied, seen, unseen};
+ghost use Rattle.site_status.specs.News.{action_of, connected, left, replied, resumed, seen, unseen};
 
 use messages::ActionKind;
 use ocpp_scalars::Instant;
@@ -20,7 +20,7 @@ pub struct PointNews {
     pub sent: Option<SentMoment>,
     /// The number of the last install that it confirmed and didn't reject.
     pub installed: Option<u64>,
-    /// How many calls it rejected, and the last of them.
+    /// How many calls it rejected, before the program began too, and the last of them.
     pub rejections: u64,
     pub rejection: Option<Rejection>,
 }
@@ -58,6 +58,13 @@ pub struct Rejection {
     pub moment: Instant,
     /// In the point's words.
     pub reason: String,
+}
+
+/// The calls that a point rejected.
+#[derive(Debug, Drop)]
+pub struct RejectedCalls {
+    pub count: u64,
+    pub last: Option<Rejection>,
 }
 
 /// What was seen of a point.
@@ -175,6 +182,14 @@ impl PointNews {
         action
     }
 
+    /// It rejected these calls before the program began.
+    pub fn resume_rejections(&mut self, rejected: RejectedCalls)
+        ensures { self.new ≡ resumed self.old rejected }
+    {
+        self.rejections = rejected.count;
+        self.rejection = rejected.last;
+    }
+
     /// What the call of this number asked, if it is the last one that was sent.
     fn action_of(&self, call: u64) -> Option<ActionKind>
         ensures { result ≡ action_of self.now.sent call }
@@ -183,6 +198,22 @@ impl PointNews {
             Some(sent) if sent.number == call => Some(sent.action),
             _ => None,
         }
+    }
+}
+
+impl RejectedCalls {
+    /// None.
+    pub fn none() -> RejectedCalls {
+        RejectedCalls {
+            count: 0,
+            last: None,
+        }
+    }
+
+    /// One more.
+    pub fn add(&mut self, rejection: Rejection) {
+        self.count = self.count.saturating_add(1);
+        self.last = Some(rejection);
     }
 }
 

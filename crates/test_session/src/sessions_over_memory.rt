@@ -386,6 +386,7 @@ fn ends_by_close(rt: &impl Abort, ended: Ended, was_closed: bool) -> bool {
             holds(rt, !was_closed, "each later failure comes after the end");
             false
         }
+        Ended::Breach(_) => rt.panic("a breach"),
         Ended::OutOfMemory => rt.panic("out of memory"),
         Ended::Unsaved => rt.panic("unsaved"),
     }
@@ -555,7 +556,7 @@ fn is_short(rt: &impl Abort, client: Client, served: &Served) {
     match served.ended {
         Ended::Closed => same(rt, served.texts.len() as u64, 2, "texts"),
         Ended::OutOfMemory => {}
-        Ended::Broken | Ended::Unsaved => rt.panic("broken"),
+        Ended::Broken | Ended::Breach(_) | Ended::Unsaved => rt.panic("broken"),
     }
 }
 

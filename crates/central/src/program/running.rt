@@ -220,8 +220,9 @@ fn run_counted<
     } = book;
     let port = begin_port(rt, status, status_address)?;
     let (journal, resumed) = restore_shared(rt, opened, &digest, &shared, restoring, syncs)?;
-    print_resumed(rt, resumed)?;
+    print_resumed(rt, &resumed)?;
     let context = context_of(rt, shared, journal, options)?;
+    context.resume_rejections(resumed.rejected);
     begin_lines(rt, &context)?;
     keep_boots(&context, boots)?;
     port.watch(&context)?;
@@ -332,12 +333,13 @@ fn context_of<
     Ok(Arc::new(alloc, context)?)
 }
 
-fn print_resumed<R: Print>(rt: &R, resumed: Resumed) -> Result<(), ProgramFault> {
+fn print_resumed<R: Print>(rt: &R, resumed: &Resumed) -> Result<(), ProgramFault> {
     let Resumed {
         points,
         profiles,
         transactions,
         calls,
+        ..
     } = resumed;
     match println!(rt;
         "resumed {points} points, {profiles} profiles, {transactions} transactions, {calls} calls waiting"

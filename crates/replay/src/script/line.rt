@@ -15,6 +15,9 @@ use texts::SentText;
 /// The longest line of a script, in bytes.
 const MAX_LINE_BYTES: usize = 1_048_576;
 
+/// A longer message has no room on a line.
+pub const LONGEST_FRAME: usize = MAX_LINE_BYTES - 128;
+
 /// Why a line of a script can't be played, in the order in which the faults are checked.
 #[derive(Clone, Copy, Debug, PartialEq, Eq)]
 pub enum LineFault {

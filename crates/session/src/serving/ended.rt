@@ -2,19 +2,31 @@
 
 use crate::journal::JournalFault;
 use tungstenite::Error;
+use websocket::error::ProtocolError;
 
 /// How a session ended.
 #[derive(Clone, Copy, Debug, PartialEq, Eq)]
 pub enum Ended {
     /// The socket was closed, by a close frame and its answer.
     Closed,
-    /// The socket failed or ended without a close frame, its peer broke the protocol, or no clock
-    /// could be read. Or the answer to another request came for one of the session.
+    /// The socket failed or ended without a close frame, or no clock could be read. Or the answer to
+    /// another request came for one of the session.
     Broken,
+    /// Its peer broke the protocol.
+    Breach(Breach),
     /// Memory ran out where no answer could say so.
     OutOfMemory,
     /// What the next message depends on couldn't be noted or kept, so it wasn't sent.
     Unsaved,
+}
+
+/// How the peer of a socket broke the protocol (OCPP-J 1.6, chapter 3; RFC 6455).
+#[derive(Clone, Copy, Debug, PartialEq, Eq)]
+pub enum Breach {
+    TooLong,
+    NotUtf8,
+    /// By a frame that may not come so.
+    Frame,
 }
 
 /// How a session ends whose step can't be noted, or whose message depends on what isn't kept.
@@ -30,6 +42,20 @@ pub(crate) fn ended_by(error: Error) -> Ended {
     match error {
         Error::ConnectionClosed | Error::AlreadyClosed => Ended::Closed,
         Error::OutOfMemory => Ended::OutOfMemory,
+        Error::Capacity(_) => Ended::Breach(Breach::TooLong),
+        Error::Utf8 => Ended::Breach(Breach::NotUtf8),
+        Error::Protocol(error) if is_of_peer(error) => Ended::Breach(Breach::Frame),
         _ => Ended::Broken,
+    }
+}
+
+/// Whether the peer broke the protocol by a frame, and not by its leaving.
+fn is_of_peer(error: ProtocolError) -> bool {
+    match error {
+        ProtocolError::ResetWithoutClosingHandshake
+        | ProtocolError::SendAfterClosing
+        | ProtocolError::ReceivedAfterClosing
+        | ProtocolError::InvalidCloseCode(_) => false,
+        _ => true,
     }
 }
