@@ -8,9 +8,9 @@ from texts import CALL_0, MIDNIGHT, accepted, ask, clear, heartbeat, install, si
 
 CONNECTORS, PERIODS, CROWD, DAY = 64, 200, 30, 86_400
 
-# P1 has so many profiles, and is asked for so many days. Each request takes some 0.4 seconds, on a program that isn't proved some
+# P1 has so many profiles, and is asked for so many days. Each request takes some SECONDS, on a program that isn't proved some
 # 3, and with `--large` as long as one can.
-ROWS, DAYS = size((8, 16), (4, 1), (200, 31))
+ROWS, DAYS = size((16, 31), (4, 1), (200, 31))
 
 SITE = site({"P1": (1_000.0, [32.0] * CONNECTORS), "P2": (63.0, [32.0] * 2)})
 
@@ -101,7 +101,7 @@ def answered(client, text, message_id):
 
 def others_beside_long_requests(program):
     """While 31 long requests wait, another operator's are answered, and heartbeats; a ping is answered before the long request."""
-    with Site(program) as running:
+    with Site(program, ["--workers", "2"]) as running:
         waiting = Waiting(running)
         waiting.last.send_frame(PING, b"0")
         asks, beats = [], []

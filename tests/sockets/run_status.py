@@ -12,7 +12,7 @@ from xml.etree import ElementTree
 
 from audits import schedule_reply
 from browser import browser, contrast, schemes, seen_at
-from raw_client import RawClient
+from raw_client import TEXT, RawClient, frame_bytes
 from run_data import SITE, Data, SmallDevice, read
 from serving import ENVIRONMENT, PATIENCE, Running, Unexpected, expect, free_port, until
 from texts import CALL_0, accepted, ask, call, error, heartbeat, install, plain_site, profile, rejected, start
@@ -22,6 +22,13 @@ from png_colours import shares_of_colours
 
 # Seconds that a connection of the status port may take, as the program has them.
 LONGEST_STATUS = 5
+
+# Bytes by which a client breaks the protocol, and how that is said.
+BREACHES = {
+    "lost: its message wasn't UTF-8": frame_bytes(TEXT, b'["\xff"]'),
+    "lost: its message was too long": frame_bytes(TEXT, b"", length=b"\x7f" + (1_048_577).to_bytes(8, "big")),
+    "lost: it broke the WebSocket protocol": frame_bytes(TEXT, b"[]", is_masked=False),
+}
 
 INSTANT = re.compile(r"\d{4}-\d\d-\d\dT\d\d:\d\d:\d\dZ")
 
@@ -123,6 +130,10 @@ def figures_that_follow(program):
         until("the point is lost", lambda: point_of(running)["connectedSince"] is None)
         with RawClient(running) as stranger:
             stranger.shake_hands("/P9", ["Sec-WebSocket-Protocol: ocpp1.6"])
+        for content in BREACHES.values():
+            with RawClient.connected(running, "/P2") as point:
+                point.send_bytes(content)
+                point.is_ended_for_a_breach()
         until("who isn't let in is counted", lambda: metrics(running)["central_handshakes_refused_total"] == 1)
         time.sleep(0.5)  # who writes the lines may be behind
         said = [INSTANT.sub("AT", line) for line in running.kill_and_hear().decode().splitlines()]
@@ -132,6 +143,8 @@ def figures_that_follow(program):
             "central: AT P1: lost",
         ]
         expect("what is said", [line for line in said if " P1: " in line], wanted)
+        breaches = [line.removeprefix("central: AT P2: ") for line in said if " P2: lost" in line]
+        expect("what is said of breaches", breaches, list(BREACHES))
         expect("what is said of who isn't let in", [line.partition("refused")[2] for line in said if "refused" in line], [", no such point: /P9"])
 
 
@@ -182,6 +195,13 @@ def replies_that_accept_nothing(program):
                 expect(f"the rejection by {reply}", (now["rejections"], now["rejected"]["reason"]), (count, reason))
                 expect(f"what it may have forgotten behind {reply}", now["mayHaveForgotten"], True)
             expect("in the figures", metrics(running)['central_calls_rejected_total{point="P1"}'], len(replies))
+        # They stand in the journal: a restart tells the same of them.
+        running.kill()
+        with Running(program, SITE, data.path, has_status=True) as again:
+            then = point_of(again)
+            del now["rejected"]["moment"], then["rejected"]["moment"]  # of the message, which came a little earlier
+            expect("after a restart", (then["rejections"], then["rejected"]), (now["rejections"], now["rejected"]))
+            expect("in the figures of P2", metrics(again)['central_calls_rejected_total{point="P2"}'], 0)
 
 
 def an_audit_that_differs(program):

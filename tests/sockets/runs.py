@@ -190,6 +190,7 @@ def faulty_journals(program):
         ("no instant", [whole[0], b"x" + whole[1], *whole[2:]], "line 2: "),
         ("not UTF-8", [whole[0], b"\xff", *whole[1:]], "line 2: "),
         ("an empty line", [whole[0], b"", *whole[1:]], "line 2: "),
+        ("no instant behind a rejection", [*whole[:-2], b"x" + whole[-2], b""], f"line {len(whole) - 1}: "),
     ):
         with Data() as data:
             data.write(b"\n".join(lines))
@@ -442,6 +443,7 @@ def a_file_that_is_full(program):
             expect("the answers before", answers[:count], [accepted("short")] * count)
             expect("the answers behind", answers[count:], [None] * (8 - count))
             expect("what is written", len(data.bytes()), 1_000)
+            running.until_idle()  # a thread of its own says it
             said = running.kill().decode()
         wanted = [f"reserve: no room is set aside: {TOO_LARGE}", f"journal: {TOO_LARGE}"]
         expect("what is said", said.splitlines(), [f"central: {data.path}/{line}" for line in wanted])
