@@ -8,8 +8,8 @@ from texts import CALL_0, MIDNIGHT, accepted, ask, clear, heartbeat, install, si
 
 CONNECTORS, PERIODS, CROWD, DAY = 64, 200, 30, 86_400
 
-# P1 has so many profiles, and is asked for so many days. Each request takes some SECONDS, on a program that isn't proved some
-# 3, and with `--large` as long as one can.
+# P1 has so many profiles, and is asked for so many days. Each request takes some tenths of a second, on a program that isn't
+# proved some 3 seconds, and with `--large` as long as one can.
 ROWS, DAYS = size((16, 31), (4, 1), (200, 31))
 
 SITE = site({"P1": (1_000.0, [32.0] * CONNECTORS), "P2": (63.0, [32.0] * 2)})
