@@ -2,11 +2,11 @@
 
 use messages::{ActionKind, ReplyStatus, is_accepted};
 use ocppj_frame::{FrameFault, ReadingMemory, read_frame};
-use session::rejection_in;
 use site_core::{Machine, Outbox};
 use site_journal::{Line, Noted, read_bytes};
 use site_status::{RejectedCalls, Rejection};
 use std::alloc::{AllocError, Global};
+use texts::rejection_in;
 
 /// What the points of a site rejected, by the lines that were taken in.
 #[derive(Drop)]

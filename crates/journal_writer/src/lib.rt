@@ -2,6 +2,7 @@
 //! written and synced. What the file has accounts for the states that the book had, at any time.
 #![tactic(auto)]
 
+mod journal;
 mod laws;
 mod noted_steps;
 mod numbered_entry;
@@ -9,6 +10,7 @@ mod receipt;
 mod synced_file;
 mod written_steps;
 
+pub use journal::{Journal, JournalFault, NoJournal};
 pub use laws::{answered_survives, entries_are_restored};
 pub use noted_steps::NotedSteps;
 pub use numbered_entry::NumberedEntry;

@@ -8,10 +8,9 @@ use crate::pace::Pace;
 use crate::session_watch::SessionWatch;
 use bytes::Bytes;
 use chronicle::ChronicleName;
+use journal_writer::Journal;
 use ocpp_scalars::Moments;
-use session::{
-    Context, Ended, Heard, Journal, SentCall, SessionCore, WatchedSocket, send_call, serve_next,
-};
+use session::{Context, Ended, Heard, SentCall, SessionCore, WatchedSocket, send_call, serve_next};
 use std::rt::Clock;
 use std::sync::Wait;
 use std::sync::ledger::Ledger;

@@ -3,8 +3,8 @@
 use crate::seat_context::SeatContext;
 use crate::serving::ServeFault;
 use chronicle::ChronicleName;
+use journal_writer::Journal;
 use ocpp_scalars::Moments;
-use session::Journal;
 use site_rules::Site;
 use site_status::{Boot, BootLine, push_boot_line};
 use std::alloc::{AllocError, Global};

@@ -4,8 +4,9 @@ ghost use Rattle.std.specs.Prelude.{◌≡◌, ◌≤◌, IfOk, length, vec_len,
 
 use crate::connection::serve_connection;
 use chronicle::ChronicleName;
+use journal_writer::Journal;
 use ocpp_scalars::Moments;
-use session::{Context, Journal};
+use session::Context;
 use std::alloc::AllocError;
 use std::marker::{Send, Sync};
 use std::net::TcpListener;

@@ -3,9 +3,10 @@
 use crate::seat_context::SeatContext;
 use crate::site_watch::{Rejected, Reply};
 use chronicle::ChronicleName;
+use journal_writer::Journal;
 use messages::ActionKind;
 use ocpp_scalars::{Instant, Moments};
-use session::{Breach, Ended, Journal, SentCall, SessionCore, Told};
+use session::{Breach, Ended, SentCall, SessionCore, Told};
 use site_status::{Boot, CallNumbers, SentMoment, Sighting};
 use std::alloc::{AllocError, Global};
 use std::rt::Clock;

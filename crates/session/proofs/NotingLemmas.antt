@@ -29,7 +29,7 @@ use Rattle.texts.specs.declared.asked.Asked.TheVariants as asked
 use Rattle.texts.specs.Asked.{asked_of}
 use Rattle.texts.specs.Said.{said_of}
 use Rattle.texts.specs.SentText.{Sent, sent}
-use Rattle.session.specs.declared.journal.JournalFault.{JournalFault}
+use Rattle.journal_writer.specs.declared.journal.JournalFault.{JournalFault}
 use Rattle.session.specs.declared.outcome.Outcome.TheVariants as outcomes
 use Rattle.session.specs.declared.outcome.Performed.{Performed}
 use Rattle.session.specs.declared.outcome.Performed.TheVariants.{Outcome}

@@ -1,8 +1,8 @@
 //! What all sessions have at hand.
 
-use crate::journal::Journal;
 use chronicle::ChronicleName;
 use compile_pool::Jobs;
+use journal_writer::Journal;
 use ocpp_scalars::Moments;
 use std::alloc::Global;
 use std::sync::ledger::Ledger;

@@ -4,7 +4,6 @@
 
 mod answering;
 mod context;
-mod journal;
 mod outcome;
 mod serving;
 mod session_core;
@@ -12,15 +11,13 @@ mod step;
 mod todo;
 
 pub use context::Context;
-pub use journal::{Journal, JournalFault, NoJournal};
 pub use outcome::{Outcome, Performed};
 pub use serving::{
-    Breach, Ended, Heard, MAX_REJECTION_BYTES, SentCall, Served, Told, Watched, WatchedSocket,
-    attach_session, end_session, rejection_in, send_call, serve_next, serve_noted_socket,
-    serve_sent_text, serve_session, serve_socket,
+    Breach, Ended, Heard, SentCall, Served, Told, Watched, WatchedSocket, attach_session,
+    end_session, send_call, serve_next, serve_noted_socket, serve_sent_text, serve_session,
+    serve_socket,
 };
 pub use session_core::{Peer, SessionCore};
-pub use site_journal::{Entry, Noted};
 pub use step::perform;
 pub use texts::{Asked, SentText, Unread, asked_of, hold_of, number_of, response_of};
 pub use todo::{Owed, Todo};

@@ -3,6 +3,7 @@
 
 mod asked;
 mod number;
+mod rejection;
 mod response;
 mod said;
 mod sent_text;
@@ -10,6 +11,7 @@ mod unread;
 
 pub use asked::{Asked, asked_of, hold_of};
 pub use number::number_of;
+pub use rejection::{MAX_REJECTION_BYTES, rejection_in};
 pub use response::{refused_response, reply_response, response_of, schedule_response};
 pub use said::said_of;
 pub use sent_text::SentText;

@@ -5,10 +5,10 @@ ghost use Rattle.version_store.specs.Recording.{IsAt};
 
 use chronicle::ChronicleName;
 use data_folder::JournalFile;
-use journal_writer::Receipt;
+use journal_writer::{Journal, JournalFault, Receipt};
 use ocpp_scalars::Instant;
 use server::WatchedJournal;
-use session::{Entry, Journal, JournalFault, Noted};
+use site_journal::{Entry, Noted};
 use site_status::JournalReport;
 use std::alloc::AllocGlobal;
 use std::rt::Clock;

@@ -7,12 +7,12 @@ ghost use Rattle.site_core.specs.declared.step.Step.TheVariants as steps;
 ghost use Rattle.version_store.specs.Calls.{Makes};
 
 use crate::context::Context;
-use crate::journal::Journal;
 use crate::outcome::{Outcome, Performed};
 use crate::serving::ended::{Ended, ended_unsaved};
 use crate::serving::noting::note_made;
 use crate::serving::reading::read_reply;
 use chronicle::ChronicleName;
+use journal_writer::Journal;
 use meaning::Said;
 use ocpp_scalars::Moments;
 use site_core::{PointId, Reply, Step, equal_books_are_one};

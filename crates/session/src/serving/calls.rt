@@ -6,13 +6,13 @@ ghost use Rattle.session.specs.Leaving.{IsSentCall};
 ghost use Rattle.session.specs.Serving.{KeepsPass};
 
 use crate::context::Context;
-use crate::journal::Journal;
 use crate::serving::ended::{Ended, ended_unsaved};
 use crate::serving::heard::SentCall;
 use crate::serving::noting::{note_made, prepare_link};
 use crate::serving::sockets::{clear_to_leave, send_text};
 use crate::session_core::{Peer, SessionCore};
 use chronicle::ChronicleName;
+use journal_writer::Journal;
 use messages::{Call, push_call};
 use ocpp_scalars::{Instant, Moments, Refusal};
 use site_core::PointId;

@@ -1,6 +1,6 @@
 //! How sessions end.
 
-use crate::journal::JournalFault;
+use journal_writer::JournalFault;
 use tungstenite::Error;
 use websocket::error::ProtocolError;
 

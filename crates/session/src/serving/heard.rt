@@ -27,7 +27,7 @@ pub enum Told {
     /// A BootNotification: the point has begun anew.
     Boot,
     /// The reply to the call of this number, which is confirmed by it. Where the point didn't accept
-    /// it, with what it said instead, in at most [`MAX_REJECTION_BYTES`]: its status, such as `Rejected`,
+    /// it, with what it said instead, in at most [`texts::MAX_REJECTION_BYTES`]: its status, such as `Rejected`,
     /// or `Unknown` where no profile matched.
     Reply {
         call: u64,
@@ -36,9 +36,6 @@ pub enum Told {
     /// Anything else.
     Other,
 }
-
-/// So many bytes are kept of what a point says where it rejects a call.
-pub const MAX_REJECTION_BYTES: usize = 200;
 
 /// What came over a socket.
 #[derive(Drop)]

@@ -9,9 +9,9 @@ ghost use Rattle.version_store.specs.Recording.{IsAt};
 ghost use Rattle.session.specs.Noting.{AsksFor, IsEntryAt, IsEntryFor, IsNotable, IsPresent};
 
 use crate::context::Context;
-use crate::journal::{Journal, JournalFault};
 use crate::outcome::{Outcome, Performed};
 use chronicle::ChronicleName;
+use journal_writer::{Journal, JournalFault};
 use ocpp_scalars::{Instant, Moments};
 use site_core::{Reply, Step};
 use site_journal::{Entry, Noted, noted_by, noted_steps_are_restored, number_drawn};

@@ -5,10 +5,10 @@ ghost use Rattle.session.specs.Todo.{IsTodo};
 ghost use Rattle.texts.specs.Said.{said_of};
 
 use crate::context::Context;
-use crate::journal::Journal;
 use crate::session_core::SessionCore;
 use crate::todo::Todo;
 use chronicle::ChronicleName;
+use journal_writer::Journal;
 use meaning::Said;
 use ocpp_scalars::{Instant, Moments, Refusal};
 use ocppj_frame::ReadingMemory;

@@ -9,7 +9,6 @@ ghost use Rattle.session.specs.Session.{sent_by};
 ghost use Rattle.version_store.specs.Recording.{IsAt};
 
 use crate::context::Context;
-use crate::journal::{Journal, JournalFault};
 use crate::outcome::{Outcome, Performed};
 use crate::serving::audits::{OpenAudit, audit_confirmed, audit_to_judge, judge_reply};
 use crate::serving::calls::send_call;
@@ -26,6 +25,7 @@ use crate::step::perform;
 use crate::todo::Todo;
 use chronicle::ChronicleName;
 use compile_pool::{answer_job, answer_unmade, wait_answer};
+use journal_writer::{Journal, JournalFault};
 use meaning::Ask;
 use ocpp_scalars::{Instant, Moments, Refusal};
 use site_core::Step;

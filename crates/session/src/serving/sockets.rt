@@ -3,11 +3,10 @@
 ghost use Rattle.std.specs.Prelude.{◌≡◌, IfOk};
 ghost use Rattle.session.specs.Leaving.{IsAnswerOrCall};
 
-use crate::journal::Journal;
 use crate::serving::ended::{Ended, ended_by, ended_unsaved};
 use crate::serving::heard::Incoming;
 use chronicle::ChronicleName;
-use journal_writer::Receipt;
+use journal_writer::{Journal, Receipt};
 use std::alloc::{AllocError, Global};
 use std::io::{ErrorKind, Read, Write};
 use std::marker::Model;

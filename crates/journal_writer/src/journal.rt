@@ -8,8 +8,8 @@ ghost use Rattle.site_journal.specs.MadeStep.{IsOfMadeStep};
 ghost use Rattle.site_journal.specs.NotedStep.{line_at};
 ghost use Rattle.version_store.specs.Recording.{IsAt};
 
+use crate::receipt::Receipt;
 use chronicle::ChronicleName;
-use journal_writer::Receipt;
 use ocpp_scalars::Instant;
 use site_journal::{Entry, Noted};
 use std::alloc::AllocError;
