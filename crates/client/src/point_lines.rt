@@ -1,7 +1,7 @@
 //! What a line tells a simulated charge point to do.
 
 use ocpp_scalars::IdTag;
-use sim_point::SimStep;
+use sim_point_core::SimStep;
 use std::alloc::{AllocError, Global};
 use std::str::FromStr;
 

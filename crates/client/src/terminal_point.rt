@@ -5,7 +5,7 @@ use crate::lines::Lines;
 use crate::point_lines::{PointLine, point_line};
 use crate::sockets::{Came, close, receive, send};
 use ocpp_scalars::{Instant, Moments};
-use sim_point::{SimPoint, SimStep};
+use sim_point_core::{SimPoint, SimStep};
 use std::alloc::Global;
 use std::io::{Read, Write};
 use std::net::OpenStream;

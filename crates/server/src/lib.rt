@@ -37,7 +37,6 @@ mod watched_journal;
 mod workers;
 
 pub use boot_keeper::{BootKeeper, begin_boots};
-pub use notices::push_on_one_line;
 pub use own_host::is_own_host;
 pub use path::{PathPeer, peer_of_path};
 pub use seat::keep_seat;

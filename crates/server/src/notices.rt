@@ -1,6 +1,7 @@
 //! Lines for people, which a thread of their own writes to standard error.
 
 use ocpp_scalars::{Instant, Moments, push_instant};
+use site_status::push_on_one_line;
 use std::alloc::{AllocError, Global};
 use std::mem;
 use std::sync::{Condvar, Mutex, Wait};
@@ -118,17 +119,4 @@ fn line_of(alloc: Global, moment: Instant, who: &str, what: &str) -> Result<Stri
     line.push_str(": ")?;
     push_on_one_line(&mut line, what)?;
     Ok(line)
-}
-
-/// Appends a text of somebody else. A control character becomes a space, so that it begins no line.
-/// Where memory runs out, a part of the text may be there.
-pub fn push_on_one_line(line: &mut String, text: &str) -> Result<(), AllocError> {
-    for character in text.chars() {
-        line.push(if character.is_control() {
-            ' '
-        } else {
-            character
-        })?;
-    }
-    Ok(())
 }

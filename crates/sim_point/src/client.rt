@@ -1,6 +1,7 @@
 //! A simulated charge point at its WebSocket.
-use crate::point::SimPoint;
+
 use ocpp_scalars::{Instant, Moments};
+use sim_point_core::SimPoint;
 use std::alloc::Global;
 use std::io::{Read, Write};
 use std::sync::Wait;

@@ -1,19 +1,8 @@
-//! A simulated charge point (OCPP 1.6, chapters 3.13, 4.6, 4.8, 4.10, 5.5, 5.7, 5.11 and 5.16). It
-//! has a book of its own, as a real point has. The central system's calls change that book and are
-//! answered from it. The point makes the calls of a list of steps, one after another, and before
-//! them the starts that it is asked for. What a message comes to stands in `specs/SimPoint.antt`.
+//! A simulated charge point at its WebSocket (OCPP-J 1.6, chapter 3): [`SimPoint`] of `sim_point_core`
+//! over a socket.
 #![tactic(auto)]
 
-mod answer;
 mod client;
-mod own_book;
-mod point;
-mod point_call;
-mod point_call_text;
-mod remote_start;
-mod request;
-mod sim_step;
 
 pub use client::{Ended, run_client};
-pub use point::SimPoint;
-pub use sim_step::SimStep;
+pub use sim_point_core::{SimPoint, SimStep};
