@@ -7,25 +7,16 @@
 
 ghost use Rattle.std.specs.Prelude.{◌≤◌};
 
-mod program;
+mod last_line;
 
-use crate::program::calling::call_site;
-use crate::program::checking::check_file;
-use crate::program::explaining::explain_file;
-use crate::program::key_file::make_key;
-use crate::program::last_line::say_fault;
-use crate::program::pages::{Screen, as_printed};
-use crate::program::pointing::run_point;
-use crate::program::program_fault::{ProgramFault, summary_status};
-use crate::program::replaying::replay_file;
-use crate::program::running::run_file;
-use crate::program::serving::serve_file;
-use crate::program::showing::show_file;
-use crate::program::site_file::say_unread;
-use crate::program::status::show_status;
+use crate::last_line::say_fault;
 use clap::error::ErrorKind;
+use client_commands::{call_site, run_point, show_status};
+use command_io::{ProgramFault, Screen, as_printed, say_unread, summary_status};
 use command_line::{Job, Running, job_of};
 use data_folder::{FolderFault, print_journal};
+use page_commands::{check_file, explain_file, replay_file, show_file};
+use server_commands::{make_key, run_file, serve_file};
 use std::alloc::AllocGlobal;
 use std::fs::File;
 use std::io::IsTerminal;

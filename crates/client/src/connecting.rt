@@ -1,7 +1,7 @@
 //! Connections to a central system (OCPP-J 1.6, chapter 3.1).
 
-use crate::fault::ClientFault;
 use base64::engine::general_purpose::STANDARD;
+use client_lines::ClientFault;
 use http::{HeaderName, HeaderValue, Request, StatusCode};
 use std::alloc::{Alloc, Global};
 use std::net::{Net, TcpStream};

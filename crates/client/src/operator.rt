@@ -1,7 +1,7 @@
 //! An operator's client.
 
-use crate::fault::ClientFault;
 use crate::sockets::{Came, close, receive, send};
+use client_lines::ClientFault;
 use ocppj_frame::{
     Field, Frame, FrameFault, MessageId, Payload, ReadingMemory, read_frame, text_field,
 };

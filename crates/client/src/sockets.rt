@@ -1,6 +1,6 @@
 //! Messages from a socket and to it.
 
-use crate::fault::ClientFault;
+use client_lines::ClientFault;
 use std::alloc::Global;
 use std::io::{ErrorKind, Read, Write};
 use std::net::OpenStream;

@@ -1,9 +1,7 @@
 //! A simulated charge point that does what lines of text say.
 
-use crate::fault::ClientFault;
-use crate::lines::Lines;
-use crate::point_lines::{PointLine, point_line};
 use crate::sockets::{Came, close, receive, send};
+use client_lines::{ClientFault, Lines, PointLine, point_line};
 use ocpp_scalars::{Instant, Moments};
 use sim_point_core::{SimPoint, SimStep};
 use std::alloc::Global;

@@ -79,7 +79,7 @@ fn push_call(
 }
 
 /// A JSON text on one line. A line break stands between two words of it, for no string has one.
-pub(crate) fn on_one_line(alloc: Global, text: &str) -> Result<String, AllocError> {
+pub fn on_one_line(alloc: Global, text: &str) -> Result<String, AllocError> {
     let mut line = String::new(alloc);
     for character in text.chars() {
         line.push(if matches!(character, '\n' | '\r') {

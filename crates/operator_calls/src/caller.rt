@@ -6,7 +6,7 @@ ghost use Rattle.findings.specs.ExitStatus.{has_fault};
 use crate::given_call::GivenCall;
 use crate::later_changes::LaterChange;
 use crate::undo::UNDO;
-use client::ClientFault;
+use client_lines::ClientFault;
 use findings::{Finding, SentCheck, Severity, answer_sentence, check_sent, has_fault, json_break};
 use std::alloc::{AllocError, AllocGlobal};
 use std::fmt::Display;
@@ -33,7 +33,7 @@ pub struct Sending<'a> {
 /// Who sends messages, and what came of them so far.
 #[derive(Drop)]
 pub struct Caller<'a, R> {
-    pub(crate) rt: &'a R,
+    pub rt: &'a R,
     pub sending: Sending<'a>,
     status: u8,
 }
@@ -77,7 +77,7 @@ impl<'a, R: Print + Eprint + AllocGlobal> Caller<'a, R> {
     }
 
     /// Whether a message is to be sent, which is reported by this name. Says what is wrong with it.
-    pub(crate) fn passes<N: Display + Copy + Drop>(
+    pub fn passes<N: Display + Copy + Drop>(
         &mut self,
         name: N,
         text: &str,
@@ -155,7 +155,7 @@ impl<'a, R: Print + Eprint + AllocGlobal> Caller<'a, R> {
     }
 
     /// What each line about a point begins with, where it is called by its identity.
-    pub(crate) fn label_of(&self, point: Option<&str>) -> Result<String, AllocError> {
+    pub fn label_of(&self, point: Option<&str>) -> Result<String, AllocError> {
         match point {
             Some(point) => format!(in self.rt.alloc(); "{point} "),
             None => Ok(String::new(self.rt.alloc())),
@@ -164,11 +164,7 @@ impl<'a, R: Print + Eprint + AllocGlobal> Caller<'a, R> {
 
     /// Notes that the connection to a point's operator failed, and says so. Any other fault stops the
     /// program.
-    pub(crate) fn note_failed(
-        &mut self,
-        point: &str,
-        fault: ClientFault,
-    ) -> Result<(), ClientFault> {
+    pub fn note_failed(&mut self, point: &str, fault: ClientFault) -> Result<(), ClientFault> {
         if !is_of_one_point(fault) {
             return Err(fault);
         }
@@ -209,7 +205,7 @@ impl<'a, R: Print + Eprint + AllocGlobal> Caller<'a, R> {
     }
 
     /// Notes that a message was refused, and says what its answer means.
-    pub(crate) fn refused<N: Display + Drop>(
+    pub fn refused<N: Display + Drop>(
         &mut self,
         label: &str,
         name: N,
@@ -223,11 +219,7 @@ impl<'a, R: Print + Eprint + AllocGlobal> Caller<'a, R> {
     }
 
     /// Prints why a message isn't sent.
-    pub(crate) fn report<N: Display + Drop>(
-        &mut self,
-        name: N,
-        why: &str,
-    ) -> Result<(), ClientFault> {
+    pub fn report<N: Display + Drop>(&mut self, name: N, why: &str) -> Result<(), ClientFault> {
         self.note_refused();
         self.print(format!(in self.rt.alloc(); "! {name} {why}")?)
     }
@@ -237,12 +229,12 @@ impl<'a, R: Print + Eprint + AllocGlobal> Caller<'a, R> {
     }
 
     /// Says something more on standard error. Where that can't be written no answer is lost.
-    pub(crate) fn say(&self, words: String) {
+    pub fn say(&self, words: String) {
         let _ = self.rt.eprintln(&words);
     }
 
     /// Prints a line.
-    pub(crate) fn print(&self, line: String) -> Result<(), ClientFault> {
+    pub fn print(&self, line: String) -> Result<(), ClientFault> {
         match self.rt.println(&line) {
             Ok(()) => Ok(()),
             Err(_) => Err(ClientFault::Write),

@@ -8,12 +8,11 @@ mod given_call;
 mod kept;
 mod later_changes;
 mod operator_url;
-mod sending;
 mod undo;
 mod undone_line;
 mod visit;
 
-pub use call_script::{CallScript, script_of_calls};
+pub use call_script::{CallScript, on_one_line, script_of_calls};
 pub use caller::{Caller, Sending};
 pub use given_call::GivenCall;
 pub use later_changes::LaterChange;

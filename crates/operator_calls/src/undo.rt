@@ -6,7 +6,7 @@ ghost use Rattle.replay.specs.Limits.{max_script_bytes};
 use crate::given_call::GivenCall;
 use crate::kept::{Kept, is_among, kept_by, transaction_of};
 use crate::later_changes::{LaterChange, PointFollower};
-use client::{clear_call, set_profile_call};
+use client_lines::{clear_call, set_profile_call};
 use findings::takes_place_of;
 use profile::Purpose;
 use replay::{Playing, Progress};

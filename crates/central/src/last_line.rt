@@ -1,0 +1,67 @@
+//! The line that says why the program stops.
+
+use command_io::ProgramFault;
+use data_folder::FolderFault;
+use std::alloc::AllocGlobal;
+use std::marker::{Send, Sync};
+use std::rt::Clock;
+use std::sync::{Arc, Condvar, Mutex, Wait};
+use std::thread;
+use std::thread::Threads;
+use std::time::Duration;
+
+/// For so many seconds a program whose journal is broken waits at most until its last line is
+/// written.
+const LONGEST_WAIT: u64 = 2;
+
+/// Whether the line is written.
+#[derive(Drop)]
+struct LastLine {
+    is_written: Mutex<bool>,
+    /// Whoever waits for it waits here.
+    written: Condvar,
+}
+
+impl LastLine {
+    /// Writes the line, or finds that it can't be written.
+    fn write<R: Eprint + Wait>(&self, rt: &R) {
+        let _ = rt.eprintln(&ProgramFault::Folder(FolderFault::Write));
+        *self.is_written.lock(rt) = true;
+        self.written.notify_all();
+    }
+}
+
+/// Writes to standard error why the program stops. Where that is a pipe that nobody reads, a broken
+/// journal ends the program without the line: whoever supervises it is to start it anew.
+pub fn say_fault<
+    R: Eprint + AllocGlobal + Clock + Threads + Wait + Copy + Send + Sync + Drop + 'static,
+>(rt: &R, fault: &ProgramFault) {
+    let is_said = match fault {
+        ProgramFault::Folder(FolderFault::Write) => say_in_time(rt).is_some(),
+        _ => false,
+    };
+    if !is_said {
+        let _ = rt.eprintln(fault);
+    }
+}
+
+/// Writes on a thread of its own that the journal is broken, and waits for that, but not for ever.
+/// None where no thread can be made.
+fn say_in_time<
+    R: Eprint + AllocGlobal + Clock + Threads + Wait + Copy + Send + Sync + Drop + 'static,
+>(rt: &R) -> Option<()> {
+    let line = LastLine {
+        is_written: Mutex::new(false),
+        written: Condvar::new(),
+    };
+    let line = Arc::new(rt.alloc(), line).ok()?;
+    let (own, own_rt) = (Arc::try_clone(&line).ok()?, *rt);
+    let writer = thread::Builder::new().spawn(rt, move || own.write(&own_rt));
+    writer.ok()?;
+    let is_written = line.is_written.lock(rt);
+    let longest = Duration::from_secs(LONGEST_WAIT);
+    let _ = line
+        .written
+        .wait_timeout_while(rt, is_written, longest, |is_written| !*is_written);
+    Some(())
+}

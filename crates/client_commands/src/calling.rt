@@ -1,0 +1,164 @@
+//! The job of `central call`.
+
+use crate::given_calls::given_calls;
+use crate::sending::{send_calls, send_lines};
+use crate::state_check::check_visits;
+use crate::undoing::{Undoing, hold_undo, undo_of};
+use crate::waiting_calls::say_waiting;
+use client::Address;
+use client_lines::Lines;
+use command_io::{ProgramFault, read_login, read_site_file};
+use command_line::Calling;
+use operator_calls::{
+    Caller, GivenCall, Sending, Visit, is_without_point, point_of_url, url_of_point, visits_of_site,
+};
+use site_rules::Site;
+use std::alloc::{AllocError, AllocGlobal, Global};
+use std::fs::File;
+use std::mem;
+use std::net::TcpStream;
+use std::random::RandomSource;
+use std::rt::{Clock, Files, Net};
+use std::sync::Wait;
+
+/// Sends what the options say, or the lines of standard input. Returns the exit status.
+pub fn call_site<
+    R: Files<File = File>
+        + Clock
+        + Input
+        + Print
+        + Eprint
+        + AllocGlobal
+        + Net<Stream = TcpStream>
+        + RandomSource
+        + Wait
+        + Copy
+        + Drop,
+>(rt: &R, calling: Calling<'_>) -> Result<u8, ProgramFault> {
+    check_url(rt.alloc(), calling)?;
+    let sending = Sending {
+        url: calling.url,
+        login: read_login(rt, calling.login)?,
+        force: calling.force,
+        dry_run: calling.dry_run,
+    };
+    let mut undo = undo_in(rt, calling)?;
+    let mut given = undo_calls(rt.alloc(), &mut undo);
+    given.append(&mut given_calls(rt, calling)?)?;
+    let site = match calling.site {
+        Some(path) => Some(read_site_file(rt, path)?),
+        None => None,
+    };
+    let mut caller = Caller::new(rt, sending);
+    if !calling.gives_calls() {
+        send_lines(&mut caller, &mut Lines::new(rt.alloc(), rt.reader())?)?;
+        return Ok(caller.status());
+    }
+    let calls = caller.passed(given)?;
+    let visits = visits_of(rt, calling, &mut caller, &undo, site, calls.as_slice())?;
+    send_calls(&mut caller, calls.as_slice(), visits.as_slice())?;
+    say_waiting(rt, calling, visits.as_slice())?;
+    Ok(caller.status())
+}
+
+/// Which calls go to which points: to the point of what is undone, to each of the site, or to that of
+/// the URL. Leaves out those that are held back, and says why.
+fn visits_of<R: Files<File = File> + Clock + Print + Eprint + AllocGlobal>(
+    rt: &R,
+    calling: Calling<'_>,
+    caller: &mut Caller<'_, R>,
+    undo: &Option<Undoing>,
+    site: Option<Site>,
+    calls: &[GivenCall],
+) -> Result<Vec<Visit>, ProgramFault> {
+    let mut visits = match undo {
+        Some(undoing) => undo_visit(rt.alloc(), calling.url, undoing, calls.len())?,
+        None => plain_visits(rt.alloc(), calling, &site, calls.len())?,
+    };
+    if let Some(undoing) = undo {
+        hold_undo(caller, undoing, calls, &mut visits)?;
+    }
+    if let (Some(folder), Some(site)) = (calling.folder, site) {
+        check_visits(rt, caller, folder, site, calls, &mut visits)?;
+    }
+    Ok(visits)
+}
+
+/// Refuses a URL that can't be an operator's, and options without what belongs to them.
+fn check_url(alloc: Global, calling: Calling<'_>) -> Result<(), ProgramFault> {
+    let wants_site = calling.all || calling.folder.is_some();
+    if wants_site != calling.site.is_some() {
+        return Err(ProgramFault::AllWithoutSite);
+    }
+    if wants_site && !calling.gives_calls() {
+        return Err(ProgramFault::AllWithoutCalls);
+    }
+    if calling.undo.is_some() && (calling.all || calling.folder.is_none()) {
+        return Err(ProgramFault::UndoWithoutData);
+    }
+    let lacks_point = calling.all || calling.undo.is_some() && is_without_point(calling.url);
+    if !lacks_point {
+        Address::of_operator(alloc, calling.url)?;
+        return Ok(());
+    }
+    if calling.all && Address::of_operator(alloc, calling.url).is_ok() {
+        return Err(ProgramFault::AllElsewhere);
+    }
+    // Each point has this URL, but for its identity.
+    Address::of_operator(alloc, url_of_point(alloc, calling.url, "ID")?.as_str())?;
+    Ok(())
+}
+
+/// What undoes the line that is to be undone, if one is.
+fn undo_in<R: Files<File = File> + Clock + Eprint + AllocGlobal>(
+    rt: &R,
+    calling: Calling<'_>,
+) -> Result<Option<Undoing>, ProgramFault> {
+    let (Some(number), Some(folder), Some(path)) = (calling.undo, calling.folder, calling.site)
+    else {
+        return Ok(None);
+    };
+    let site = read_site_file(rt, path)?;
+    Ok(Some(undo_of(rt, folder, site, number)?))
+}
+
+/// Takes the calls out of what undoes a line.
+fn undo_calls(alloc: Global, undo: &mut Option<Undoing>) -> Vec<GivenCall> {
+    match undo {
+        Some(undoing) => mem::replace(&mut undoing.undo.calls, Vec::new(alloc)),
+        None => Vec::new(alloc),
+    }
+}
+
+/// The points that so many calls go to: each of the site, or that of the URL.
+fn plain_visits(
+    alloc: Global,
+    calling: Calling<'_>,
+    site: &Option<Site>,
+    count: usize,
+) -> Result<Vec<Visit>, AllocError> {
+    match site {
+        Some(site) if calling.all => visits_of_site(alloc, site, count),
+        _ => {
+            let mut visits = Vec::new(alloc);
+            visits.push(Visit::of_url(alloc, calling.url, count)?)?;
+            Ok(visits)
+        }
+    }
+}
+
+/// The visit to the point of what is undone. The operator's URL lacks its identity, or has it.
+fn undo_visit(
+    alloc: Global,
+    url: &str,
+    undoing: &Undoing,
+    count: usize,
+) -> Result<Vec<Visit>, ProgramFault> {
+    let named = point_of_url(url);
+    let Some(visit) = Visit::at_point(alloc, named, undoing.point.as_str(), count)? else {
+        return Err(ProgramFault::UndoElsewhere);
+    };
+    let mut visits = Vec::new(alloc);
+    visits.push(visit)?;
+    Ok(visits)
+}

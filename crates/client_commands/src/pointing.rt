@@ -1,0 +1,67 @@
+//! The job of `central point`.
+
+use client::{Address, TerminalPoint, connect};
+use client_lines::Lines;
+use command_io::{ProgramFault, read_login, read_site_file};
+use command_line::Pointing;
+use data_folder::SystemClock;
+use sim_point_core::SimPoint;
+use site_rules::Site;
+use std::alloc::{AllocError, AllocGlobal, Global};
+use std::fs::File;
+use std::io;
+use std::net::TcpStream;
+use std::random::RandomSource;
+use std::rt::{Clock, Files, Net};
+use std::sync::Wait;
+
+/// Simulates a charge point. Returns the exit status.
+pub fn run_point<
+    R: Files<File = File>
+        + Input
+        + Print
+        + Eprint
+        + AllocGlobal
+        + Clock
+        + Net<Stream = TcpStream>
+        + RandomSource
+        + Wait
+        + Copy
+        + Drop,
+>(rt: &R, pointing: Pointing<'_>) -> Result<u8, ProgramFault> {
+    let alloc = rt.alloc();
+    let base = pointing.url.trim_end_matches('/');
+    let url = format!(in alloc; "{base}/{}", pointing.id)?;
+    let address = Address::of_url(alloc, url.as_str())?;
+    let login = read_login(rt, pointing.login)?;
+    let address = address.logged_in(alloc, &login)?;
+    let site = read_site_file(rt, pointing.site)?;
+    let point = point_of_site(alloc, &site, pointing.id)?;
+    let socket = connect(rt, alloc, address)?;
+    let mut lines = Lines::new(alloc, rt.reader())?;
+    let terminal = TerminalPoint {
+        alloc,
+        socket,
+        point,
+        writer: &mut io::writer(rt),
+    };
+    match terminal.play(rt, &mut lines, &SystemClock { rt })? {
+        0 => Ok(0),
+        _ => Ok(2),
+    }
+}
+
+/// A simulated point with the ceilings of the site's.
+fn point_of_site(alloc: Global, site: &Site, id: &str) -> Result<SimPoint, ProgramFault> {
+    let Some(place) = site.place_of(id) else {
+        return Err(ProgramFault::NoSuchPoint);
+    };
+    let Some(point) = site.point(place) else {
+        return Err(ProgramFault::NoSuchPoint);
+    };
+    let ceilings = Vec::from_slice(alloc, point.ceilings)?;
+    match SimPoint::try_new(alloc, site.unit(), point.ceiling, ceilings, Vec::new(alloc)) {
+        Ok(simulated) => Ok(simulated),
+        Err(AllocError) => Err(ProgramFault::OutOfMemory),
+    }
+}

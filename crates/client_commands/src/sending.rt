@@ -1,0 +1,211 @@
+//! Connections to the operators of points, and what is sent over them.
+
+use client::{Address, AnswerLines, CallEnd, OperatorClient, connect};
+use client_lines::{ClientFault, Lines};
+use operator_calls::{Caller, GivenCall, Visit, on_one_line, url_of_point};
+use replay::Progress;
+use std::alloc::AllocGlobal;
+use std::fmt::Display;
+use std::io;
+use std::io::Read;
+use std::net::TcpStream;
+use std::random::RandomSource;
+use std::rt::{Clock, Net};
+use std::sync::Wait;
+use tungstenite::RandomKeys;
+
+/// Where messages go.
+#[derive(Drop)]
+struct Callee<R: RandomSource> {
+    /// What each line begins with that is printed of it.
+    label: String,
+    /// The connection, unless nothing is sent.
+    client: Option<OperatorClient<TcpStream, RandomKeys<R>>>,
+}
+
+/// Sends calls to points, one after another. Of several a point whose connection fails is named,
+/// and where they take long it is said how many are done.
+pub fn send_calls<
+    R: Print
+        + Eprint
+        + AllocGlobal
+        + Clock
+        + Net<Stream = TcpStream>
+        + RandomSource
+        + Wait
+        + Copy
+        + Drop,
+>(caller: &mut Caller<'_, R>, calls: &[GivenCall], visits: &[Visit]) -> Result<(), ClientFault> {
+    let rt = caller.rt;
+    let total = visits.len();
+    let mut progress = Progress::begin(rt);
+    let mut is_told = false;
+    for (done, visit) in visits.iter().enumerate() {
+        if progress.is_due(rt) {
+            caller.say(format!(in rt.alloc(); "central: {done} of {total} points")?);
+            is_told = true;
+        }
+        match (send_to(caller, calls, visit), visit.label()) {
+            (Ok(()), _) => {}
+            (Err(fault), Some(point)) => caller.note_failed(point, fault)?,
+            (Err(fault), None) => return Err(fault),
+        }
+    }
+    if is_told {
+        caller.say(format!(in rt.alloc(); "central: {total} of {total} points")?);
+    }
+    Ok(())
+}
+
+/// Sends the calls that go to a point.
+fn send_to<
+    R: Print
+        + Eprint
+        + AllocGlobal
+        + Clock
+        + Net<Stream = TcpStream>
+        + RandomSource
+        + Wait
+        + Copy
+        + Drop,
+>(caller: &mut Caller<'_, R>, calls: &[GivenCall], visit: &Visit) -> Result<(), ClientFault> {
+    if visit.calls.is_empty() {
+        return Ok(());
+    }
+    let mut callee = reach(caller, visit.label())?;
+    for place in &visit.calls {
+        if let Some(call) = calls.get(*place) {
+            send(caller, &mut callee, call.name, call.frame.as_str())?;
+        }
+    }
+    leave(callee);
+    Ok(())
+}
+
+/// Sends lines, each of which is a message, to the operator's URL.
+pub fn send_lines<
+    R: Print
+        + Eprint
+        + AllocGlobal
+        + Clock
+        + Net<Stream = TcpStream>
+        + RandomSource
+        + Wait
+        + Copy
+        + Drop,
+    S: Read + Drop,
+>(caller: &mut Caller<'_, R>, lines: &mut Lines<S>) -> Result<(), ClientFault> {
+    let rt = caller.rt;
+    let mut callee = reach(caller, None)?;
+    for _line in rt.forever() {
+        if !lines.advance()? {
+            break;
+        }
+        let number = lines.number();
+        match lines.text() {
+            Some(text) => {
+                if caller.passes(number, text)? {
+                    send(caller, &mut callee, number, text)?;
+                }
+            }
+            None => caller.report(number, "BadText")?,
+        }
+    }
+    leave(callee);
+    Ok(())
+}
+
+/// Connects to the operator's URL, or to that of the point of an identity, unless nothing is sent.
+fn reach<
+    R: Print
+        + Eprint
+        + AllocGlobal
+        + Clock
+        + Net<Stream = TcpStream>
+        + RandomSource
+        + Wait
+        + Copy
+        + Drop,
+>(caller: &Caller<'_, R>, point: Option<&str>) -> Result<Callee<R>, ClientFault> {
+    let label = caller.label_of(point)?;
+    let client = if caller.sending.dry_run {
+        None
+    } else {
+        Some(connected(caller, point)?)
+    };
+    Ok(Callee { label, client })
+}
+
+/// A client that is connected.
+fn connected<
+    R: Print
+        + Eprint
+        + AllocGlobal
+        + Clock
+        + Net<Stream = TcpStream>
+        + RandomSource
+        + Wait
+        + Copy
+        + Drop,
+>(
+    caller: &Caller<'_, R>,
+    point: Option<&str>,
+) -> Result<OperatorClient<TcpStream, RandomKeys<R>>, ClientFault> {
+    let alloc = caller.rt.alloc();
+    let sending = &caller.sending;
+    let address = match point {
+        Some(point) => Address::of_operator(
+            alloc,
+            url_of_point(alloc, sending.url, point)?.as_str(),
+        )?,
+        None => Address::of_operator(alloc, sending.url)?,
+    };
+    let address = address.logged_in(alloc, &sending.login)?;
+    let socket = connect(caller.rt, alloc, address)?;
+    Ok(OperatorClient::new(alloc, socket))
+}
+
+/// Sends a message, or prints it if nothing is sent.
+fn send<
+    R: Print
+        + Eprint
+        + AllocGlobal
+        + Clock
+        + Net<Stream = TcpStream>
+        + RandomSource
+        + Wait
+        + Copy
+        + Drop,
+    N: Display + Copy + Drop,
+>(
+    caller: &mut Caller<'_, R>,
+    callee: &mut Callee<R>,
+    name: N,
+    text: &str,
+) -> Result<(), ClientFault> {
+    let rt = caller.rt;
+    let label = callee.label.as_str();
+    let Some(client) = &mut callee.client else {
+        let line = on_one_line(rt.alloc(), text)?;
+        return caller.print(format!(in rt.alloc(); "{label}{line}")?);
+    };
+    let mut writer = io::writer(rt);
+    let mut lines = AnswerLines {
+        writer: &mut writer,
+        start: label,
+    };
+    match client.call(rt, &mut lines, text)? {
+        CallEnd::Accepted => Ok(()),
+        CallEnd::Refused(answer) => caller.refused(label, name, answer.as_str()),
+        CallEnd::NotACall => caller.report(name, "NotACall"),
+    }
+}
+
+/// Closes the connection, if there is one.
+fn leave<R: RandomSource + Drop>(callee: Callee<R>) {
+    let Callee { label, client } = callee;
+    drop(label);
+    if let Some(client) = client {
+        client.end();
+    }
+}

@@ -1,0 +1,62 @@
+//! What is said of calls by what their points have, before they are sent.
+
+use command_io::{ProgramFault, now};
+use data_folder::read_journal_script;
+use operator_calls::{CallScript, Caller, GivenCall, Visit, script_of_calls};
+use replay::ReplayFault;
+use site_checks::PlayedCalls;
+use site_rules::Site;
+use std::alloc::{AllocGlobal, Global};
+use std::fs::File;
+use std::rt::{Clock, Files};
+
+/// Leaves to visits the calls that their points would take, by what these have after the journal of
+/// a folder and the calls before. Says what is found.
+pub fn check_visits<R: Files<File = File> + Clock + Print + Eprint + AllocGlobal>(
+    rt: &R,
+    caller: &mut Caller<'_, R>,
+    folder: &str,
+    site: Site,
+    calls: &[GivenCall],
+    visits: &mut Vec<Visit>,
+) -> Result<(), ProgramFault> {
+    let alloc = rt.alloc();
+    let journal = read_journal_script(rt, folder)?;
+    if visits
+        .iter()
+        .any(|visit| site.place_of(visit.id.as_str()).is_none())
+    {
+        return Err(ProgramFault::NoSuchPoint);
+    }
+    let Some(made) = script_of_calls(journal, now(rt)?, calls, visits.as_slice())? else {
+        return Err(ProgramFault::Replay(ReplayFault::ScriptTooLong));
+    };
+    let CallScript { script, lines } = made;
+    let mut played = PlayedCalls::behind(rt, alloc, script.as_slice(), lines, site)?;
+    for visit in visits {
+        let passed = passed_calls(alloc, caller, &mut played, calls, &*visit)?;
+        visit.calls = passed;
+    }
+    Ok(())
+}
+
+/// The calls of a visit that its point would take. They are the next lines of the script.
+fn passed_calls<R: Print + Eprint + AllocGlobal>(
+    alloc: Global,
+    caller: &mut Caller<'_, R>,
+    played: &mut PlayedCalls<'_>,
+    calls: &[GivenCall],
+    visit: &Visit,
+) -> Result<Vec<usize>, ProgramFault> {
+    let mut passed = Vec::new(alloc);
+    for place in &visit.calls {
+        let Some(call) = calls.get(*place) else {
+            continue;
+        };
+        let findings = played.find_in_next(alloc, visit.id.as_str(), call.frame.as_str())?;
+        if caller.passes_at(visit.label(), call, findings.as_slice())? {
+            passed.push(*place)?;
+        }
+    }
+    Ok(passed)
+}

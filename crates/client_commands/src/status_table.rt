@@ -1,0 +1,121 @@
+//! The state of a site as a table.
+
+use command_io::ProgramFault;
+use json::{Error, Scratch, Value};
+use show_pages::Table;
+use site_status::push_on_one_line;
+use std::alloc::{AllocError, Global};
+
+/// What a table of points has at its head.
+const HEADINGS: [&str; 9] = [
+    "point",
+    "connected since",
+    "last text",
+    "booted",
+    "confirmed",
+    "in flight since",
+    "waiting",
+    "waiting since",
+    "rejected",
+];
+
+/// What stands for what wasn't seen.
+const NONE: &str = "-";
+
+/// A site as its state tells it.
+#[derive(Drop)]
+pub struct StatusTable {
+    /// The table, and below it what is to be done.
+    pub text: String,
+    /// Whether the site is well.
+    pub is_well: bool,
+}
+
+/// The table of a state, as `/state.json` has it.
+pub fn status_table(alloc: Global, state: &str) -> Result<StatusTable, ProgramFault> {
+    let mut scratch = Scratch::new(alloc);
+    let state = match Value::parse(alloc, state, &mut scratch) {
+        Ok(state) => state,
+        Err(Error::OutOfMemory) => return Err(ProgramFault::OutOfMemory),
+        Err(_) => return Err(ProgramFault::NoStatus),
+    };
+    let (Some(health), Some(Value::Array(points))) = (
+        text_in(&state, "health"),
+        state.get("points"),
+    ) else {
+        return Err(ProgramFault::NoStatus);
+    };
+    let mut text = String::new(alloc);
+    let mut table = Table::new(alloc, &HEADINGS)?;
+    for point in points {
+        table.push(cells_of(alloc, point)?)?;
+    }
+    table.push_to(&mut text, 0)?;
+    for point in points {
+        push_warning(&mut text, point)?;
+    }
+    let is_well = health == "ok";
+    if !is_well {
+        write!(text, "the site: {health}\n")?;
+    }
+    Ok(StatusTable { text, is_well })
+}
+
+/// The cells of a point.
+fn cells_of(alloc: Global, point: &Value<'_>) -> Result<[String; 9], AllocError> {
+    Ok([
+        cell(alloc, text_in(point, "id"))?,
+        cell(alloc, text_in(point, "connectedSince"))?,
+        cell(alloc, text_in(point, "lastText"))?,
+        cell(alloc, text_in(point, "booted"))?,
+        cell(alloc, number_in(point, "confirmed"))?,
+        cell(alloc, text_in(point, "inFlightSince"))?,
+        cell(alloc, number_in(point, "waiting"))?,
+        cell(alloc, text_in(point, "waitingSince"))?,
+        rejected_cell(alloc, point)?,
+    ])
+}
+
+fn cell(alloc: Global, text: Option<&str>) -> Result<String, AllocError> {
+    String::from_str(alloc, text.unwrap_or(NONE))
+}
+
+/// How many calls a point rejected, and the last of them with its reason.
+fn rejected_cell(alloc: Global, point: &Value<'_>) -> Result<String, AllocError> {
+    let mut cell = cell(alloc, number_in(point, "rejections"))?;
+    let Some(rejected) = point.get("rejected") else {
+        return Ok(cell);
+    };
+    if let (Some(call), Some(reason)) = (number_in(rejected, "call"), text_in(rejected, "reason")) {
+        write!(cell, ": call {call}")?;
+        if let Some(action) = text_in(rejected, "action") {
+            write!(cell, ", {action}")?;
+        }
+        cell.push_str(", ")?;
+        push_on_one_line(&mut cell, reason)?;
+    }
+    Ok(cell)
+}
+
+/// Appends what is to be done for a point, where there is something.
+fn push_warning(out: &mut String, point: &Value<'_>) -> Result<(), AllocError> {
+    let (Some(true), Some(id)) = (flag_in(point, "mayHaveForgotten"), text_in(point, "id")) else {
+        return Ok(());
+    };
+    write!(
+        out,
+        "{id}: it booted, and may have forgotten its profiles: audit it, or install them anew\n"
+    )
+}
+
+fn text_in<'a>(object: &Value<'a>, key: &str) -> Option<&'a str> {
+    object.get(key)?.as_str()
+}
+
+fn number_in<'a>(object: &Value<'a>, key: &str) -> Option<&'a str> {
+    object.get(key)?.as_number()
+}
+
+fn flag_in(object: &Value<'_>, key: &str) -> Option<bool> {
+    object.get(key)?.as_bool()
+}

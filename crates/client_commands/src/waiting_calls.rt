@@ -1,0 +1,75 @@
+//! Which of the calls that a site has for its points wait.
+
+use command_io::{ProgramFault, read_digested_site};
+use command_line::Calling;
+use data_folder::{Following, ScriptEnd, follow_journal};
+use operator_calls::Visit;
+use site_core::Outbox;
+use std::alloc::AllocGlobal;
+use std::fs::File;
+use std::rt::{Clock, Files};
+
+/// Says which of the visited points aren't connected, or have calls that wait behind another, by the
+/// journal of the folder, if one is named. Where that can't be followed, no answer is lost.
+pub fn say_waiting<R: Files<File = File> + Clock + Eprint + AllocGlobal>(
+    rt: &R,
+    calling: Calling<'_>,
+    visits: &[Visit],
+) -> Result<(), ProgramFault> {
+    let (Some(folder), Some(path)) = (calling.folder, calling.site) else {
+        return Ok(());
+    };
+    if calling.dry_run {
+        return Ok(());
+    }
+    let (site, digest) = read_digested_site(rt, path)?;
+    let following = Following {
+        site,
+        digest,
+        folder,
+        end: ScriptEnd::Whole,
+        point: "",
+        counted_from: None,
+        is_quiet: true,
+    };
+    match follow_journal(rt, following) {
+        Ok(followed) => {
+            for visit in visits {
+                let outbox = followed.machine().outbox_of(visit.id.as_str());
+                if let (Some(outbox), false) = (outbox, visit.calls.is_empty()) {
+                    say_of_point(rt, visit.id.as_str(), outbox);
+                }
+            }
+        }
+        Err(fault) => {
+            let _ = eprintln!(rt; "central: which calls wait isn't known: {fault}");
+        }
+    }
+    Ok(())
+}
+
+/// Says whether a point isn't connected, or has calls that wait behind the one in flight.
+fn say_of_point<R: Eprint>(rt: &R, id: &str, outbox: &Outbox) {
+    if outbox.link().is_none() {
+        let (count, waits) = counted(outbox.len());
+        let _ = eprintln!(rt; "central: {id} isn't connected: {count} {waits}");
+        return;
+    }
+    let behind = outbox.len().saturating_sub(1);
+    if outbox.is_in_flight() && behind > 0 {
+        let (count, waits) = counted(behind);
+        let _ = eprintln!(rt; "central: {id} hasn't answered a call: {count} {waits} behind it");
+    }
+}
+
+/// A number of calls, and the words for it.
+fn counted(calls: usize) -> (usize, &'static str) {
+    (
+        calls,
+        if calls == 1 {
+            "call waits"
+        } else {
+            "calls wait"
+        },
+    )
+}

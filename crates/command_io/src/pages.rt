@@ -1,0 +1,80 @@
+//! Pages that the program prints or writes to files.
+
+use crate::program_fault::ProgramFault;
+use data_folder::or_stop;
+use replay::Playing;
+use std::io::Write;
+use std::rt::Files;
+use std::{fs, io};
+
+/// What is known of standard output.
+#[derive(Clone, Copy, Debug)]
+pub struct Screen {
+    /// Whether it is a terminal.
+    pub is_terminal: bool,
+}
+
+/// The columns of a terminal that doesn't tell how many it has.
+const COLUMNS: usize = 80;
+
+impl Screen {
+    /// How many columns a page has, where it is for a terminal.
+    pub fn columns(self) -> Option<usize> {
+        if self.is_terminal {
+            Some(COLUMNS)
+        } else {
+            None
+        }
+    }
+}
+
+/// The exit status where what is printed is without lines that were refused, or that are torn.
+const NOT_ALL: u8 = 2;
+
+/// The exit status of a page of what a script or a journal leads to.
+pub fn page_status(is_whole: bool) -> u8 {
+    if is_whole { 0 } else { NOT_ALL }
+}
+
+/// Says on standard error how many lines of a script have a fault or were refused, if any: what is
+/// printed of the script is without them. Where that can't be written nothing else is lost. Whether
+/// there are none.
+pub fn note_refused_lines<R: Eprint>(rt: &R, playing: &Playing<'_>) -> bool {
+    let count = playing.refused_lines();
+    if count > 0 {
+        let _ = eprintln!(rt;
+            "central: {count} of the script's lines have a fault or were refused: central check says which"
+        );
+    }
+    count == 0
+}
+
+/// Prints a page. One whose reader left, as `head` does, counts as printed. Says why it can't be.
+pub fn print_page<R: Print + Eprint>(rt: &R, page: &str) -> Result<(), ProgramFault> {
+    let mut writer = io::writer(rt);
+    match writer
+        .write_all(page.as_bytes())
+        .and_then(|()| writer.flush())
+    {
+        Err(error) if error.kind() == io::ErrorKind::BrokenPipe => Ok(()),
+        written => or_stop(rt, "standard output", written, ProgramFault::Write),
+    }
+}
+
+/// What comes of a write of help to standard output: a pipe that its reader closed is no fault.
+pub fn as_printed(written: io::Result<()>) -> Result<(), ProgramFault> {
+    match written {
+        Ok(()) => Ok(()),
+        Err(error) if error.kind() == io::ErrorKind::BrokenPipe => Ok(()),
+        Err(_) => Err(ProgramFault::Write),
+    }
+}
+
+/// Writes a page to a file, in the place of what was there. One that can't be written is named on
+/// standard error, with the cause.
+pub fn write_file<R: Files + Eprint>(rt: &R, path: &str, page: &str) -> Result<(), ProgramFault> {
+    let created = fs::create(rt, path);
+    let mut file = or_stop(rt, path, created, ProgramFault::Write)?;
+    let written = file.write_all(page.as_bytes()).and_then(|()| file.flush());
+    or_stop(rt, path, written, ProgramFault::Write)
+}

@@ -1,0 +1,35 @@
+//! The file of a payload, opened and read.
+
+use crate::program_fault::ProgramFault;
+use data_folder::or_stop;
+use std::alloc::AllocGlobal;
+use std::fs;
+use std::fs::File;
+use std::io::Read;
+use std::rt::Files;
+
+/// The most bytes of a payload's file: no message may have more.
+const MAX_PAYLOAD_BYTES: u64 = 1_048_576;
+
+/// Reads the text of a file. One that can't be read is named on standard error, with the cause.
+pub fn read_payload_file<R: Files<File = File> + Eprint + AllocGlobal>(
+    rt: &R,
+    path: &str,
+) -> Result<String, ProgramFault> {
+    let opened = fs::open(rt, path);
+    let mut file = or_stop(rt, path, opened, ProgramFault::File)?;
+    let mut bytes = Vec::new(rt.alloc());
+    // One byte more is asked for, to see whether there is one.
+    let read = file
+        .by_ref()
+        .take(MAX_PAYLOAD_BYTES + 1)
+        .read_to_end(&mut bytes);
+    let length = or_stop(rt, path, read, ProgramFault::File)?;
+    let why = match String::from_utf8(bytes) {
+        Ok(_) if length as u64 > MAX_PAYLOAD_BYTES => "it is longer than a message may be",
+        Ok(text) => return Ok(text),
+        Err(_) => "it isn't UTF-8",
+    };
+    let _ = eprintln!(rt; "central: {path}: {why}");
+    Err(ProgramFault::File)
+}

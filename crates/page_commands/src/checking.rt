@@ -1,0 +1,90 @@
+//! The job of `central check`.
+
+use command_io::{ProgramFault, print_page, read_key_bytes, read_script_of, read_site_bytes};
+use command_line::{Checking, Source};
+use data_folder::read_boots;
+use findings::{Finding, check_site, exit_status};
+use site_checks::{PlayedScript, find_in_keys, push_findings, push_played, site_page};
+use site_rules::{Site, SiteFault, read_site};
+use site_status::Boot;
+use std::alloc::{AllocError, AllocGlobal, Global};
+use std::fs::File;
+use std::rt::{Clock, Files};
+
+/// Says everything that is wrong with the site of a file, with a file of keys, and with the script
+/// of standard input or of a file, or with the journal of a folder.
+/// Returns the exit status.
+pub fn check_file<R: Files<File = File> + Clock + Input + Print + Eprint + AllocGlobal>(
+    rt: &R,
+    checking: Checking<'_>,
+) -> Result<u8, ProgramFault> {
+    let alloc = rt.alloc();
+    let bytes = read_site_bytes(rt, checking.site)?;
+    let mut findings = check_site(alloc, bytes.as_slice())?;
+    // What is wrong with the site file is printed even if the script can't be read.
+    let page = site_page(alloc, checking.site, findings.as_slice())?;
+    print_page(rt, page.as_str())?;
+    let mut of_keys = check_keys(rt, checking.keys, bytes.as_slice(), findings.as_slice())?;
+    let script = read_script_of(rt, checking.source)?;
+    if let Some(site) = site_of(alloc, bytes.as_slice(), findings.as_slice())? {
+        let boots = boots_of(rt, checking.source, &site)?;
+        let played = PlayedScript {
+            script: script.as_slice(),
+            boots: boots.as_slice(),
+            with_trace: checking.trace,
+        };
+        let mut page = String::new(alloc);
+        let mut more = push_played(rt, &mut page, site, &played)?;
+        findings.append(&mut more)?;
+        print_page(rt, page.as_str())?;
+    }
+    findings.append(&mut of_keys)?;
+    Ok(exit_status(findings.as_slice()))
+}
+
+/// Prints what is found in the file of keys, if one is named, with the site of the site file.
+/// Returns what is found.
+fn check_keys<R: Files<File = File> + Print + Eprint + AllocGlobal>(
+    rt: &R,
+    path: Option<&str>,
+    site: &[u8],
+    in_site: &[Finding],
+) -> Result<Vec<Finding>, ProgramFault> {
+    let alloc = rt.alloc();
+    let Some(path) = path else {
+        return Ok(Vec::new(alloc));
+    };
+    let bytes = read_key_bytes(rt, path)?;
+    let site = site_of(alloc, site, in_site)?;
+    let findings = find_in_keys(alloc, bytes.as_slice(), site.as_ref())?;
+    let mut page = String::new(alloc);
+    push_findings(&mut page, path, findings.as_slice())?;
+    print_page(rt, page.as_str())?;
+    Ok(findings)
+}
+
+/// The site of a site file, where one is read from it. Else what is found in the file says why not.
+fn site_of(alloc: Global, bytes: &[u8], findings: &[Finding]) -> Result<Option<Site>, AllocError> {
+    // None would be read.
+    if exit_status(findings) == 1 {
+        return Ok(None);
+    }
+    match read_site(alloc, bytes) {
+        Ok(site) => Ok(Some(site)),
+        Err(SiteFault::OutOfMemory) => Err(AllocError),
+        Err(_) => Ok(None),
+    }
+}
+
+/// The boots of the points of a site, as a folder keeps them, each at the place of its point; none
+/// where no folder is named.
+fn boots_of<R: Files<File = File> + Eprint + AllocGlobal>(
+    rt: &R,
+    source: Source<'_>,
+    site: &Site,
+) -> Result<Vec<Option<Boot>>, AllocError> {
+    match source {
+        Source::Journal(folder) => read_boots(rt, folder, site),
+        Source::Input | Source::File(_) => Ok(Vec::new(rt.alloc())),
+    }
+}

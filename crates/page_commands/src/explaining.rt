@@ -1,0 +1,255 @@
+//! The job of `central explain`.
+
+ghost use Rattle.std.specs.Prelude.{◌≡◌, ◌≤◌, length};
+
+use crate::picture_name::{PictureForm, picture_form};
+use crate::unconfirmed::say_unconfirmed;
+use crate::zone_file::{read_clock_shifts, zone_name};
+use command_io::{
+    ProgramFault, Screen, note_refused_lines, note_unzoned, now, page_status, print_page,
+    read_digested_site, read_script_of, script_end, write_file,
+};
+use command_line::{Explaining, Source, Start, read_duration};
+use data_folder::{Following, ScriptEnd, follow_journal};
+use explain_pages::{
+    ClockShift, ExplainedAsk, ZoneClock, not_counted, write_json, write_page, write_picture,
+    write_table,
+};
+use meaning::Ask;
+use ocpp_scalars::{Instant, write_instant};
+use point_book::PointBook;
+use profile::Unit;
+use replay::play_quietly;
+use site_core::Machine;
+use site_rules::Site;
+use std::alloc::{AllocError, AllocGlobal};
+use std::fs::File;
+use std::rt::{Clock, Files};
+use sweep_compiler::{Turns, explain};
+
+/// Says why the limits of a connector are what they are after a script or a journal. Faults of the
+/// names of a picture and a zone, the instants and the site file, and what isn't in it, are reported
+/// before the script is read. Returns the exit status.
+pub fn explain_file<R: Files<File = File> + Input + Print + Eprint + Clock + AllocGlobal>(
+    rt: &R,
+    screen: Screen,
+    explaining: Explaining<'_>,
+) -> Result<u8, ProgramFault> {
+    let picture = picture_of(&explaining)?;
+    let zone = zone_name(&explaining)?;
+    let start = start_of(rt, explaining.start)?;
+    let ask = ask_of(&explaining, start)?;
+    let end = script_end(rt, explaining.at)?;
+    let shifts = read_clock_shifts(rt, zone, &ask)?;
+    let (site, digest) = read_digested_site(rt, explaining.site)?;
+    check_connector(&site, explaining.point, ask.connector)?;
+    let presentation = Presentation {
+        explaining: &explaining,
+        screen,
+        unit: site.unit(),
+        picture,
+        zone,
+        shifts: shifts.as_slice(),
+    };
+    let Source::Journal(folder) = explaining.source else {
+        return explain_script(rt, presentation, end, site, &ask);
+    };
+    let following = Following {
+        site,
+        digest,
+        folder,
+        end,
+        point: explaining.point,
+        counted_from: Some(ask.start),
+        is_quiet: false,
+    };
+    let followed = follow_journal(rt, following)?;
+    note_later_changes(rt, explaining.point, start, followed.changes())?;
+    say_unconfirmed(
+        rt,
+        explaining.point,
+        followed.unconfirmed_of(explaining.point),
+        followed.waiting_since(),
+    )?;
+    print_explained(rt, presentation, followed.machine(), &ask)?;
+    Ok(page_status(followed.is_as_wanted()))
+}
+
+/// Explains what a point has after the script of standard input or of a file. Returns the exit
+/// status.
+fn explain_script<R: Files<File = File> + Input + Print + Eprint + AllocGlobal>(
+    rt: &R,
+    presentation: Presentation<'_>,
+    end: ScriptEnd,
+    site: Site,
+    ask: &Ask,
+) -> Result<u8, ProgramFault> {
+    let script = read_script_of(rt, presentation.explaining.source)?;
+    let last_line = end.last_line(script.as_slice());
+    let played = play_quietly(rt.alloc(), script.as_slice(), site, last_line)?;
+    let is_whole = note_refused_lines(rt, &played);
+    print_explained(rt, presentation, played.machine(), ask)?;
+    Ok(page_status(is_whole))
+}
+
+/// Says where a journal has changes at the point that are later than the first instant: what is
+/// explained isn't what the point had then.
+fn note_later_changes<R: Eprint + AllocGlobal>(
+    rt: &R,
+    point: &str,
+    start: Instant,
+    later: u64,
+) -> Result<(), AllocError> {
+    if later > 0 {
+        let Ok(start) = write_instant(rt.alloc(), start) else {
+            return Err(AllocError);
+        };
+        let _ = eprintln!(rt;
+            "central: {later} changes at {point} are later than --start: --at {start} is without them"
+        );
+    }
+    Ok(())
+}
+
+/// A picture that is wanted.
+#[derive(Clone, Copy)]
+struct Picture<'a> {
+    path: &'a str,
+    form: PictureForm,
+}
+
+/// How an explanation is presented.
+#[derive(Clone, Copy)]
+struct Presentation<'a> {
+    explaining: &'a Explaining<'a>,
+    screen: Screen,
+    unit: Unit,
+    picture: Option<Picture<'a>>,
+    /// The zone in which the table has its times.
+    zone: Option<&'a str>,
+    /// How far its clock is ahead of UTC.
+    shifts: &'a [ClockShift],
+}
+
+impl<'a> Presentation<'a> {
+    /// The clock of the zone that is named.
+    fn zone_clock(&self) -> Option<ZoneClock<'a>> {
+        let name = self.zone?;
+        Some(ZoneClock {
+            name,
+            shifts: self.shifts,
+        })
+    }
+}
+
+/// The picture that the options want.
+fn picture_of<'a>(explaining: &Explaining<'a>) -> Result<Option<Picture<'a>>, ProgramFault> {
+    let Some(path) = explaining.picture else {
+        return Ok(None);
+    };
+    let form = picture_form(path)?;
+    Ok(Some(Picture { path, form }))
+}
+
+/// Refuses a point that the site hasn't, and a connector that the point hasn't.
+fn check_connector(site: &Site, point: &str, connector: u32) -> Result<(), ProgramFault> {
+    let Some(place) = site.place_of(point) else {
+        return Err(ProgramFault::NoSuchPoint);
+    };
+    let Some(found) = site.point(place) else {
+        return Err(ProgramFault::NoSuchPoint);
+    };
+    if connector as usize > found.ceilings.len() {
+        return Err(ProgramFault::NoSuchConnector);
+    }
+    Ok(())
+}
+
+/// The instant from which on is explained: the present one, or the one that is named. Says where that
+/// has no zone.
+fn start_of<R: Clock + Eprint>(rt: &R, text: &str) -> Result<Instant, ProgramFault> {
+    let Ok(start) = Start::of(text) else {
+        return Err(ProgramFault::NoInstant);
+    };
+    match start.named() {
+        Some(instant) => {
+            note_unzoned(rt, "--start", text);
+            Ok(instant)
+        }
+        None => now(rt),
+    }
+}
+
+/// What the options ask, from this instant on.
+fn ask_of(explaining: &Explaining<'_>, start: Instant) -> Result<Ask, ProgramFault> {
+    let Some(duration) = read_duration(explaining.duration) else {
+        return Err(ProgramFault::NoDuration);
+    };
+    // clap has seen to it that the number is in range.
+    let Ok(connector) = u32::try_from(explaining.connector) else {
+        return Err(ProgramFault::NoSuchConnector);
+    };
+    match Ask::try_new(connector, start, duration) {
+        Ok(ask) => Ok(ask),
+        Err(_) => Err(ProgramFault::PastCalendar),
+    }
+}
+
+/// Prints the explanation of a request by what the point has in this state, and writes its picture.
+fn print_explained<R: Files + Print + Eprint + AllocGlobal>(
+    rt: &R,
+    presentation: Presentation<'_>,
+    machine: &Machine,
+    ask: &Ask,
+) -> Result<(), ProgramFault> {
+    let Some(book) = machine.book_of(presentation.explaining.point) else {
+        return Err(ProgramFault::NoSuchPoint);
+    };
+    // A book has the connectors of its point in the site: that is known from the check before, though
+    // no clause says it.
+    if ask.connector > book.connectors() {
+        return Err(ProgramFault::NoSuchConnector);
+    }
+    print_explanation(rt, presentation, book, ask)
+}
+
+/// Prints the explanation of a request at a connector of the book, and writes its picture.
+fn print_explanation<R: Files + Print + Eprint + AllocGlobal>(
+    rt: &R,
+    presentation: Presentation<'_>,
+    book: &PointBook,
+    ask: &Ask,
+) -> Result<(), ProgramFault>
+    requires has_connector { ask.now.connector ≤ length book.now.ceilings }
+{
+    let alloc = rt.alloc();
+    let explanation = explain(alloc, book, ask, &mut Turns::new())?;
+    let view = book.view();
+    let rest = not_counted(alloc, &view, ask, explanation.intervals())?;
+    let explained = ExplainedAsk {
+        point: presentation.explaining.point,
+        unit: presentation.unit,
+        ask: *ask,
+        view,
+        intervals: explanation.intervals(),
+        not_counted: rest.as_slice(),
+    };
+    if let Some(picture) = presentation.picture {
+        let drawn = match picture.form {
+            PictureForm::Svg => write_picture(alloc, &explained)?,
+            PictureForm::Html => write_page(alloc, &explained)?,
+        };
+        write_file(rt, picture.path, drawn.as_str())?;
+    }
+    let page = if presentation.explaining.json {
+        write_json(alloc, &explained)?
+    } else {
+        write_table(
+            alloc,
+            &explained,
+            presentation.screen.columns(),
+            presentation.zone_clock(),
+        )?
+    };
+    print_page(rt, page.as_str())
+}

@@ -1,0 +1,22 @@
+//! The name of a picture's file, which says in which form it is drawn.
+
+use command_io::ProgramFault;
+
+/// The form of a picture.
+#[derive(Clone, Copy, Debug, PartialEq, Eq)]
+pub enum PictureForm {
+    Svg,
+    /// A page with the picture and the table.
+    Html,
+}
+
+/// The form that the name of a picture's file asks for by its ending.
+pub fn picture_form(path: &str) -> Result<PictureForm, ProgramFault> {
+    if path.ends_with(".svg") {
+        return Ok(PictureForm::Svg);
+    }
+    if path.ends_with(".html") {
+        return Ok(PictureForm::Html);
+    }
+    Err(ProgramFault::NoPicture)
+}

@@ -1,0 +1,46 @@
+//! The job of `central replay`.
+
+use command_io::{ProgramFault, read_script_of, read_site_file};
+use command_line::{Replaying, Source};
+use replay::{Summary, replay};
+use site_rules::Site;
+use std::alloc::AllocGlobal;
+use std::fs::File;
+use std::io;
+use std::io::{BufWriter, Read, Write};
+use std::rt::Files;
+
+/// Plays the script of standard input or of a file, or the journal of a folder, on the site of a file.
+pub fn replay_file<R: Files<File = File> + Input + Print + Eprint + AllocGlobal>(
+    rt: &R,
+    replaying: Replaying<'_>,
+) -> Result<Summary, ProgramFault> {
+    let site = read_site_file(rt, replaying.site)?;
+    match replaying.source {
+        Source::Input => replay_from(rt, &mut rt.reader(), site),
+        source => {
+            let script = read_script_of(rt, source)?;
+            replay_from(rt, &mut script.as_slice(), site)
+        }
+    }
+}
+
+/// Plays a script on a site.
+fn replay_from<R: Print + AllocGlobal, S: Read>(
+    rt: &R,
+    script: &mut S,
+    site: Site,
+) -> Result<Summary, ProgramFault> {
+    let Ok(mut writer) = BufWriter::new(rt.alloc(), io::writer(rt)) else {
+        return Err(ProgramFault::OutOfMemory);
+    };
+    match replay(rt.alloc(), script, &mut writer, site) {
+        Ok(summary) => Ok(summary),
+        Err(fault) => {
+            // What was answered before the fault is worth having; where it can't be written, the
+            // fault stands.
+            let _ = writer.flush();
+            Err(ProgramFault::Replay(fault))
+        }
+    }
+}

@@ -1,0 +1,66 @@
+//! The job of `central show`.
+
+use command_io::{
+    ProgramFault, note_refused_lines, page_status, print_page, read_digested_site, read_script_of,
+    script_end,
+};
+use command_line::{Showing, Source};
+use data_folder::{Following, ScriptEnd, follow_journal};
+use show_pages::{Depth, Standing, standing_json, standing_text, trace_script};
+use site_rules::Site;
+use std::alloc::AllocGlobal;
+use std::fs::File;
+use std::rt::{Clock, Files};
+
+/// Shows what each point of a site has after a script or a journal. Returns the exit status.
+pub fn show_file<R: Files<File = File> + Input + Print + Eprint + Clock + AllocGlobal>(
+    rt: &R,
+    showing: Showing<'_>,
+) -> Result<u8, ProgramFault> {
+    let end = script_end(rt, showing.at)?;
+    let (site, digest) = read_digested_site(rt, showing.site)?;
+    let Source::Journal(folder) = showing.source else {
+        return show_script(rt, showing, end, site);
+    };
+    let following = Following {
+        site,
+        digest,
+        folder,
+        end,
+        point: "",
+        counted_from: None,
+        is_quiet: false,
+    };
+    let followed = follow_journal(rt, following)?;
+    print_standing(rt, showing, &followed.standing())?;
+    Ok(page_status(followed.is_as_wanted()))
+}
+
+/// Shows what each point has after the script of standard input or of a file. Returns the exit
+/// status.
+fn show_script<R: Files<File = File> + Input + Print + Eprint + AllocGlobal>(
+    rt: &R,
+    showing: Showing<'_>,
+    end: ScriptEnd,
+    site: Site,
+) -> Result<u8, ProgramFault> {
+    let script = read_script_of(rt, showing.source)?;
+    let last_line = end.last_line(script.as_slice());
+    let trace = trace_script(rt.alloc(), script.as_slice(), site, last_line, Depth::State)?;
+    let is_whole = note_refused_lines(rt, trace.playing());
+    print_standing(rt, showing, &trace.standing())?;
+    Ok(page_status(is_whole))
+}
+
+fn print_standing<R: Print + Eprint + AllocGlobal>(
+    rt: &R,
+    showing: Showing<'_>,
+    standing: &Standing<'_>,
+) -> Result<(), ProgramFault> {
+    let page = if showing.json {
+        standing_json(rt.alloc(), standing)?
+    } else {
+        standing_text(rt.alloc(), standing)?
+    };
+    print_page(rt, page.as_str())
+}

@@ -1,0 +1,12 @@
+//! The commands that serve a site, `run` and `serve`, and the one that makes a key for it, `key`.
+#![tactic(auto)]
+
+mod kept_boots;
+mod key_making;
+mod running;
+mod serving;
+mod watched_file;
+
+pub use key_making::make_key;
+pub use running::run_file;
+pub use serving::serve_file;

@@ -1,0 +1,348 @@
+//! The job of `central run`.
+
+ghost use Rattle.std.specs.Prelude.{◌≡◌, ◌≤◌, ◌+◌, true};
+
+use crate::kept_boots::KeptBoots;
+use crate::serving::stop_of;
+use crate::watched_file::WatchedFile;
+use chronicle::{ChronicleName, Unnamed};
+use command_io::{ProgramFault, read_digested_site, read_key_file};
+use command_line::{MAX_SEATS, MAX_WORKERS, Running};
+use data_folder::{
+    FolderFault, JournalFile, OpenJournal, Resumed, SystemClock, open_journal, or_stop,
+    restore_shared,
+};
+use server::{
+    SeatContext, SeatOptions, SeatedBook, StatusPort, begin_boots, begin_status, run_seats,
+};
+use site_keys::Keys;
+use site_rules::Site;
+use std::alloc::{AllocError, AllocGlobal, Global};
+use std::fs::File;
+use std::io::ErrorKind;
+use std::marker::{Brand, Send, Sync};
+use std::net::{Net, TcpListener, TcpStream};
+use std::random::RandomSource;
+use std::rt::{Clock, Files};
+use std::sync::ledger::{Blank, Ledger};
+use std::sync::{Arc, Wait};
+use std::thread;
+use std::thread::Threads;
+use version_store::Shared;
+
+// The command line lets in as many as the server does.
+const _: () = prove!(MAX_SEATS == server::MAX_SEATS);
+
+const _: () = prove!(MAX_WORKERS == server::MAX_WORKERS as u64);
+
+/// What is run.
+#[derive(Drop)]
+struct Plan<'a> {
+    site: Site,
+    /// The SHA-256 of the site file.
+    digest: [u8; 32],
+    opened: OpenJournal,
+    boots: KeptBoots,
+    listener: TcpListener,
+    listen: &'a str,
+    seats: u64,
+    workers: u64,
+    options: SeatOptions,
+    /// Where it is told how the site is, if it is.
+    status: Option<TcpListener>,
+    /// The address of that, where it answers only requests for this machine.
+    status_address: Option<&'a str>,
+}
+
+/// Runs the site of a file with the journal of a folder: goes on where that stopped. Returns only
+/// where it can't go on.
+pub fn run_file<
+    R: Files<File = File>
+        + Print
+        + Eprint
+        + AllocGlobal
+        + Clock
+        + RandomSource
+        + Net<Listener = TcpListener, Stream = TcpStream>
+        + Threads
+        + Wait
+        + Copy
+        + Send
+        + Sync
+        + Drop
+        + 'static,
+>(rt: &R, running: Running<'_>) -> Result<(), ProgramFault>
+    requires workers { 1 ≤ running.workers }
+    requires seats { 1 ≤ running.seats }
+{
+    let (site, digest) = read_digested_site(rt, running.site)?;
+    let keys = read_keys(rt, running.keys)?;
+    let opened = open_journal(rt, running.folder)?;
+    let boots = KeptBoots::read(rt, running.folder, &site)?;
+    let listener = listen(rt, running.listen, keys.is_some(), ProgramFault::NoKeys)?;
+    let status = listen_for_status(rt, &running)?;
+    let plan = Plan {
+        site,
+        digest,
+        opened,
+        boots,
+        listener,
+        listen: running.listen,
+        seats: running.seats,
+        workers: running.workers,
+        options: SeatOptions {
+            call_timeout: running.call_timeout,
+            keys,
+            address: String::from_str(rt.alloc(), running.listen)?,
+        },
+        status,
+        status_address: if running.is_status_open {
+            None
+        } else {
+            running.status
+        },
+    };
+    // One pass more than seats: the restore has it.
+    let Some(passes) = running.seats.checked_add(1) else {
+        return Err(ProgramFault::OutOfMemory);
+    };
+    let blanks = (Blank::new(passes), Blank::new(passes));
+    run_counted::<Brand, Brand, Brand, R>(rt, plan, blanks, (Unnamed::new(), Unnamed::new()))
+}
+
+/// The keys of a file, if one is given.
+fn read_keys<R: Files<File = File> + Eprint + AllocGlobal>(
+    rt: &R,
+    path: Option<&str>,
+) -> Result<Option<Keys>, ProgramFault> {
+    match path {
+        Some(path) => Ok(Some(read_key_file(rt, path)?)),
+        None => Ok(None),
+    }
+}
+
+/// Listens for those who ask how the site is, where that is wanted.
+fn listen_for_status<R: Eprint + Net<Listener = TcpListener, Stream = TcpStream>>(
+    rt: &R,
+    running: &Running<'_>,
+) -> Result<Option<TcpListener>, ProgramFault> {
+    let Some(address) = running.status else {
+        return Ok(None);
+    };
+    let listener = listen(
+        rt,
+        address,
+        running.is_status_open,
+        ProgramFault::StatusOpen,
+    )?;
+    Ok(Some(listener))
+}
+
+/// Listens at an address with a port: where it isn't open to others at one of this machine alone, or
+/// else it is this fault.
+fn listen<R: Eprint + Net<Listener = TcpListener, Stream = TcpStream>>(
+    rt: &R,
+    address: &str,
+    is_open: bool,
+    closed: ProgramFault,
+) -> Result<TcpListener, ProgramFault> {
+    let bound = TcpListener::bind(rt, address);
+    if let Err(error) = &bound {
+        if error.kind() == ErrorKind::InvalidInput {
+            return Err(ProgramFault::NoPort);
+        }
+    }
+    let listener = or_stop(rt, address, bound, ProgramFault::Socket)?;
+    let told = listener.local_addr();
+    let local = or_stop(rt, address, told, ProgramFault::Socket)?;
+    if is_open || local.ip().is_loopback() {
+        Ok(listener)
+    } else {
+        Err(closed)
+    }
+}
+
+/// Runs a site, whose changes and answers these two ledgers count, and whose states and syncs are
+/// recorded in these two chronicles.
+fn run_counted<
+    C: Ledger + Send + Sync + Drop + 'static,
+    A: Ledger + Send + Sync + Drop + 'static,
+    N: ChronicleName + Send + Sync + Drop + 'static,
+    R: Files<File = File>
+        + Print
+        + Eprint
+        + AllocGlobal
+        + Clock
+        + RandomSource
+        + Net<Stream = TcpStream>
+        + Threads
+        + Wait
+        + Copy
+        + Send
+        + Sync
+        + Drop
+        + 'static,
+>(
+    rt: &R,
+    plan: Plan<'_>,
+    blanks: (Blank, Blank),
+    chronicles: (Unnamed, Unnamed),
+) -> Result<(), ProgramFault>
+    requires workers { 1 ≤ plan.workers }
+    requires changes { (blanks.0.name ≡ C.name) × (blanks.0.parts ≡ C.parts)
+        × (blanks.0.parts ≡ plan.seats + 1) }
+    requires answers { (blanks.1.name ≡ A.name) × (blanks.1.parts ≡ A.parts)
+        × (blanks.1.parts ≡ plan.seats + 1) }
+    requires chronicles { (chronicles.0.name ≡ N.name) × (chronicles.1.name ≡ N.companion) }
+    requires recorded { N.is_recorded ≡ true }
+{
+    let Plan {
+        site,
+        digest,
+        opened,
+        boots,
+        listener,
+        listen,
+        seats,
+        workers,
+        options,
+        status,
+        status_address,
+    } = plan;
+    let (states, syncs) = chronicles;
+    let book: SeatedBook<C, A, N> = SeatedBook::make_with(rt.alloc(), blanks, site, seats, states)?;
+    let SeatedBook {
+        shared,
+        restoring,
+        seats,
+    } = book;
+    let port = begin_port(rt, status, status_address)?;
+    let (journal, resumed) = restore_shared(rt, opened, &digest, &shared, restoring, syncs)?;
+    print_resumed(rt, &resumed)?;
+    let context = context_of(rt, shared, journal, options)?;
+    context.resume_rejections(resumed.rejected);
+    begin_lines(rt, &context)?;
+    keep_boots(&context, boots)?;
+    port.watch(&context)?;
+    if let Err(fault) = run_seats(&context, listener, seats, workers as usize) {
+        return Err(stop_of(fault));
+    }
+    if println!(rt; "listening {listen}").is_err() {
+        return Err(ProgramFault::Write);
+    }
+    context.journal().file.until_broken();
+    Err(ProgramFault::Folder(FolderFault::Write))
+}
+
+/// Begins to tell how the site is, where that is wanted. It is told that it is being restored, too.
+fn begin_port<
+    C: Ledger + Send + Sync + Drop + 'static,
+    A: Ledger + Send + Sync + Drop + 'static,
+    N: ChronicleName + Send + Sync + Drop + 'static,
+    R: Eprint
+        + AllocGlobal
+        + Clock
+        + RandomSource
+        + Threads
+        + Wait
+        + Copy
+        + Send
+        + Sync
+        + Drop
+        + 'static,
+>(
+    rt: &R,
+    status: Option<TcpListener>,
+    address: Option<&str>,
+) -> Result<Arc<StatusPort<C, A, R, SystemClock<R>, WatchedFile<R, N>, N>, Global>, ProgramFault> {
+    let address = owned(rt.alloc(), address)?;
+    let port = Arc::new(rt.alloc(), StatusPort::new(*rt, rt.alloc(), address))?;
+    if let Some(listener) = status {
+        if let Err(fault) = begin_status(&port, listener) {
+            return Err(stop_of(fault));
+        }
+    }
+    Ok(port)
+}
+
+/// A text of its own, where there is one.
+fn owned(alloc: Global, text: Option<&str>) -> Result<Option<String>, AllocError> {
+    match text {
+        Some(text) => Ok(Some(String::from_str(alloc, text)?)),
+        None => Ok(None),
+    }
+}
+
+/// Begins the thread that writes what is said of the journal.
+fn begin_lines<
+    C: Ledger + Send + Sync + Drop + 'static,
+    A: Ledger + Send + Sync + Drop + 'static,
+    N: ChronicleName + Send + Sync + Drop + 'static,
+    R: Eprint + AllocGlobal + Clock + Threads + Wait + Copy + Send + Sync + Drop + 'static,
+>(
+    rt: &R,
+    context: &Arc<SeatContext<C, A, R, SystemClock<R>, WatchedFile<R, N>, N>, Global>,
+) -> Result<(), ProgramFault> {
+    let own = Arc::try_clone(context)?;
+    let writer = thread::Builder::new().spawn(rt, move || own.journal().file.write_lines());
+    match writer {
+        Ok(_) => Ok(()),
+        Err(_) => Err(ProgramFault::OutOfMemory),
+    }
+}
+
+/// Goes on with the boots that the folder keeps, and begins to keep those that come.
+fn keep_boots<
+    C: Ledger + Send + Sync + Drop + 'static,
+    A: Ledger + Send + Sync + Drop + 'static,
+    N: ChronicleName + Send + Sync + Drop + 'static,
+    R: Eprint + AllocGlobal + Clock + Threads + Wait + Copy + Send + Sync + Drop + 'static,
+>(
+    context: &Arc<SeatContext<C, A, R, SystemClock<R>, WatchedFile<R, N>, N>, Global>,
+    kept: KeptBoots,
+) -> Result<(), ProgramFault> {
+    let KeptBoots { boots, file } = kept;
+    context.resume_boots(boots.as_slice())?;
+    let Some(file) = file else {
+        return Ok(());
+    };
+    match begin_boots(context, file) {
+        Ok(()) => Ok(()),
+        Err(fault) => Err(stop_of(fault)),
+    }
+}
+
+/// What the threads share that serve this book.
+fn context_of<
+    C: Ledger,
+    A: Ledger,
+    N: ChronicleName,
+    R: Clock + Wait + Eprint + AllocGlobal + Copy + Drop,
+>(
+    rt: &R,
+    shared: Shared<C, A, N>,
+    journal: JournalFile<R, N>,
+    options: SeatOptions,
+) -> Result<Arc<SeatContext<C, A, R, SystemClock<R>, WatchedFile<R, N>, N>, Global>, AllocError> {
+    let alloc = rt.alloc();
+    let clock = SystemClock { rt: *rt };
+    let journal = WatchedFile { file: journal };
+    let context = SeatContext::make(*rt, alloc, shared, clock, journal, options)?;
+    Ok(Arc::new(alloc, context)?)
+}
+
+fn print_resumed<R: Print>(rt: &R, resumed: &Resumed) -> Result<(), ProgramFault> {
+    let Resumed {
+        points,
+        profiles,
+        transactions,
+        calls,
+        ..
+    } = resumed;
+    match println!(rt;
+        "resumed {points} points, {profiles} profiles, {transactions} transactions, {calls} calls waiting"
+    ) {
+        Ok(()) => Ok(()),
+        Err(_) => Err(ProgramFault::Write),
+    }
+}

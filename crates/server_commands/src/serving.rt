@@ -1,0 +1,90 @@
+//! The job of `central serve`.
+
+ghost use Rattle.std.specs.Prelude.{◌≤◌};
+
+use command_io::{ProgramFault, read_site_file};
+use command_line::{MAX_SESSIONS, Serving};
+use data_folder::SystemClock;
+use server::{ServeFault, serve};
+use site_rules::Site;
+use std::alloc::AllocGlobal;
+use std::marker::Sync;
+use std::net::{TcpListener, TcpStream};
+use std::rt::{Clock, Files, Net};
+use std::sync::Wait;
+use std::thread::Threads;
+use version_store::Totals;
+
+// The command line lets in as many as the server does.
+const _: () = prove!(MAX_SESSIONS == server::MAX_SESSIONS);
+
+/// Serves the site of a file, and prints where it listens, and in the end how many changes were
+/// made and answers handed out.
+pub fn serve_file<
+    R: Files
+        + Print
+        + AllocGlobal
+        + Clock
+        + Net<Listener = TcpListener, Stream = TcpStream>
+        + Threads
+        + Wait
+        + Sync,
+>(rt: &R, serving: Serving<'_>) -> Result<(), ProgramFault>
+    requires workers { 1 ≤ serving.workers }
+    requires sessions { 1 ≤ serving.sessions }
+{
+    let site = read_site_file(rt, serving.site)?;
+    let Ok(listener) = TcpListener::bind(rt, serving.listen) else {
+        return Err(ProgramFault::Socket);
+    };
+    let totals = serve_listening(rt, serving, site, listener)?;
+    print_totals(rt, totals)
+}
+
+/// Serves a site on a listener, and prints where that listens.
+fn serve_listening<
+    R: Print
+        + AllocGlobal
+        + Clock
+        + Net<Listener = TcpListener, Stream = TcpStream>
+        + Threads
+        + Wait
+        + Sync,
+>(rt: &R, serving: Serving<'_>, site: Site, listener: TcpListener) -> Result<Totals, ProgramFault>
+    requires workers { 1 ≤ serving.workers }
+    requires sessions { 1 ≤ serving.sessions }
+{
+    if println!(rt; "listening {}", serving.listen).is_err() {
+        return Err(ProgramFault::Write);
+    }
+    match serve(
+        rt,
+        rt.alloc(),
+        site,
+        listener,
+        serving.workers as usize,
+        serving.sessions,
+        &SystemClock { rt },
+    ) {
+        Ok(totals) => Ok(totals),
+        Err(fault) => Err(stop_of(fault)),
+    }
+}
+
+fn print_totals<R: Print>(rt: &R, totals: Totals) -> Result<(), ProgramFault> {
+    match println!(rt;
+        "done changes {} answers {}",
+        totals.changes, totals.answers
+    ) {
+        Ok(()) => Ok(()),
+        Err(_) => Err(ProgramFault::Write),
+    }
+}
+
+/// Why the program stops where its server does.
+pub(crate) fn stop_of(fault: ServeFault) -> ProgramFault {
+    match fault {
+        ServeFault::Socket => ProgramFault::Socket,
+        ServeFault::OutOfMemory => ProgramFault::OutOfMemory,
+    }
+}
