@@ -14,7 +14,7 @@ use chronicle::{ChronicleName, Unnamed};
 use journal_writer::{Journal, JournalFault, NotedSteps, Receipt, WrittenSteps};
 use ocpp_scalars::{Instant as Moment, Moments, write_instant};
 use site_journal::{Entry, Line, MadeStep, Noted};
-use site_status::{JournalReport, JournalState};
+use site_status::{JournalReport, JournalState, WatchedJournal};
 use std::alloc::{AllocError, AllocGlobal, Global};
 use std::fmt::Display;
 use std::io;
@@ -440,9 +440,8 @@ impl<R: Wait + Clock + Eprint + AllocGlobal + Drop, N: ChronicleName> Journal<N>
     }
 }
 
-impl<R: Wait, N: ChronicleName> JournalFile<R, N> {
-    /// How it is now. Waits for no file and no device.
-    pub fn report(&self) -> JournalReport {
+impl<R: Wait, N: ChronicleName> WatchedJournal for JournalFile<R, N> {
+    fn report(&self) -> JournalReport {
         let noted = self.noted.lock(&self.rt);
         JournalReport {
             state: noted.state,

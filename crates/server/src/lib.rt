@@ -33,7 +33,6 @@ mod status_port;
 mod status_service;
 mod status_stream;
 mod unfinished_handshakes;
-mod watched_journal;
 mod workers;
 
 pub use boot_keeper::{BootKeeper, begin_boots};
@@ -44,4 +43,3 @@ pub use seat_context::{SeatContext, SeatOptions};
 pub use seats::{MAX_SEATS, SeatedBook, run_seats};
 pub use serving::{MAX_SESSIONS, MAX_WORKERS, ServeFault, serve};
 pub use status_port::{StatusPort, begin_status};
-pub use watched_journal::WatchedJournal;

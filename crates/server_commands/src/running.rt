@@ -4,7 +4,6 @@ ghost use Rattle.std.specs.Prelude.{◌≡◌, ◌≤◌, ◌+◌, true};
 
 use crate::kept_boots::KeptBoots;
 use crate::serving::stop_of;
-use crate::watched_file::WatchedFile;
 use chronicle::{ChronicleName, Unnamed};
 use command_io::{ProgramFault, read_digested_site, read_key_file};
 use command_line::{MAX_SEATS, MAX_WORKERS, Running};
@@ -230,7 +229,7 @@ fn run_counted<
     if println!(rt; "listening {listen}").is_err() {
         return Err(ProgramFault::Write);
     }
-    context.journal().file.until_broken();
+    context.journal().until_broken();
     Err(ProgramFault::Folder(FolderFault::Write))
 }
 
@@ -254,7 +253,7 @@ fn begin_port<
     rt: &R,
     status: Option<TcpListener>,
     address: Option<&str>,
-) -> Result<Arc<StatusPort<C, A, R, SystemClock<R>, WatchedFile<R, N>, N>, Global>, ProgramFault> {
+) -> Result<Arc<StatusPort<C, A, R, SystemClock<R>, JournalFile<R, N>, N>, Global>, ProgramFault> {
     let address = owned(rt.alloc(), address)?;
     let port = Arc::new(rt.alloc(), StatusPort::new(*rt, rt.alloc(), address))?;
     if let Some(listener) = status {
@@ -281,10 +280,10 @@ fn begin_lines<
     R: Eprint + AllocGlobal + Clock + Threads + Wait + Copy + Send + Sync + Drop + 'static,
 >(
     rt: &R,
-    context: &Arc<SeatContext<C, A, R, SystemClock<R>, WatchedFile<R, N>, N>, Global>,
+    context: &Arc<SeatContext<C, A, R, SystemClock<R>, JournalFile<R, N>, N>, Global>,
 ) -> Result<(), ProgramFault> {
     let own = Arc::try_clone(context)?;
-    let writer = thread::Builder::new().spawn(rt, move || own.journal().file.write_lines());
+    let writer = thread::Builder::new().spawn(rt, move || own.journal().write_lines());
     match writer {
         Ok(_) => Ok(()),
         Err(_) => Err(ProgramFault::OutOfMemory),
@@ -298,7 +297,7 @@ fn keep_boots<
     N: ChronicleName + Send + Sync + Drop + 'static,
     R: Eprint + AllocGlobal + Clock + Threads + Wait + Copy + Send + Sync + Drop + 'static,
 >(
-    context: &Arc<SeatContext<C, A, R, SystemClock<R>, WatchedFile<R, N>, N>, Global>,
+    context: &Arc<SeatContext<C, A, R, SystemClock<R>, JournalFile<R, N>, N>, Global>,
     kept: KeptBoots,
 ) -> Result<(), ProgramFault> {
     let KeptBoots { boots, file } = kept;
@@ -323,10 +322,9 @@ fn context_of<
     shared: Shared<C, A, N>,
     journal: JournalFile<R, N>,
     options: SeatOptions,
-) -> Result<Arc<SeatContext<C, A, R, SystemClock<R>, WatchedFile<R, N>, N>, Global>, AllocError> {
+) -> Result<Arc<SeatContext<C, A, R, SystemClock<R>, JournalFile<R, N>, N>, Global>, AllocError> {
     let alloc = rt.alloc();
     let clock = SystemClock { rt: *rt };
-    let journal = WatchedFile { file: journal };
     let context = SeatContext::make(*rt, alloc, shared, clock, journal, options)?;
     Ok(Arc::new(alloc, context)?)
 }

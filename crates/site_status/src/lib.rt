@@ -22,6 +22,7 @@ mod site_report;
 mod state_page;
 mod status_answer;
 mod strip;
+mod watched_journal;
 
 pub use asked_path::{StatusPath, status_path};
 pub use boot_line::{BootLine, push_boot_line, read_boot_line};
@@ -39,3 +40,4 @@ pub use reboot::{Reboot, may_have_forgotten};
 pub use site_report::{SiteCounts, SiteReport};
 pub use state_page::state_json;
 pub use status_answer::{ContentKind, StatusAnswer, answer_of, health_answer, nothing_there};
+pub use watched_journal::WatchedJournal;

@@ -1,6 +1,6 @@
 //! A journal that tells how it is.
 
-use site_status::JournalReport;
+use crate::journal_report::JournalReport;
 
 /// A journal that tells how it is.
 pub trait WatchedJournal {
