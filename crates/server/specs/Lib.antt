@@ -1,2 +1,1 @@
 pub mod PathRole
-pub mod PresentLink

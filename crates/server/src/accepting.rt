@@ -1,10 +1,10 @@
 //! Connections are accepted: each for a free seat, or it is answered that there is none.
 
 use crate::seat_context::SeatContext;
-use crate::seldom::Seldom;
 use chronicle::ChronicleName;
 use crossbeam_channel::Sender;
 use ocpp_scalars::Moments;
+use server_core::Seldom;
 use std::io::{Read, Write};
 use std::net::{Shutdown, TcpListener, TcpStream};
 use std::rt::Clock;

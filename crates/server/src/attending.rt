@@ -2,14 +2,15 @@
 
 ghost use Rattle.session.specs.Serving.{KeepsPass};
 
-use crate::deadlines::{LONGEST_SILENCE, SILENCE_BEFORE_CALL, SILENCE_BEFORE_PING, TICK};
-use crate::incoming_stream::{IncomingStream, seconds_since};
-use crate::pace::Pace;
+use crate::incoming_stream::IncomingStream;
 use crate::session_watch::SessionWatch;
 use bytes::Bytes;
 use chronicle::ChronicleName;
 use journal_writer::Journal;
 use ocpp_scalars::Moments;
+use server_core::{
+    LONGEST_SILENCE, Pace, SILENCE_BEFORE_CALL, SILENCE_BEFORE_PING, TICK, seconds_since,
+};
 use session::{Context, Ended, Heard, SentCall, SessionCore, WatchedSocket, send_call, serve_next};
 use std::rt::Clock;
 use std::sync::Wait;

@@ -4,12 +4,14 @@
 ghost use Rattle.std.specs.Counts.{IsPrefixLen};
 ghost use Rattle.std.specs.Prelude.{IfOk};
 
-use crate::deadlines::{LONGEST_HANDSHAKE, LONGEST_MESSAGE, LONGEST_WRITE, TICK};
-use crate::long_messages::{LongMessages, Place};
+use server_core::{
+    LONGEST_HANDSHAKE, LONGEST_MESSAGE, LONGEST_WRITE, LongMessages, Place, SharedStream, TICK,
+    seconds_since, shut,
+};
 use session::Watched;
 use std::alloc::Global;
 use std::io::{ErrorKind, Read, Write};
-use std::net::{Shutdown, TcpStream};
+use std::net::TcpStream;
 use std::rt::Clock;
 use std::sync::{Arc, Wait};
 use std::time::{Duration, Instant};
@@ -30,9 +32,6 @@ const READS_OF_LOOK: u32 = 64;
 
 /// So often at most a read of a handshake begins again since a signal interrupted it.
 const MOST_SIGNALS: u32 = 1_000;
-
-/// A stream that whoever has a share of it may shut.
-pub(crate) type SharedStream = Arc<TcpStream, Global>;
 
 /// The stream of a connection. Its handshake, and later each message, has to be whole by a deadline,
 /// so that nobody holds it up by a byte now and then. With its first long message it takes one of the
@@ -217,17 +216,6 @@ impl<'a, R: Clock + Wait> IncomingStream<'a, R> {
     }
 }
 
-/// How many whole seconds ago a moment was. 0 where no clock tells it.
-pub(crate) fn seconds_since<R: Clock>(rt: &R, moment: Instant) -> u64 {
-    let Ok(now) = Instant::now(rt) else {
-        return 0;
-    };
-    match now.checked_duration_since(moment) {
-        Some(since) => since.as_secs(),
-        None => 0,
-    }
-}
-
 impl<R: Clock + Wait> Watched for IncomingStream<'_, R> {
     fn begin_look(&mut self) -> bool {
         let look = Duration::from_millis(LOOK);
@@ -305,9 +293,4 @@ impl<R: Clock> Write for IncomingStream<'_, R> {
     fn flush(&mut self) -> io::Result<()> {
         Ok(())
     }
-}
-
-/// Shuts a stream: whoever reads it finds its end. It may have ended already.
-pub(crate) fn shut(stream: &SharedStream) {
-    let _ = stream.shutdown(Shutdown::Both);
 }

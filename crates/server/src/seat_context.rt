@@ -1,15 +1,11 @@
 //! What all seats of a site share.
 
-use crate::free_seats::FreeSeats;
-use crate::long_messages::LongMessages;
-use crate::notices::Notices;
-use crate::pace::AheadClients;
-use crate::present_streams::PresentStreams;
-use crate::site_watch::SiteWatch;
-use crate::unfinished_handshakes::UnfinishedHandshakes;
 use chronicle::ChronicleName;
 use journal_writer::Journal;
 use ocpp_scalars::Moments;
+use server_core::{
+    AheadClients, FreeSeats, LongMessages, Notices, PresentStreams, SiteWatch, UnfinishedHandshakes,
+};
 use site_keys::Keys;
 use site_status::{Boot, RejectedCalls, resumed_boot};
 use std::alloc::{AllocError, Global};

@@ -1,11 +1,11 @@
 //! What a session is seen to do: for the status of its site, and as lines for people.
 
 use crate::seat_context::SeatContext;
-use crate::site_watch::{Rejected, Reply};
 use chronicle::ChronicleName;
 use journal_writer::Journal;
 use messages::ActionKind;
 use ocpp_scalars::{Instant, Moments};
+use server_core::{Rejected, Reply};
 use session::{Breach, Ended, SentCall, SessionCore, Told};
 use site_status::{Boot, CallNumbers, SentMoment, Sighting};
 use std::alloc::{AllocError, Global};

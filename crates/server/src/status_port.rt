@@ -1,13 +1,12 @@
 //! The status port of a site: read-only, over HTTP/1.1, with a few threads of its own.
 
-use crate::deadlines::LONGEST_STATUS;
 use crate::seat_context::SeatContext;
 use crate::serving::ServeFault;
 use crate::status_service::StatusService;
-use crate::status_stream::StatusStream;
 use chronicle::ChronicleName;
 use http_server::{Config, Connection, serve};
 use ocpp_scalars::Moments;
+use server_core::{LONGEST_STATUS, StatusStream};
 use site_status::WatchedJournal;
 use std::alloc::{AllocError, Global};
 use std::hash::RandomState;

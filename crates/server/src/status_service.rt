@@ -2,13 +2,13 @@
 
 use crate::own_host::is_for_this_machine;
 use crate::seat_context::SeatContext;
-use crate::site_watch::Seen;
 use crate::status_port::StatusPort;
 use bytes::Bytes;
 use chronicle::ChronicleName;
 use http::{HeaderName, HeaderValue, Method, Request, StatusCode};
 use http_server::{Response, Service};
 use ocpp_scalars::Moments;
+use server_core::Seen;
 use site_status::{
     Health, JournalReport, SiteCounts, SiteReport, StatusAnswer, StatusPath, WatchedJournal,
     answer_of, health_answer, nothing_there, status_path,

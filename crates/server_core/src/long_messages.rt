@@ -9,7 +9,7 @@ const MAX_PLACES: u64 = 16;
 /// How many connections may still have a long message, and how many wait until they may. Most
 /// connections never have one.
 #[derive(Drop)]
-pub(crate) struct LongMessages {
+pub struct LongMessages {
     places: Mutex<Places>,
 }
 
@@ -21,7 +21,7 @@ struct Places {
 
 /// Whether a connection has one of the places.
 #[derive(Clone, Copy, Debug, PartialEq, Eq)]
-pub(crate) enum Place {
+pub enum Place {
     /// It has had no long message.
     Unasked,
     /// It waits for one.
@@ -32,7 +32,7 @@ pub(crate) enum Place {
 
 impl LongMessages {
     /// No connection has a long message yet.
-    pub(crate) fn new() -> LongMessages {
+    pub fn new() -> LongMessages {
         LongMessages {
             places: Mutex::new(Places {
                 free: MAX_PLACES,
@@ -43,7 +43,7 @@ impl LongMessages {
 
     /// Asks for a place for a connection that has none, perhaps once more. Without a free one the
     /// connection waits for it.
-    pub(crate) fn ask<R: Wait>(&self, rt: &R, place: Place) -> Place {
+    pub fn ask<R: Wait>(&self, rt: &R, place: Place) -> Place {
         let mut places = self.places.lock(rt);
         if places.free == 0 {
             if place == Place::Unasked {
@@ -59,7 +59,7 @@ impl LongMessages {
     }
 
     /// A connection ends that has such a place, or waits for one.
-    pub(crate) fn leave<R: Wait>(&self, rt: &R, place: Place) {
+    pub fn leave<R: Wait>(&self, rt: &R, place: Place) {
         let mut places = self.places.lock(rt);
         match place {
             Place::Unasked => {}
@@ -69,7 +69,7 @@ impl LongMessages {
     }
 
     /// Whether more connections wait for a place than find one.
-    pub(crate) fn are_wanted<R: Wait>(&self, rt: &R) -> bool {
+    pub fn are_wanted<R: Wait>(&self, rt: &R) -> bool {
         let places = self.places.lock(rt);
         places.waiting > places.free
     }

@@ -8,10 +8,10 @@ use std::time::{Duration, Instant};
 
 /// A stream whose reads and writes end at a deadline, whatever its client does.
 #[derive(Drop)]
-pub(crate) struct StatusStream<'a, R> {
-    pub(crate) rt: &'a R,
-    pub(crate) stream: &'a TcpStream,
-    pub(crate) deadline: Instant,
+pub struct StatusStream<'a, R> {
+    pub rt: &'a R,
+    pub stream: &'a TcpStream,
+    pub deadline: Instant,
 }
 
 impl<R: Clock> StatusStream<'_, R> {

@@ -1,6 +1,6 @@
 //! The handshakes that aren't whole yet.
 
-use crate::incoming_stream::{SharedStream, seconds_since, shut};
+use crate::shared_stream::{SharedStream, seconds_since, shut};
 use std::alloc::Global;
 use std::rt::Clock;
 use std::sync::{Mutex, Wait};
@@ -12,7 +12,7 @@ const LEAST: u64 = 1;
 /// The handshakes that aren't whole yet, so that the one that lasts longest can give way where
 /// connections wait for a seat.
 #[derive(Drop)]
-pub(crate) struct UnfinishedHandshakes {
+pub struct UnfinishedHandshakes {
     begun: Mutex<BegunHandshakes>,
 }
 
@@ -32,7 +32,7 @@ struct BegunHandshake {
 
 impl UnfinishedHandshakes {
     /// None has begun.
-    pub(crate) fn new(alloc: Global) -> UnfinishedHandshakes {
+    pub fn new(alloc: Global) -> UnfinishedHandshakes {
         UnfinishedHandshakes {
             begun: Mutex::new(BegunHandshakes {
                 handshakes: Vec::new(alloc),
@@ -43,7 +43,7 @@ impl UnfinishedHandshakes {
 
     /// One begins over this stream. Returns its number. Without a clock or memory it doesn't give
     /// way, and ends by its deadline.
-    pub(crate) fn begin<R: Wait + Clock>(&self, rt: &R, stream: SharedStream) -> Option<u64> {
+    pub fn begin<R: Wait + Clock>(&self, rt: &R, stream: SharedStream) -> Option<u64> {
         let begun = Instant::now(rt).ok()?;
         let mut unfinished = self.begun.lock(rt);
         let number = unfinished.next_number;
@@ -60,7 +60,7 @@ impl UnfinishedHandshakes {
     }
 
     /// The one of this number is whole, or has failed.
-    pub(crate) fn end<R: Wait>(&self, rt: &R, number: u64) {
+    pub fn end<R: Wait>(&self, rt: &R, number: u64) {
         let mut unfinished = self.begun.lock(rt);
         let found = unfinished
             .handshakes
@@ -74,7 +74,7 @@ impl UnfinishedHandshakes {
     }
 
     /// Shuts the stream of the one that lasts longest. False where none has had its time.
-    pub(crate) fn shut_longest<R: Wait + Clock>(&self, rt: &R) -> bool {
+    pub fn shut_longest<R: Wait + Clock>(&self, rt: &R) -> bool {
         let mut unfinished = self.begun.lock(rt);
         let is_due = match unfinished.handshakes.first() {
             Some(longest) => seconds_since(rt, longest.begun) >= LEAST,

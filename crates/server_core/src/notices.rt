@@ -12,7 +12,7 @@ const MAX_WAITING: usize = 1_024;
 /// Lines that wait to be written to standard error. Whoever has something to say doesn't wait until
 /// somebody reads it.
 #[derive(Drop)]
-pub(crate) struct Notices {
+pub struct Notices {
     alloc: Global,
     waiting: Mutex<WaitingLines>,
     /// Whoever writes them waits here.
@@ -37,7 +37,7 @@ impl WaitingLines {
 
 impl Notices {
     /// Nothing was said yet.
-    pub(crate) fn new(alloc: Global) -> Notices {
+    pub fn new(alloc: Global) -> Notices {
         Notices {
             alloc,
             waiting: Mutex::new(WaitingLines {
@@ -49,14 +49,14 @@ impl Notices {
     }
 
     /// Says what became of whom at this moment. Without a clock nothing is said.
-    pub(crate) fn say<R: Wait, M: Moments>(&self, rt: &R, clock: &M, who: &str, what: &str) {
+    pub fn say<R: Wait, M: Moments>(&self, rt: &R, clock: &M, who: &str, what: &str) {
         if let Some(moment) = clock.now() {
             self.add(rt, line_of(self.alloc, moment, who, what));
         }
     }
 
     /// The same of what may be missing, for lack of memory.
-    pub(crate) fn say_made<R: Wait, M: Moments>(
+    pub fn say_made<R: Wait, M: Moments>(
         &self,
         rt: &R,
         clock: &M,
@@ -84,7 +84,7 @@ impl Notices {
     }
 
     /// Writes the lines for ever. Nothing is locked while one is written.
-    pub(crate) fn write_all<R: Wait + Eprint>(&self, rt: &R) {
+    pub fn write_all<R: Wait + Eprint>(&self, rt: &R) {
         for _round in rt.forever() {
             let WaitingLines { lines, left_out } = self.take(rt);
             for line in &lines {

@@ -13,7 +13,7 @@ use std::sync::{Mutex, Wait};
 
 /// What is seen of a site's connections since the program began.
 #[derive(Drop)]
-pub(crate) struct SiteWatch {
+pub struct SiteWatch {
     seen: Mutex<Seen>,
     /// When the calls to each point were added, by its place in the site.
     calls: Mutex<Vec<CallMoments>>,
@@ -22,31 +22,31 @@ pub(crate) struct SiteWatch {
 
 /// What was seen.
 #[derive(Drop)]
-pub(crate) struct Seen {
+pub struct Seen {
     /// Of each point, by its place in the site.
-    pub(crate) points: Vec<PointNews>,
-    pub(crate) counts: SiteCounts,
+    pub points: Vec<PointNews>,
+    pub counts: SiteCounts,
 }
 
 /// A point's reply to a call.
 #[derive(Drop)]
-pub(crate) struct Reply {
-    pub(crate) call: u64,
+pub struct Reply {
+    pub call: u64,
     /// Why the point rejects it, if it does.
-    pub(crate) rejection: Option<String>,
-    pub(crate) moment: Instant,
+    pub rejection: Option<String>,
+    pub moment: Instant,
 }
 
 /// A call was rejected.
 #[derive(Clone, Copy, Debug)]
-pub(crate) struct Rejected {
+pub struct Rejected {
     /// What it asked, where that is known.
-    pub(crate) action: Option<ActionKind>,
+    pub action: Option<ActionKind>,
 }
 
 impl SiteWatch {
     /// Of a site with so many points, of which nothing was seen.
-    pub(crate) fn make(alloc: Global, points: usize) -> Result<SiteWatch, AllocError> {
+    pub fn make(alloc: Global, points: usize) -> Result<SiteWatch, AllocError> {
         let mut places = Vec::with_capacity(alloc, points)?;
         let mut calls = Vec::with_capacity(alloc, points)?;
         for _point in 0..points {
@@ -64,38 +64,38 @@ impl SiteWatch {
     }
 
     /// So many connections are served at a time.
-    pub(crate) fn set_seats<R: Wait>(&self, rt: &R, seats: u64) {
+    pub fn set_seats<R: Wait>(&self, rt: &R, seats: u64) {
         self.seen.lock(rt).counts.seats = seats;
     }
 
     /// A connection wasn't let in.
-    pub(crate) fn refuse<R: Wait>(&self, rt: &R) {
+    pub fn refuse<R: Wait>(&self, rt: &R) {
         let mut seen = self.seen.lock(rt);
         seen.counts.refused_handshakes = seen.counts.refused_handshakes.saturating_add(1);
     }
 
     /// There was no seat for a connection.
-    pub(crate) fn turn_away<R: Wait>(&self, rt: &R) {
+    pub fn turn_away<R: Wait>(&self, rt: &R) {
         let mut seen = self.seen.lock(rt);
         seen.counts.turned_away = seen.counts.turned_away.saturating_add(1);
     }
 
     /// A session begins, of a point or of an operator.
-    pub(crate) fn begin<R: Wait>(&self, rt: &R, is_point: bool) {
+    pub fn begin<R: Wait>(&self, rt: &R, is_point: bool) {
         let mut seen = self.seen.lock(rt);
         let sessions = sessions_of(&mut seen.counts, is_point);
         *sessions = sessions.saturating_add(1);
     }
 
     /// A session has ended.
-    pub(crate) fn end<R: Wait>(&self, rt: &R, is_point: bool) {
+    pub fn end<R: Wait>(&self, rt: &R, is_point: bool) {
         let mut seen = self.seen.lock(rt);
         let sessions = sessions_of(&mut seen.counts, is_point);
         *sessions = sessions.saturating_sub(1);
     }
 
     /// This was seen of the point at a place.
-    pub(crate) fn see<R: Wait>(&self, rt: &R, place: usize, sighting: Sighting) {
+    pub fn see<R: Wait>(&self, rt: &R, place: usize, sighting: Sighting) {
         let is_boot = matches!(sighting, Sighting::Booted(_));
         let mut seen = self.seen.lock(rt);
         if let Some(news) = seen.points.get_mut(place) {
@@ -108,7 +108,7 @@ impl SiteWatch {
     }
 
     /// The point at a place booted before the program began, and is kept as such.
-    pub(crate) fn resume_boot<R: Wait>(&self, rt: &R, place: usize, boot: Boot) {
+    pub fn resume_boot<R: Wait>(&self, rt: &R, place: usize, boot: Boot) {
         let mut seen = self.seen.lock(rt);
         if let Some(news) = seen.points.get_mut(place) {
             news.see(Sighting::Booted(boot));
@@ -116,7 +116,7 @@ impl SiteWatch {
     }
 
     /// The point at a place rejected these calls before the program began.
-    pub(crate) fn resume_rejections<R: Wait>(&self, rt: &R, place: usize, rejected: RejectedCalls) {
+    pub fn resume_rejections<R: Wait>(&self, rt: &R, place: usize, rejected: RejectedCalls) {
         let mut seen = self.seen.lock(rt);
         if let Some(news) = seen.points.get_mut(place) {
             news.resume_rejections(rejected);
@@ -125,13 +125,7 @@ impl SiteWatch {
 
     /// The point at a place has these calls at a moment. Where memory runs out they are seen the next
     /// time.
-    pub(crate) fn see_calls<R: Wait>(
-        &self,
-        rt: &R,
-        place: usize,
-        numbers: CallNumbers,
-        moment: Instant,
-    ) {
+    pub fn see_calls<R: Wait>(&self, rt: &R, place: usize, numbers: CallNumbers, moment: Instant) {
         let mut calls = self.calls.lock(rt);
         if let Some(moments) = calls.get_mut(place) {
             let _ = moments.see(numbers, moment);
@@ -139,7 +133,7 @@ impl SiteWatch {
     }
 
     /// The points have the calls of this state at a moment.
-    pub(crate) fn see_all_calls<R: Wait>(&self, rt: &R, machine: &Machine, moment: Instant) {
+    pub fn see_all_calls<R: Wait>(&self, rt: &R, machine: &Machine, moment: Instant) {
         let site = machine.site();
         for place in 0..site.len() {
             if let Some(point) = site.point(place) {
@@ -151,7 +145,7 @@ impl SiteWatch {
     }
 
     /// Since when the call to each point waits that waits longest, by the state of the site.
-    pub(crate) fn waiting_since<R: Wait>(
+    pub fn waiting_since<R: Wait>(
         &self,
         rt: &R,
         alloc: Global,
@@ -166,7 +160,7 @@ impl SiteWatch {
     }
 
     /// The point at a place replied to a call. Where it rejects it, returns what that asked.
-    pub(crate) fn reply<R: Wait>(&self, rt: &R, place: usize, reply: Reply) -> Option<Rejected> {
+    pub fn reply<R: Wait>(&self, rt: &R, place: usize, reply: Reply) -> Option<Rejected> {
         let Reply {
             call,
             rejection,
@@ -191,7 +185,7 @@ impl SiteWatch {
 
     /// The connection over which the point at a place had this link has ended. Returns whether it
     /// has no later one.
-    pub(crate) fn leave<R: Wait>(&self, rt: &R, place: usize, link: u64) -> bool {
+    pub fn leave<R: Wait>(&self, rt: &R, place: usize, link: u64) -> bool {
         let mut seen = self.seen.lock(rt);
         match seen.points.get_mut(place) {
             Some(news) => news.connection.leave(link),
@@ -200,16 +194,12 @@ impl SiteWatch {
     }
 
     /// What tells that the boots changed which are to be kept.
-    pub(crate) fn changed_boots(&self) -> &BootChanges {
+    pub fn changed_boots(&self) -> &BootChanges {
         &self.boots
     }
 
     /// The boot of each point that is to be kept, if there is one.
-    pub(crate) fn boots<R: Wait>(
-        &self,
-        rt: &R,
-        alloc: Global,
-    ) -> Result<Vec<Option<Boot>>, AllocError> {
+    pub fn boots<R: Wait>(&self, rt: &R, alloc: Global) -> Result<Vec<Option<Boot>>, AllocError> {
         let seen = self.seen.lock(rt);
         let mut boots = Vec::with_capacity(alloc, seen.points.len())?;
         for news in &seen.points {
@@ -219,7 +209,7 @@ impl SiteWatch {
     }
 
     /// A copy of what was seen.
-    pub(crate) fn copy<R: Wait>(&self, rt: &R, alloc: Global) -> Result<Seen, AllocError> {
+    pub fn copy<R: Wait>(&self, rt: &R, alloc: Global) -> Result<Seen, AllocError> {
         let seen = self.seen.lock(rt);
         let mut points = Vec::with_capacity(alloc, seen.points.len())?;
         for news in &seen.points {

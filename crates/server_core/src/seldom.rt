@@ -8,18 +8,18 @@ const SECONDS_BETWEEN: u64 = 60;
 
 /// When a sentence was said last, so that it is said seldom.
 #[derive(Drop)]
-pub(crate) struct Seldom {
+pub struct Seldom {
     said: Option<Instant>,
 }
 
 impl Seldom {
     /// It wasn't said yet.
-    pub(crate) fn new() -> Seldom {
+    pub fn new() -> Seldom {
         Seldom { said: None }
     }
 
     /// Whether it is to be said now, after which it counts as said. Without a clock it isn't.
-    pub(crate) fn is_due<R: Clock>(&mut self, rt: &R) -> bool {
+    pub fn is_due<R: Clock>(&mut self, rt: &R) -> bool {
         let Ok(now) = Instant::now(rt) else {
             return false;
         };

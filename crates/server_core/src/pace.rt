@@ -13,12 +13,12 @@ const SHARE: u64 = 50;
 /// sessions waits between two messages. So all of them together take a bounded part of the processor's
 /// time, and whoever else wants the book finds no crowd before it.
 #[derive(Drop)]
-pub(crate) struct AheadClients {
+pub struct AheadClients {
     count: AtomicU64,
 }
 
 impl AheadClients {
-    pub(crate) fn new() -> AheadClients {
+    pub fn new() -> AheadClients {
         AheadClients {
             count: AtomicU64::new(0),
         }
@@ -27,14 +27,14 @@ impl AheadClients {
 
 /// The pace of a session.
 #[derive(Drop)]
-pub(crate) struct Pace<'a> {
+pub struct Pace<'a> {
     clients: &'a AheadClients,
     /// Whether its client is counted among them.
     is_counted: bool,
 }
 
 impl<'a> Pace<'a> {
-    pub(crate) fn new(clients: &'a AheadClients) -> Pace<'a> {
+    pub fn new(clients: &'a AheadClients) -> Pace<'a> {
         Pace {
             clients,
             is_counted: false,
@@ -42,7 +42,7 @@ impl<'a> Pace<'a> {
     }
 
     /// Waits before the next message of a client that is ahead, if others are.
-    pub(crate) fn keep<R: Wait + Clock>(&mut self, rt: &R, is_ahead: bool) {
+    pub fn keep<R: Wait + Clock>(&mut self, rt: &R, is_ahead: bool) {
         self.count(is_ahead);
         if !is_ahead {
             return;
@@ -54,7 +54,7 @@ impl<'a> Pace<'a> {
     }
 
     /// The session ends.
-    pub(crate) fn end(self) {
+    pub fn end(self) {
         let mut ended = self;
         ended.count(false);
     }

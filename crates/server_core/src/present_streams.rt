@@ -1,9 +1,9 @@
 //! The stream of each point's newest connection.
 
 ghost use Rattle.std.specs.Prelude.{◌≡◌, ◌<◌, IsSome};
-ghost use Rattle.server.specs.PresentLink.{entered, left, never_connected};
+ghost use Rattle.server_core.specs.PresentLink.{entered, left, never_connected};
 
-use crate::incoming_stream::{SharedStream, shut};
+use crate::shared_stream::{SharedStream, shut};
 use std::alloc::{AllocError, Global};
 use std::marker::Model;
 use std::sync::{Mutex, Wait};
@@ -19,7 +19,7 @@ struct Present {
 
 impl Model for Present {
     ghost use Rattle.std.specs.Prelude.{is_some};
-    ghost use Rattle.server.specs.PresentLink.{PresentState};
+    ghost use Rattle.server_core.specs.PresentLink.{PresentState};
 
     ghost Value = { PresentState };
 
@@ -69,13 +69,13 @@ impl Present {
 /// The stream of each point's newest connection, by the point's place in the site. A point that
 /// connects once more is served over its new connection, and the old one is shut.
 #[derive(Drop)]
-pub(crate) struct PresentStreams {
+pub struct PresentStreams {
     places: Mutex<Vec<Present>>,
 }
 
 impl PresentStreams {
     /// Of a site with so many points, none of which is connected.
-    pub(crate) fn make(alloc: Global, points: usize) -> Result<PresentStreams, AllocError> {
+    pub fn make(alloc: Global, points: usize) -> Result<PresentStreams, AllocError> {
         let mut places = Vec::with_capacity(alloc, points)?;
         for _point in 0..points {
             places.push(Present::new())?;
@@ -87,7 +87,7 @@ impl PresentStreams {
 
     /// A point has this link over this stream. Of two links the later one stays, which is the one
     /// over which the point is sent its calls, whichever comes here first. The other stream is shut.
-    pub(crate) fn enter<R: Wait>(&self, rt: &R, place: usize, link: u64, stream: SharedStream) {
+    pub fn enter<R: Wait>(&self, rt: &R, place: usize, link: u64, stream: SharedStream) {
         let mut places = self.places.lock(rt);
         let Some(present) = places.get_mut(place) else {
             return;
@@ -100,7 +100,7 @@ impl PresentStreams {
     }
 
     /// The connection over which a point had this link has ended.
-    pub(crate) fn leave<R: Wait>(&self, rt: &R, place: usize, link: u64) {
+    pub fn leave<R: Wait>(&self, rt: &R, place: usize, link: u64) {
         let mut places = self.places.lock(rt);
         let Some(present) = places.get_mut(place) else {
             return;

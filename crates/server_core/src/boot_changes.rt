@@ -4,7 +4,7 @@ use std::sync::{Condvar, Mutex, Wait};
 
 /// Whether the boots that are to be kept changed, for whoever keeps them.
 #[derive(Drop)]
-pub(crate) struct BootChanges {
+pub struct BootChanges {
     is_new: Mutex<bool>,
     /// Whoever keeps them waits here.
     more: Condvar,
@@ -12,7 +12,7 @@ pub(crate) struct BootChanges {
 
 impl BootChanges {
     /// None changed yet.
-    pub(crate) fn new() -> BootChanges {
+    pub fn new() -> BootChanges {
         BootChanges {
             is_new: Mutex::new(false),
             more: Condvar::new(),
@@ -20,13 +20,13 @@ impl BootChanges {
     }
 
     /// One changed. Waits for no file.
-    pub(crate) fn note<R: Wait>(&self, rt: &R) {
+    pub fn note<R: Wait>(&self, rt: &R) {
         *self.is_new.lock(rt) = true;
         self.more.notify_one();
     }
 
     /// Waits until one has changed since this returned last.
-    pub(crate) fn wait<R: Wait>(&self, rt: &R) {
+    pub fn wait<R: Wait>(&self, rt: &R) {
         let is_new = self.is_new.lock(rt);
         let mut is_new = self.more.wait_while(rt, is_new, |is_new| !*is_new);
         *is_new = false;

@@ -1,0 +1,32 @@
+//! What the threads of the server share, without sessions, handshakes or HTTP: streams and their
+//! deadlines, seats, long messages, what was seen of the points, and lines on standard error.
+#![tactic(auto)]
+
+mod boot_changes;
+mod deadlines;
+mod free_seats;
+mod long_messages;
+mod notices;
+mod pace;
+mod present_streams;
+mod seldom;
+mod shared_stream;
+mod site_watch;
+mod status_stream;
+mod unfinished_handshakes;
+
+pub use boot_changes::BootChanges;
+pub use deadlines::{
+    LONGEST_HANDSHAKE, LONGEST_MESSAGE, LONGEST_SILENCE, LONGEST_STATUS, LONGEST_WRITE,
+    SILENCE_BEFORE_CALL, SILENCE_BEFORE_PING, TICK,
+};
+pub use free_seats::FreeSeats;
+pub use long_messages::{LongMessages, Place};
+pub use notices::Notices;
+pub use pace::{AheadClients, Pace};
+pub use present_streams::PresentStreams;
+pub use seldom::Seldom;
+pub use shared_stream::{SharedStream, seconds_since, shut};
+pub use site_watch::{Rejected, Reply, Seen, SiteWatch};
+pub use status_stream::StatusStream;
+pub use unfinished_handshakes::UnfinishedHandshakes;
