@@ -1,20 +1,16 @@
 -- What clap says of a command line, said of this program's command.
-use Rattle.std.proofs.Common.{◌≡◌, ℕ, ◌<◌, ◌^◌, Bool, not, List, [], ◌∷◌, inl, inr, Option, Some, None, IfSome, Result, Ok, Err, IfOk, option_map, true, false, refl, sym, ap, ◌∙◌, subst}
+use Rattle.std.proofs.Common.{◌≡◌, ℕ, ◌<◌, ◌^◌, Bool, List, [], ◌∷◌, inl, inr, Option, Some, None, IfSome, Result, Ok, Err, IfOk, option_map, true, false, refl, sym, ap, ◌∙◌, subst}
 use Rattle.std.specs.Prelude.{IsSomeAnd}
 use Rattle.std.specs.Str.Parse.{IsNumeral, ParsesUnsigned, digits_value, without_leading_plus}
 use Rattle.clap.specs.Kinds.{or_else}
-use Rattle.clap.specs.Words.{AddsArg, AddsSubcommand, App, HasKind, HasMatchesOf, IsAmong, Kinds, kind_of, Row, Rule, Text, app_of, fault_of, is_simple, is_simple_and_free, rule_of, shape_of, subcommand_of, subcommand_rows_of, with_rule, with_subcommand}
+use Rattle.clap.specs.Words.{App, HasKind, HasMatchesOf, IsAmong, Kinds, kind_of, Row, Text, app_of, fault_of, is_simple, is_simple_and_free, subcommand_of, subcommand_rows_of}
 use Rattle.clap.specs.Matches.{ReadsOne, subcommand_name_of}
-use Rattle.clap.specs.declared.builder.arg.Arg.{Arg}
-use Rattle.clap.specs.declared.builder.command.Command.{Command}
-use Rattle.clap.specs.declared.builder.command.Command.TheViews.{out-Command}
 use Rattle.clap.specs.declared.error.Error.{Error}
 use Rattle.clap.specs.declared.error.kind.ErrorKind.{ErrorKind}
 use Rattle.clap.specs.declared.error.kind.ErrorKind.TheVariants.{ArgumentConflict}
 use Rattle.clap.specs.declared.parser.matches.ArgMatches.{ArgMatches}
 use Rattle.clap.specs.declared.parser.matches.ArgMatches.TheViews.{out-ArgMatches}
 use Rattle.clap.proofs.OnLiterals.{clap_on_literals}
-use Rattle.clap.proofs.WalkLemmas.{both}
 use Rattle.command_line.specs.CommandLine.{central_app, has_two_scripts, line_faults, script_faults, subcommand_named}
 
 central_is_free : is_simple_and_free central_app ≡ true
@@ -111,31 +107,3 @@ number_given gives unsigned found text None same value t is numeral fits =
     let read = value t (same ∙ is) in
     absurd (unsigned t (Err read.0) read.1 (numeral, fits))
 number_given gives unsigned found text (Some n) same value t is numeral fits = ap Some (unsigned t (Ok n) (value t (same ∙ is))).1
-
--- ---- commands
-
-pub on_ok : {A E : Type 0} (P Q : A → Type 0) (r : Result A E) → ((x : A) → P x → Q x) → IfOk r P → IfOk r Q
-on_ok P Q (Ok x) step h = step x h
-on_ok P Q (Err e) step h = tt
-
--- a command with one argument more
-pub argued : (old new : Command) (arg : Arg) (app : App) (rule : Rule) → AddsArg old arg new → arg.global ≡ false
-    → app_of old ≡ app → rule_of arg ≡ rule → app_of new ≡ with_rule app rule
-argued old new arg app rule adds local is of =
-    adds.shape local ∙ ap (λ (a : App). with_rule a (rule_of arg)) is ∙ ap (with_rule app) of
-
-not_true : (b : Bool) → not b ≡ true → b ≡ false
-not_true true h = absurd (cc)
-not_true false h = refl
-
--- a command that reads words plainly has no global argument
-has_no_globals : (c : Command) → (app_of c).top.is_plain ≡ true → (out-Command c).has_globals ≡ false
-has_no_globals c plain = not_true _ (both _ _ (both _ _ (both _ _ plain).1).1).0
-
--- a command with one subcommand more
-pub joined : (old new sub : Command) (app only : App) → AddsSubcommand old sub new → app_of old ≡ app → app_of sub ≡ only
-    → only.top.is_plain ≡ true → app_of new ≡ with_subcommand app only.top
-joined old new sub app only adds is of plain =
-    adds.shape (has_no_globals sub (ap (λ (a : App). a.top.is_plain) of ∙ plain))
-    ∙ ap (λ (a : App). with_subcommand a (shape_of sub)) is
-    ∙ ap (λ (a : App). with_subcommand app a.top) of

@@ -2,3 +2,4 @@ pub mod Limits
 pub mod Start
 pub mod Duration
 pub mod CommandLine
+pub mod CommandRows

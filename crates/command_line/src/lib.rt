@@ -1,11 +1,13 @@
 //! The program's command line: its commands and options, and the one job that words ask for.
 #![tactic(auto)]
 
+mod command_rows;
 mod commands;
 mod duration;
 mod help_text;
 mod job;
 mod limits;
+mod option_row;
 mod reading;
 mod start;
 

@@ -2,7 +2,7 @@
 use Rattle.std.proofs.Common.{◌≡◌, codes, true, ap, ◌∙◌}
 use Rattle.clap.specs.Words.{App, app_of}
 use Rattle.command_line.specs.CommandLine.{central_app, top_command, with_readers, with_served}
-use Rattle.command_line.proofs.CommandLineLemmas.{on_ok}
+use Rattle.command_line.proofs.CommandRowsLemmas.{on_ok}
 use Rattle.command_line.proofs.commands.central_command.Goals as goal
 
 pub returns : goal.returns

@@ -1,0 +1,61 @@
+-- What clap is told of a command, row by row.
+use Rattle.std.proofs.Common.{◌≡◌, ℕ, ◌+◌, ◌<◌, ◌≤◌, Bool, not, List, [], ◌∷◌, Result, Ok, Err, IfOk, true, false, drop, fold, get_or, length, refl, sym, ap, ◌∙◌}
+use Rattle.std.proofs.lemmas.List.{at_drop_all, at_drop_more}
+use Rattle.clap.specs.Words.{AddsArg, AddsSubcommand, App, Rule, app_of, new_app, rule_of, with_rule, with_subcommand}
+use Rattle.clap.specs.declared.builder.arg.Arg.{Arg}
+use Rattle.clap.specs.declared.builder.command.Command.{Command}
+use Rattle.clap.specs.declared.builder.command.Command.TheViews.{out-Command}
+use Rattle.clap.proofs.WalkLemmas.{both}
+use Rattle.command_line.specs.CommandRows.{app_of_row, rule_of_row, with_row}
+use Rattle.command_line.specs.declared.option_row.CommandRow.{CommandRow}
+use Rattle.command_line.specs.declared.option_row.OptionRow.{OptionRow}
+
+pub on_ok : {A E : Type 0} (P Q : A → Type 0) (r : Result A E) → ((x : A) → P x → Q x) → IfOk r P → IfOk r Q
+on_ok P Q (Ok x) step h = step x h
+on_ok P Q (Err e) step h = tt
+
+-- a command with one argument more
+argued : (old new : Command) (arg : Arg) (rule : Rule) → AddsArg old arg new → arg.global ≡ false → rule_of arg ≡ rule
+    → app_of new ≡ with_rule (app_of old) rule
+argued old new arg rule adds local of = adds.shape local ∙ ap (with_rule (app_of old)) of
+
+-- with the next row's option, what is to come of the rows comes to the same
+pub next_row : (rows : List OptionRow) (i : ℕ) (row : OptionRow) (old new : Command) (arg : Arg) (whole : App)
+    → i < length rows → row ≡ get_or rows i row → AddsArg old arg new → arg.global ≡ false → rule_of arg ≡ rule_of_row row
+    → fold with_row (app_of old) (drop i rows) ≡ whole → fold with_row (app_of new) (drop (i + 1) rows) ≡ whole
+next_row rows i row old new arg whole lt is adds local of so_far =
+    ap (λ (a : App). fold with_row a (drop (i + 1) rows)) (argued old new arg _ adds local of)
+    ∙ ap (λ (r : OptionRow). fold with_row (app_of old) (r ∷ drop (i + 1) rows)) is
+    ∙ sym (at_drop_more (fold with_row (app_of old)) rows i row lt)
+    ∙ so_far
+
+-- behind the last row the command is whole
+pub last_row : (rows : List OptionRow) (i : ℕ) (app whole : App) → length rows ≤ i → fold with_row app (drop i rows) ≡ whole → app ≡ whole
+last_row rows i app whole le so_far = sym (at_drop_all (fold with_row app) rows i le) ∙ so_far
+
+not_true : (b : Bool) → not b ≡ true → b ≡ false
+not_true true h = absurd (cc)
+not_true false h = refl
+
+-- a command that reads words plainly has no global argument
+has_no_globals : (c : Command) → (app_of c).top.is_plain ≡ true → (out-Command c).has_globals ≡ false
+has_no_globals c plain = not_true _ (both _ _ (both _ _ (both _ _ plain).1).1).0
+
+-- a command of rows reads words plainly
+is_plain_with : (rows : List OptionRow) (app : App) → app.top.is_plain ≡ true → (fold with_row app rows).top.is_plain ≡ true
+is_plain_with [] app plain = plain
+is_plain_with (row ∷ rows) app plain = is_plain_with rows (with_row app row) plain
+
+-- a command with one subcommand more, of a row
+pub joined : (old new sub : Command) (row : CommandRow) → AddsSubcommand old sub new → app_of sub ≡ app_of_row row
+    → app_of new ≡ with_subcommand (app_of old) (app_of_row row).top
+joined old new sub row adds of =
+    let plain = is_plain_with row.options.now (new_app row.name.now) refl in
+    adds.shape (has_no_globals sub (ap (λ (a : App). a.top.is_plain) of ∙ plain))
+    ∙ ap (λ (a : App). with_subcommand (app_of old) a.top) of
+
+-- the same, where the row is one of these commands
+pub added_to : (app old new row only : App) → old ≡ app → new ≡ with_subcommand old row.top → row ≡ only
+    → new ≡ with_subcommand app only.top
+added_to app old new row only is adds of =
+    adds ∙ ap (λ (a : App). with_subcommand a row.top) is ∙ ap (λ (a : App). with_subcommand app a.top) of
