@@ -8,7 +8,7 @@ use crate::waiting_calls::say_waiting;
 use client::Address;
 use client_lines::Lines;
 use command_io::{ProgramFault, read_login, read_site_file};
-use command_line::Calling;
+use jobs::Calling;
 use operator_calls::{
     Caller, GivenCall, Sending, Visit, is_without_point, point_of_url, url_of_point, visits_of_site,
 };

@@ -4,7 +4,7 @@ use client_lines::{
     ask_call, audit_call, clear_call, remote_start_call, set_profile_call, status_call,
 };
 use command_io::{ProgramFault, read_payload_file};
-use command_line::{Calling, Starting};
+use jobs::{Calling, Starting};
 use operator_calls::GivenCall;
 use std::alloc::{AllocError, AllocGlobal, Global};
 use std::fs::File;

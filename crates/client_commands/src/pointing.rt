@@ -3,8 +3,8 @@
 use client::{Address, TerminalPoint, connect};
 use client_lines::Lines;
 use command_io::{ProgramFault, read_login, read_site_file};
-use command_line::Pointing;
 use data_folder::SystemClock;
+use jobs::Pointing;
 use sim_point_core::SimPoint;
 use site_rules::Site;
 use std::alloc::{AllocError, AllocGlobal, Global};

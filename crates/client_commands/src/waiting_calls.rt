@@ -1,8 +1,8 @@
 //! Which of the calls that a site has for its points wait.
 
 use command_io::{ProgramFault, read_digested_site};
-use command_line::Calling;
 use data_folder::{Following, ScriptEnd, follow_journal};
+use jobs::Calling;
 use operator_calls::Visit;
 use site_core::Outbox;
 use std::alloc::AllocGlobal;

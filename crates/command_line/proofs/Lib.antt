@@ -1,3 +1,2 @@
 pub mod CommandLineLemmas
 pub mod CommandRowsLemmas
-pub mod DurationLemmas

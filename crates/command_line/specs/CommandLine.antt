@@ -3,27 +3,27 @@
 use Rattle.std.specs.Prelude.{◌≡◌, ◌<◌, ◌≤◌, ◌^◌, ◌&&◌, Bool, true, false, ℕ, List, [], ◌∷◌, codes, Option, None, Some, IfSome, if◌then◌else◌, is_some, option_map}
 use Rattle.std.specs.Option.{option_map_or}
 use Rattle.std.specs.Str.Parse.{IsNumeral, digits_value, without_leading_plus}
-use Rattle.command_line.specs.Limits.{default_call_timeout, default_seats, default_workers, max_call_timeout, max_connectors, max_line, max_seats, max_sessions, max_workers}
+use Rattle.jobs.specs.Limits.{default_call_timeout, default_seats, default_workers, max_call_timeout, max_connectors, max_line, max_seats, max_sessions, max_workers}
 use Rattle.clap.specs.Kinds.{or_else}
 use Rattle.clap.specs.Words.{App, Kinds, Row, Rule, Text, all_of, fault_of, first_of, new_app, new_rule, one_of, subcommand_of, with_rule, with_subcommand}
 use Rattle.clap.specs.declared.builder.action.ArgAction.TheVariants.{Set, SetTrue}
 use Rattle.clap.specs.declared.builder.value_parser.ValueParser.TheVariants.{Unsigned}
 use Rattle.clap.specs.declared.error.kind.ErrorKind.TheVariants.{ArgumentConflict}
-use Rattle.command_line.specs.declared.job.Job.{Job}
-use Rattle.command_line.specs.declared.job.Job.TheVariants.{Replay, Serve, Run, Journal, Key, Call, Point, Explain, Check, Show, Status}
-use Rattle.command_line.specs.declared.job.Replaying.{Replaying}
-use Rattle.command_line.specs.declared.job.Serving.{Serving}
-use Rattle.command_line.specs.declared.job.Running.{Running}
-use Rattle.command_line.specs.declared.job.KeyMaking.{KeyMaking}
-use Rattle.command_line.specs.declared.job.Calling.{Calling}
-use Rattle.command_line.specs.declared.job.Asking.{Asking}
-use Rattle.command_line.specs.declared.job.Starting.{Starting}
-use Rattle.command_line.specs.declared.job.Pointing.{Pointing}
-use Rattle.command_line.specs.declared.job.Explaining.{Explaining}
-use Rattle.command_line.specs.declared.job.Checking.{Checking}
-use Rattle.command_line.specs.declared.job.Showing.{Showing}
-use Rattle.command_line.specs.declared.job.Source.{Source}
-use Rattle.command_line.specs.declared.job.Source.TheVariants as source
+use Rattle.jobs.specs.declared.job.Job.{Job}
+use Rattle.jobs.specs.declared.job.Job.TheVariants.{Replay, Serve, Run, Journal, Key, Call, Point, Explain, Check, Show, Status}
+use Rattle.jobs.specs.declared.job.Replaying.{Replaying}
+use Rattle.jobs.specs.declared.job.Serving.{Serving}
+use Rattle.jobs.specs.declared.job.Running.{Running}
+use Rattle.jobs.specs.declared.job.KeyMaking.{KeyMaking}
+use Rattle.jobs.specs.declared.job.Calling.{Calling}
+use Rattle.jobs.specs.declared.job.Asking.{Asking}
+use Rattle.jobs.specs.declared.job.Starting.{Starting}
+use Rattle.jobs.specs.declared.job.Pointing.{Pointing}
+use Rattle.jobs.specs.declared.job.Explaining.{Explaining}
+use Rattle.jobs.specs.declared.job.Checking.{Checking}
+use Rattle.jobs.specs.declared.job.Showing.{Showing}
+use Rattle.jobs.specs.declared.job.Source.{Source}
+use Rattle.jobs.specs.declared.job.Source.TheVariants as source
 
 -- ---- the commands
 

@@ -17,13 +17,11 @@ use crate::help_text::{
     STATUS_NOTES, STATUS_OPEN_HELP, STATUS_URL_HELP, TRACE_HELP, UNDO_HELP, WORKERS_HELP,
     ZONE_HELP,
 };
-use crate::limits::{
-    MAX_CALL_TIMEOUT, MAX_CONNECTORS, MAX_LINE, MAX_SEATS, MAX_SESSIONS, MAX_WORKERS,
-};
 use crate::option_row::CommandRow;
 use crate::option_row::OptionRow::{
     Asking, Flag, Needed, NeededNumber, Number, Optional, Starting,
 };
+use jobs::{MAX_CALL_TIMEOUT, MAX_CONNECTORS, MAX_LINE, MAX_SEATS, MAX_SESSIONS, MAX_WORKERS};
 
 /// `run --site F --data DIR --listen A [--keys FILE] [--seats N] [--workers N]
 /// [--call-timeout SECONDS] [--status B] [--status-open]`.

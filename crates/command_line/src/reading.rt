@@ -6,12 +6,12 @@ ghost use Rattle.command_line.specs.CommandLine.{IsAsking, IsCalling, IsChecking
 
 use crate::commands::central_command;
 use crate::help_text::TWO_SCRIPTS;
-use crate::job::{
+use clap::error::ErrorKind;
+use clap::{ArgMatches, Error};
+use jobs::{
     Asking, Calling, Checking, Explaining, Job, KeyMaking, Pointing, Replaying, Running, Serving,
     Showing, Source, Starting,
 };
-use clap::error::ErrorKind;
-use clap::{ArgMatches, Error};
 use std::alloc::{AllocError, Global};
 /// How many connections are served at a time, and how many workers compile, where that isn't said.
 const SEATS: u64 = 256;

@@ -1,7 +1,7 @@
 //! The job of `central replay`.
 
 use command_io::{ProgramFault, read_script_of, read_site_file};
-use command_line::{Replaying, Source};
+use jobs::{Replaying, Source};
 use replay::{Summary, replay};
 use site_rules::Site;
 use std::alloc::AllocGlobal;

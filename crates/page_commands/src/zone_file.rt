@@ -1,9 +1,9 @@
 //! The file of a time zone, in the system's database.
 
 use command_io::ProgramFault;
-use command_line::Explaining;
 use data_folder::or_stop;
 use explain_pages::ClockShift;
+use jobs::Explaining;
 use meaning::Ask;
 use replay::{InputFault, read_all};
 use std::alloc::AllocGlobal;

@@ -1,7 +1,7 @@
 //! The job of `central key`.
 
 use command_io::ProgramFault;
-use command_line::KeyMaking;
+use jobs::KeyMaking;
 use site_keys::{KeyText, Role, write_key};
 use std::alloc::AllocGlobal;
 use std::random::RandomSource;

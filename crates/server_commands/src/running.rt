@@ -6,11 +6,11 @@ use crate::kept_boots::KeptBoots;
 use crate::serving::stop_of;
 use chronicle::{ChronicleName, Unnamed};
 use command_io::{ProgramFault, read_digested_site, read_key_file};
-use command_line::{MAX_SEATS, MAX_WORKERS, Running};
 use data_folder::{
     FolderFault, JournalFile, OpenJournal, Resumed, SystemClock, open_journal, or_stop,
     restore_shared,
 };
+use jobs::{MAX_SEATS, MAX_WORKERS, Running};
 use server::{
     SeatContext, SeatOptions, SeatedBook, StatusPort, begin_boots, begin_status, run_seats,
 };

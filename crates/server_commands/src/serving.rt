@@ -3,8 +3,8 @@
 ghost use Rattle.std.specs.Prelude.{◌≤◌};
 
 use command_io::{ProgramFault, read_site_file};
-use command_line::{MAX_SESSIONS, Serving};
 use data_folder::SystemClock;
+use jobs::{MAX_SESSIONS, Serving};
 use server::{ServeFault, serve};
 use site_rules::Site;
 use std::alloc::AllocGlobal;

@@ -1,8 +1,8 @@
 -- The number so far, with the digits to come, is that of all.
 use Rattle.std.proofs.Common.{◌≡◌, ◌≤◌, drop}
 use Rattle.meaning.specs.Limits.{max_duration}
-use Rattle.command_line.specs.Duration.{number_after}
-use Rattle.command_line.proofs.duration.split_digits.Given as goal
+use Rattle.jobs.specs.Duration.{number_after}
+use Rattle.jobs.proofs.duration.split_digits.Given as goal
 
 abbrev pub invariant-loop-count : goal.invariant-loop-count
 invariant-loop-count l =

@@ -1,7 +1,7 @@
 //! From when on a schedule is explained.
 
 ghost use Rattle.std.specs.Prelude.{◌≡◌};
-ghost use Rattle.command_line.specs.Start.{named_instant, start_of};
+ghost use Rattle.jobs.specs.Start.{named_instant, start_of};
 
 use ocpp_scalars::{Instant, InstantFault, read_instant};
 

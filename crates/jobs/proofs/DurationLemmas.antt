@@ -2,7 +2,7 @@
 use Rattle.std.proofs.Common.{◌≡◌, ℕ, ◌+◌, ◌-◌, ◌*◌, ◌<◌, List, length, get_or, drop, refl, add-one, drop-cons, nat_le, Some, None, true, false}
 use Rattle.std.specs.Char.{is_ascii_digit}
 use Rattle.meaning.specs.Limits.{max_duration}
-use Rattle.command_line.specs.Duration.{number_after}
+use Rattle.jobs.specs.Duration.{number_after}
 
 pub number_after-step : (n : ℕ) (bs : List ℕ) (i : ℕ) → i < length bs → is_ascii_digit (get_or bs i 0) ≡ true
     → nat_le (n * 10 + (get_or bs i 0 - 48)) max_duration ≡ true

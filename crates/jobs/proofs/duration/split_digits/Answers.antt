@@ -2,9 +2,9 @@
 use Rattle.std.proofs.Common.{◌∙◌, sym, arith}
 use Rattle.std.proofs.lemmas.Bool.{le-leb, lt-leb}
 use Rattle.std.proofs.lemmas.List.{at_drop_all}
-use Rattle.command_line.specs.Duration.{number_after}
-use Rattle.command_line.proofs.DurationLemmas.{number_after-step, number_after-over, number_after-end}
-use Rattle.command_line.proofs.duration.split_digits.Goals as goal
+use Rattle.jobs.specs.Duration.{number_after}
+use Rattle.jobs.proofs.DurationLemmas.{number_after-step, number_after-over, number_after-end}
+use Rattle.jobs.proofs.duration.split_digits.Goals as goal
 
 pub returns-then-not-is_ascii_digit-clause-value : goal.returns-then-not-is_ascii_digit-clause-value
 returns-then-not-is_ascii_digit-clause-value c =

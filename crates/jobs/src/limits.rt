@@ -1,4 +1,4 @@
-//! The limits of options. `central` compares them with those of the server.
+//! The limits of options. `server_commands` compares them with those of the server.
 
 /// The most connections at a time.
 pub const MAX_SEATS: u64 = 1_000;
@@ -10,10 +10,10 @@ pub const MAX_SESSIONS: u64 = 64;
 pub const MAX_WORKERS: u64 = 8;
 
 /// The most connectors of a point.
-pub(crate) const MAX_CONNECTORS: u64 = 64;
+pub const MAX_CONNECTORS: u64 = 64;
 
 /// The highest number of a line that is undone.
-pub(crate) const MAX_LINE: u64 = 2_147_483_647;
+pub const MAX_LINE: u64 = 2_147_483_647;
 
 /// The longest time for which a call waits for its reply, in seconds.
-pub(crate) const MAX_CALL_TIMEOUT: u64 = 3_600;
+pub const MAX_CALL_TIMEOUT: u64 = 3_600;

@@ -3,8 +3,8 @@ use Rattle.std.specs.Prelude.{ℕ, List, codes, if◌then◌else◌, Option, Non
 use Rattle.std.specs.Str.{bytes_eq}
 use Rattle.ocpp_scalars.specs.declared.instant_text.InstantFault.{InstantFault}
 use Rattle.ocpp_scalars.specs.ByCases.InstantText.{instant_of}
-use Rattle.command_line.specs.declared.start.Start.{Start}
-use Rattle.command_line.specs.declared.start.Start.TheVariants.{Now, At}
+use Rattle.jobs.specs.declared.start.Start.{Start}
+use Rattle.jobs.specs.declared.start.Start.TheVariants.{Now, At}
 
 -- from an instant on, or why there is none
 abbrev pub at_instant : Result ℕ InstantFault → Result Start InstantFault

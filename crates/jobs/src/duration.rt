@@ -2,7 +2,7 @@
 
 ghost use Rattle.std.specs.Prelude.{◌≡◌, ◌≤◌, ◌*◌, IfSome, option_map};
 ghost use Rattle.meaning.specs.Limits.{max_duration};
-ghost use Rattle.command_line.specs.Duration.{counted, duration_of, in_range, number_after, number_at, part_at, period, time_of_day, unit_of};
+ghost use Rattle.jobs.specs.Duration.{counted, duration_of, in_range, number_after, number_at, part_at, period, time_of_day, unit_of};
 
 use meaning::MAX_DURATION;
 
