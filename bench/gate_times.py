@@ -180,7 +180,8 @@ def status_by_clock(heard, spent, together):
     by_clock = together * CLOCK / clock
     is_above = heard.is_from_nothing() and by_clock > MARGIN * BUDGET
     kind = "from nothing" if heard.is_from_nothing() else "not all from nothing"
-    print(f"{by_clock:.1f} by the clock on which `transactions` takes {CLOCK}: here it took {clock:.2f} ({kind}; the budget is {BUDGET})")
+    told = f"here it took {clock:.2f} ({kind}; the budget is {BUDGET})"
+    print(f"{by_clock:.1f} by the clock on which `transactions` takes {CLOCK}: {told}")
     if is_above:
         print(f"FAILED: a run from nothing may take {MARGIN * BUDGET:.0f}: docs/WORKING.md says what keeps the gate cheap")
     return int(is_above)

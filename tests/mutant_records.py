@@ -14,7 +14,7 @@ import hashlib
 import os
 import re
 
-RECORD = re.compile(r"(\w+): (\d+) mutants refused on (\d{4}-\d\d-\d\d); own ([0-9a-f]{16}), below ([0-9a-f]{16})\n")
+RECORD = re.compile(r"(\w+) (\d{4}-\d\d-\d\d) refused=(\d+) own=([0-9a-f]{16}) below=([0-9a-f]{16})\n")
 # A text or character, which may hold the signs of a comment, or a comment.
 CODE = re.compile(
     r"""\br(?P<signs>\#*)"[\s\S]*?"(?P=signs) | "(?:\\[\s\S]|[^"\\])*" | '(?:\\.[^'\n]*|[^'\\\n])' | (?P<comment>//[^\n]*)""",
@@ -159,15 +159,15 @@ def place_of(top, crate):
 def why_left(top, crate):
     """Why a crate's mutants have to be tried, or None where its record fits."""
     if not os.path.isfile(place_of(top, crate)):
-        return "they were never all refused"
+        return "its mutants were never all refused"
     found = RECORD.fullmatch(read(place_of(top, crate)))
     if not found or found[1] != crate:
         return "its record can't be read"
     own, stated = sums_of(top, crate)
-    changed = [what for what, is_same in (("its files", found[4] == own), ("the clauses below it", found[5] == stated)) if not is_same]
-    return f"{' and '.join(changed)} changed since {found[3]}" if changed else None
+    changed = ["its files"] * (found[4] != own) + ["the clauses below it"] * (found[5] != stated)
+    return f"{' and '.join(changed)} changed since {found[2]}" if changed else None
 
 
 def write_record(top, crate, number, day, sums):
     with open(place_of(top, crate), "w", encoding="utf-8") as file:
-        file.write(f"{crate}: {number} mutants refused on {day}; own {sums[0]}, below {sums[1]}\n")
+        file.write(f"{crate} {day} refused={number} own={sums[0]} below={sums[1]}\n")
