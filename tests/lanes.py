@@ -1,5 +1,5 @@
 #!/usr/bin/env python3
-"""lanes.py: prints how many checks may run side by side (what rt reads as RT_JOBS), or nothing where rt is to choose.
+"""lanes.py: prints how many checks are to run side by side (RT_JOBS of rt), or nothing where rt is to choose.
 
 That is one a processor if each has 4 GB of free memory: the dearest crate takes 7 GB and most take 1 to 2, where rt plans
 on three times as much and leaves processors idle. With less memory, rt's own plan is the safer one. With more than 12 GB
@@ -49,10 +49,9 @@ def free_memory():
 
 
 def lanes():
-    """The number, or None."""
-    number = processors()
-    return number if LEAST <= free_memory() / number <= MOST else None
+    """How many checks there is a processor and memory for, at least one."""
+    return max(1, min(processors(), free_memory() // LEAST))
 
 
 if __name__ == "__main__":
-    print(lanes() or "")
+    print(processors() if LEAST <= free_memory() / processors() <= MOST else "")
