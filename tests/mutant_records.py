@@ -129,6 +129,11 @@ def files_below(folder):
         yield from (os.path.join(at, name) for name in sorted(names))
 
 
+def lines_of(top, crate):
+    """How many lines of code a crate has."""
+    return sum(read(path).count("\n") for path in files_below(os.path.join(top, "crates", crate, "src")))
+
+
 def sum_of(folder, texts):
     """A sum of texts and the names of their files in the folder, but for empty ones."""
     made = hashlib.sha256()
