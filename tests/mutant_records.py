@@ -10,6 +10,7 @@ The record of a crate is one line, crates/CRATE/edits/REFUSED: how many mutants 
 Both leave out comments and empty lines. Neither has the kit in it: with another kit, all mutants are tried anew. Bodies
 are found by the layout that `rt fmt` gives, which the gate demands: a body ends at a brace under the `fn` that it is of.
 """
+import functools
 import hashlib
 import os
 import re
@@ -72,6 +73,7 @@ def read(path):
         return file.read()
 
 
+@functools.lru_cache(maxsize=None)
 def without_comments(path):
     """A file of code or definitions without its comments and empty lines; any other file as it is."""
     text = read(path)
@@ -95,6 +97,7 @@ def header_with(header, line):
     return line if line[:1].strip() and line != "}" else header
 
 
+@functools.lru_cache(maxsize=None)
 def statements_of(path):
     """What a file of code states to other crates: without bodies, functions of its own, and what the code uses."""
     kept, header, body_ends, fn = [], "", None, None
