@@ -1,20 +1,36 @@
 #!/usr/bin/env python3
-"""gate_times.py COMMAND..: runs a command, as `rt ci`, and prints what it printed and then where its time went.
+"""gate_times.py COMMAND..: runs a command, as `rt ci`, prints what it prints, how far it is, and then where its time went.
 
-The table has a row for each crate: processor minutes of its proof, of its tests' proof and of its must-fail edits, and
-of the edits how many there are. It is got by looking twice a second at the prover's processes below the command, so a
-figure may be a second short for each process. Ends with the command's own status.
+Behind each line that says that a crate is proved, or kept from an earlier run, stands one that says how far the run is:
+crates done of all, minutes of wall time and of processors, and what is at work.
+
+The table at the end has a row for each crate: processor minutes of its proof, of its tests' proof and of its must-fail
+edits, and of the edits how many there are. It is got by looking twice a second at the prover's processes below the
+command, so a figure may be a second short for each process. Machines differ, so the sum is also told by the clock on
+which the proof of `transactions` takes half a minute, if that was proved in this run.
+
+Ends with the command's own status, or with 1 where that is 0, every crate was proved in this run, nothing was kept from
+an earlier one, and the sum by that clock is more than a tenth above the budget.
 """
 import collections
 import os
+import re
 import subprocess
 import sys
 import threading
 import time
 
+# Processor minutes from nothing, by that clock. CI ends a run at 180 minutes, perhaps on two cores on which `transactions`
+# takes three times as long: 95 x 3 / 2 are 143 minutes, and the rest is for empty lanes and for the tests behind the gate.
+BUDGET = 95
+MARGIN = 1.1
+CLOCK = 0.5
+
 CRATES = os.listdir(os.path.join(os.path.dirname(os.path.dirname(os.path.abspath(__file__))), "crates"))
 TICKS = os.sysconf("SC_CLK_TCK")
 PARTS = ("proof", "tests", "edits", "other")
+DONE = re.compile(r"rt: (\w+) (proved|NOT PROVED|is kept)\b")
+KEPT = re.compile(r"rt: .*\b(is kept:|kept from earlier runs|by an earlier run)")
 
 
 def processes():
@@ -65,6 +81,7 @@ class Watch(threading.Thread):
     def __init__(self, command):
         super().__init__(daemon=True)
         self.command, self.places, self.used, self.ended = command, {}, {}, threading.Event()
+        self.running = set()
 
     def look(self):
         all_now = list(processes())
@@ -72,6 +89,7 @@ class Watch(threading.Thread):
         while found:
             found = {process for process, parent, _, _ in all_now if parent in below} - below
             below |= found
+        running = set()
         for process, _, used, began in all_now:
             if process not in below:
                 continue
@@ -79,13 +97,62 @@ class Watch(threading.Thread):
             if self.places.get(key) is None:
                 self.places[key] = place_of(process)
             self.used[key] = used
+            running.add(self.places[key])
+        self.running = running - {None}
 
     def run(self):
         while not self.ended.wait(0.5):
             self.look()
 
 
-def table(watch):
+class Heard:
+    """What the command said so far."""
+
+    def __init__(self, words):
+        names = [word for word in words if word in CRATES]
+        self.all, self.done, self.proved = len(crates_below(names)), set(), set()
+        self.has_kept = False
+
+    def hear(self, line):
+        """Takes a line, and returns whether a crate is done by it."""
+        self.has_kept = self.has_kept or KEPT.match(line) is not None
+        found = DONE.match(line)
+        if found:
+            self.done.add(found[1])
+        if found and found[2] == "proved":
+            self.proved.add(found[1])
+        return found is not None
+
+    def is_from_nothing(self):
+        return not self.has_kept and self.proved == crates_below([])
+
+
+def crates_below(names):
+    """The crates that `rt ci` proves: these and those below them, or without names all."""
+    top = os.path.dirname(os.path.dirname(os.path.abspath(__file__)))
+    with open(os.path.join(top, "crates.txt"), encoding="utf-8") as file:
+        lines = [line.partition(":") for line in file if not line.startswith("#")]
+    uses = {name.strip(): used.split() for name, colon, used in lines if colon}
+    found, waiting = set(), names or list(uses)
+    while waiting:
+        name = waiting.pop()
+        if name in uses and name not in found:
+            found.add(name)
+            waiting = waiting + uses[name]
+    return found
+
+
+def progress(heard, watch, began):
+    """How far the run is."""
+    used, minutes = sum(list(watch.used.values())) / 60, (time.monotonic() - began) / 60
+    at_work = [place for place in watch.running if place[1] != "proof" or place[0] not in heard.done]
+    words = sorted(crate if part == "proof" else f"{part} of {crate}" for crate, part in at_work)
+    told = f"; at work: {', '.join(words)}" if words else ""
+    return f"{len(heard.done)} of {heard.all} crates, {minutes:.0f} minutes, {used:.0f} processor minutes{told}"
+
+
+def spent_by(watch):
+    """The seconds of each crate by part, and how often code of it was checked with an edit."""
     spent = collections.defaultdict(lambda: dict.fromkeys(PARTS, 0.0))
     tries = collections.Counter()
     for key, used in watch.used.items():
@@ -93,6 +160,10 @@ def table(watch):
         if place is not None:
             spent[place[0]][place[1]] += used
             tries[place[0]] += place[1] == "edits"
+    return spent, tries
+
+
+def table(spent, tries):
     yield f"{'crate':<16}{'proof':>8}{'tests':>8}{'edits':>8}{'all':>8}   processor minutes"
     for crate in sorted(spent, key=lambda name: sum(spent[name].values())):
         row = spent[crate]
@@ -100,20 +171,44 @@ def table(watch):
         yield f"{crate:<16}{figures}{sum(row.values()) / 60:8.1f}   {tries[crate]} checks of edited code"
 
 
+def status_by_clock(heard, spent, together):
+    """Says what the sum is by the clock, and returns 1 where a run from nothing is above the budget."""
+    clock = spent["transactions"]["proof"] / 60
+    if "transactions" not in heard.proved or not clock:
+        print("nothing can be told by the clock of `transactions`, which was not proved in this run")
+        return 0
+    by_clock = together * CLOCK / clock
+    is_above = heard.is_from_nothing() and by_clock > MARGIN * BUDGET
+    kind = "from nothing" if heard.is_from_nothing() else "not all from nothing"
+    told = f"here it took {clock:.2f} ({kind}; the budget is {BUDGET})"
+    print(f"{by_clock:.1f} by the clock on which `transactions` takes {CLOCK}: {told}")
+    if is_above:
+        print(f"FAILED: a run from nothing may take {MARGIN * BUDGET:.0f}: docs/WORKING.md says what keeps the gate cheap")
+    return int(is_above)
+
+
 def main():
     if len(sys.argv) < 2:
         sys.exit(__doc__)
-    began = time.monotonic()
-    process = subprocess.Popen(sys.argv[1:])
+    began, heard = time.monotonic(), Heard(sys.argv[1:])
+    process = subprocess.Popen(sys.argv[1:], stdout=subprocess.PIPE, stderr=subprocess.STDOUT)
     watch = Watch(process.pid)
     watch.start()
+    for line in process.stdout:
+        sys.stdout.buffer.write(line)
+        if heard.hear(line.decode(errors="replace")):
+            sys.stdout.buffer.write(f"{progress(heard, watch, began)}\n".encode())
+        sys.stdout.buffer.flush()
     _, status, used = os.wait4(process.pid, 0)
     watch.ended.set()
     watch.join()
-    for line in table(watch):
+    spent, tries = spent_by(watch)
+    for line in table(spent, tries):
         print(line)
-    print(f"together {(used.ru_utime + used.ru_stime) / 60:.1f} processor minutes, {(time.monotonic() - began) / 60:.1f} minutes of wall time")
-    sys.exit(os.waitstatus_to_exitcode(status))
+    together = (used.ru_utime + used.ru_stime) / 60
+    print(f"together {together:.1f} processor minutes, {(time.monotonic() - began) / 60:.1f} minutes of wall time")
+    above = status_by_clock(heard, spent, together)
+    sys.exit(os.waitstatus_to_exitcode(status) or above)
 
 
 main()
