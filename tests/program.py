@@ -836,6 +836,7 @@ def check_and_show_problems(program, folder):
         ok = done.returncode == status and not done.stderr and all(text in done.stdout for text in wanted)
         yield f"check: {name}", [] if ok else [f"{done}"]
     yield from shared_remark_problems(program, folder)
+    yield from given_up_problems(program, folder)
     traced = run(program, ["check", "--site", good, "--trace"], heartbeat).stdout
     ok = b"1     2025-01-01T00:00:00Z  CP1    point [2," in traced and b"* CP1 [2," in traced
     yield "check with a trace", [] if ok else [repr(traced)]
@@ -845,6 +846,30 @@ def check_and_show_problems(program, folder):
     yield from refused_line_problems(program, good)
     told = json.loads(run(program, ["show", "--site", good, "--at", "0", "--json"], heartbeat).stdout)
     yield "show for programs", [] if "CP1" in json.dumps(told) else [f"{told}"]
+
+
+def given_up_problems(program, folder):
+    """`check` says of the profile of a remote start that is given up, since its point has 200 profiles when the transaction begins."""
+    at = '2025-01-01T00:00:0{} {} CP1 [2,"{}",'
+    profile = (
+        '"chargingProfileId":{},"stackLevel":{},"chargingProfilePurpose":"{}","chargingProfileKind":"Relative",'
+        '"chargingSchedule":{{"chargingRateUnit":"A","chargingSchedulePeriod":[{{"startPeriod":0,"limit":6}}]}}'
+    )
+    asked = at.format("0Z", "operator", "a") + '"RemoteStartTransaction",{"connectorId":1,"idTag":"T1","chargingProfile":{%s}}]'
+    start = at.format("9Z", "point", "s") + '"StartTransaction",{"connectorId":1,"idTag":"T1","meterStart":0,"timestamp":"2025-01-01T00:00:10Z"}]'
+    for count, wanted in ((199, []), (200, ['TxProfile 5 of the remote start by idTag "T1" is given up: the point would have more than 200 profiles'])):
+        lines = [asked % profile.format(5, 0, "TxProfile"), at.format("1Z", "point", "h") + '"Heartbeat",{}]']
+        lines.append('2025-01-01T00:00:02Z point CP1 [3,"0",{"status":"Unknown"}]')
+        for number in range(count):
+            fields = '"SetChargingProfile",{"connectorId":%d,"csChargingProfiles":{%s}}]'
+            row = profile.format(1_000 + number, number % 100, "TxDefaultProfile")
+            lines.append(at.format("3Z", "operator", "i") + fields % (1 + number // 100, row))
+        done = run(program, ["check", "--site", os.path.join(folder, "good")], "\n".join([*lines, start]).encode())
+        found = [line for line in done.stdout.decode().splitlines() if line.startswith("script: ")]
+        said = [f"script: line {count + 4} (CP1): warning: {text}" for text in wanted]
+        ok = len(found) == len(said) and all(line.startswith(text) for line, text in zip(found, said))
+        status = 2 if wanted else 0
+        yield f"check of a remote start beside {count} profiles", [] if ok and done.returncode == status else [f"status {done.returncode}, {found}"]
 
 
 def shared_remark_problems(program, folder):

@@ -130,7 +130,7 @@ def found_in_files():
     yield site_of(*many), ["points: 1001 entries; 1 to 1000 are wanted"]
     yield site_of(point("CP1", ",".join(["1"] * 64))), []
     yield site_of(point("CP1", ",".join(["1"] * 65))), ["connectors: 65 entries; 1 to 64 are wanted", "remark"]
-    for count in (1_000, 2_000, 2_001, 3_000):
+    for count in (1_000, 2_000, 2_001):
         too_many = ["points: %d entries; 1 to 1000 are wanted" % count] if count > 1_000 else []
         numbers = [f"points[{number}]: {number} is a number" for number in range(min(count, 2_000))]
         more = ["warning: there are more than 2000 faults and remarks"] if count > 2_000 else []
