@@ -4,7 +4,7 @@ A case is a folder of examples/ or below tests/cases/ with these files:
 
 - `script`: standard input;
 - `stdout`: what has to be printed, byte for byte;
-- `command`: the command and its options but for the site file; without it, `replay`;
+- `command`: the command and its options but for the site file, which `call` has none of; without it, `replay`;
 - `site.json`: the site file; without it, the nearest one in a folder above;
 - `status`: the exit status; without it, 0;
 - `stderr`: what has to be on standard error; without it, nothing.
@@ -56,6 +56,8 @@ class Case:
     def words(self):
         """The command line behind the program, from the case's folder."""
         command, *more = self.content("command", b"replay").decode().split()
+        if command == "call":
+            return [command, *more]
         return [command, "--site", os.path.relpath(self.site, self.folder), *more]
 
     @property

@@ -11,7 +11,9 @@ and the frames of a memory are shorter then, and no allocation fails.
 import itertools
 import json
 import os
+import pty
 import re
+import resource
 import shutil
 import signal
 import string
@@ -19,9 +21,11 @@ import subprocess
 import sys
 import tempfile
 import time
+import tty
 
 from case_folders import Case, all_cases
 from png_colours import shares_of_colours
+from site_files import MAX_SITE_BYTES, first_line_problems, found_in_files, found_problems, site_files
 from zones import CaseInZone, has_zones, zone_problems
 
 TOP = os.path.dirname(os.path.dirname(os.path.abspath(__file__)))
@@ -30,7 +34,6 @@ UNPROVED = "UNPROVED" in os.environ
 PATIENCE = 600 if UNPROVED else 120
 # How far a long reading is, on a busy machine perhaps any.
 PROGRESS = re.compile(rb"central: \d+ lines read\n")
-MAX_SITE_BYTES = 16_777_216
 SITE = b'{"unit":"A","points":[{"id":"CP1","ceiling":63.0,"connectors":[32.0,32.0]}]}'
 
 
@@ -56,12 +59,12 @@ def fault_cases(folder):
         return ["replay", "--site", path]
 
     good = site("good", SITE)
-    for number, (name, content) in enumerate(site_texts()):
+    for number, (content, fault) in enumerate(site_files()):
         arguments = site(f"site-{number}", content)
-        if name is None:
+        if fault is None:
             yield f"site file {number}", arguments, b"x\n", b"! 1 BadLine\n", b"", 2
         else:
-            yield f"site file {number}", arguments, b"x\n", b"", f"central: site: {name}\n".encode(), 1
+            yield f"site file {number}", arguments, b"x\n", b"", f"central: site: {fault}\n".encode(), 1
     site("blank", b"[]")
     yield "a site file whose name ends in a blank", site("blank ", SITE), b"x\n", b"! 1 BadLine\n", b"", 2
     yield "a site file whose name begins with a blank", site(" blank", SITE), b"x\n", b"! 1 BadLine\n", b"", 2
@@ -72,56 +75,26 @@ def fault_cases(folder):
     yield from cut_cases(good)
 
 
-def site_texts():
-    """Texts of site files, each with its first fault, or None."""
+def site_check_problems(program, folder):
+    """`check` names first what a replay names, and finds nothing that is refused where a replay reads the file; and all else that it finds."""
+    path = os.path.join(folder, "checked-site")
 
-    def point(id="CP1", ceiling="63.0", connectors="32.0"):
-        return f'{{"id":"{id}","ceiling":{ceiling},"connectors":[{connectors}]}}'
+    def check(content):
+        with open(path, "wb") as file:
+            file.write(content)
+        done = run(program, ["check", "--site", path], b"")
+        return done, [line.removeprefix(f"{path}: ") for line in done.stdout.decode().splitlines()]
 
-    def points(*entries):
-        return f'{{"unit":"A","points":[{",".join(entries)}]}}'.encode()
-
-    many = [point(f"CP{number}") for number in range(1_001)]
-    spaces = b" " * (MAX_SITE_BYTES - len(points(point())))
-    return (
-        (None, SITE),
-        (None, b'{"more":[1],"points":[{"x":0,"connectors":[0],"ceiling":0,"id":"a.B_9-~"}],"unit":"W"}'),
-        (None, points(point("CP1"), point("cp1"), point("CP2", "0.1", "1,2.5"))),
-        (None, points(*many[:1_000])),
-        ("BadPoints", points(*many)),
-        (None, points(point(connectors=",".join(["1"] * 64)))),
-        ("BadConnectors", points(point(connectors=",".join(["1"] * 65)))),
-        (None, points(point("a" * 48))),
-        ("BadId", points(point("a" * 49))),
-        (None, points(point()) + spaces),
-        ("TooLarge", points(point()) + spaces + b" "),
-        ("TooLarge", b"\xff" * 16_777_217),
-        ("NotUtf8", b'{"unit":"\xff"}'),
-        ("NotJson", b'{"unit":"A","points":[}'),
-        ("NotAnObject", b"[]"),
-        ("BadUnit", b'{"unit":"kW","points":[]}'),
-        ("BadUnit", b'{"unit":"a","points":[]}'),
-        ("BadUnit", b'{"unit":null}'),
-        ("BadPoints", b'{"unit":"A","points":[]}'),
-        ("BadPoints", b'{"unit":"A"}'),
-        ("BadPoints", b'{"unit":"A","points":{}}'),
-        ("BadPoints", points(point(), point("CP2"), "3")),
-        ("BadCeiling", points(point(), point("CP2", "-1"), "3")),
-        ("BadId", points(point("C P"))),
-        ("BadId", points(point(""))),
-        ("BadId", points(point("gr\u00f6\u00dfer"))),
-        ("BadId", b'{"unit":"A","points":[{"ceiling":1,"connectors":[1]}]}'),
-        ("SameId", points(point(), point())),
-        ("SameId", points(point(), point("CP2"), point("CP1", "-1", ""))),
-        ("BadId", points(point(), point("C P", "-1"), point())),
-        ("BadCeiling", points(point(ceiling="-1"))),
-        ("BadCeiling", points(point(ceiling="8.15", connectors=""))),
-        ("BadCeiling", points(point(ceiling='"1"'))),
-        ("BadConnectors", points(point(connectors=""))),
-        ("BadConnectors", points(point(connectors="1,null"))),
-        ("BadConnectors", points(point(connectors="100000000.1"))),
-        ("BadConnectors", points(point(connectors="1,-1"), point())),
-    )
+    for number, (content, fault) in enumerate(site_files()):
+        if len(content) > MAX_SITE_BYTES // 2:
+            continue  # site_growth_problems checks such files
+        done, lines = check(content)
+        status = 1 if fault else 2 if any(": warning: " in line for line in lines) else 0
+        wrong = [] if (done.returncode, done.stderr) == (status, b"") else [f"status {done.returncode}, {done.stderr[:200]!r}"]
+        yield f"check of site file {number}", [*wrong, *first_line_problems(fault, lines)]
+    for number, (content, pieces) in enumerate(found_in_files()):
+        done, lines = check(content)
+        yield f"what check finds in site file {number}", list(found_problems(pieces, lines))
 
 
 def limit_cases(good):
@@ -326,6 +299,81 @@ def device_problems(program, folder):
         done = run_on(program, arguments, given, is_full)
         ok = (done.returncode, done.stderr, done.stdout or none) == (status, error, none)
         yield name, [] if ok else [f"status {done.returncode}, {done.stderr!r}, {done.stdout!r}"]
+
+
+# Two faults and an empty line between them, and what a replay writes of them.
+FAULTY = b"x\r\n\r\n2025-13-01T00:00:00Z operator CP1 []"
+FAULTS = b"! 1 BadLine\n! 3 BadInstant\n"
+
+
+def played_scripts():
+    """A name, a script, its output on the site of the tests, and the status."""
+    example = Case("tests/cases/replay/calls-confirmed-in-turn")
+    yield "faulty lines", FAULTY, FAULTS, 2
+    yield example.name, example.script, example.wanted[0], example.wanted[2]
+
+
+def failing_problems(program, folder):
+    """A replay whose standard input or output fails behind any byte, or is interrupted: nothing is written, or what fitted."""
+    site = os.path.join(folder, "good")
+    step = 41 if UNPROVED else 1
+    for name, script, printed, status in played_scripts():
+        replay = [program, "replay", "--site", site]
+        problems = [length for length in range(0, len(script) + 1, step) if fails_to_read(replay, script[:length])]
+        yield f"{name}: standard input fails behind each of {len(script)} bytes", [f"otherwise behind {problems}"] if problems else []
+        problems = []
+        for length in range(0, len(printed) + 1, step):
+            wanted = (status, printed, b"") if length == len(printed) else (3, printed[:length], b"central: device: write\n")
+            if written_of(replay, script, os.path.join(folder, "limited"), length) != wanted:
+                problems.append(length)
+        yield f"{name}: standard output takes none but the first of {len(printed)} bytes", [f"otherwise with {problems}"] if problems else []
+    yield from interrupted_problems(program, folder, site)
+
+
+def fails_to_read(replay, read):
+    """Whether a replay does anything but end as it should when standard input fails behind these bytes: a terminal that is gone."""
+    reader, writer = pty.openpty()
+    tty.setraw(writer)
+    if read:
+        os.write(writer, read)
+    os.close(writer)
+    done = subprocess.run(replay, stdin=reader, capture_output=True, timeout=PATIENCE, check=False)
+    os.close(reader)
+    return (done.returncode, done.stdout, done.stderr) != (3, b"", b"central: device: read\n")
+
+
+def written_of(replay, script, path, length):
+    """How a replay ends whose standard output is a file that takes so many bytes, and what stands in the file then."""
+
+    def limit():
+        signal.signal(signal.SIGXFSZ, signal.SIG_IGN)
+        resource.setrlimit(resource.RLIMIT_FSIZE, (length, length))
+
+    with open(path, "wb") as file:
+        done = subprocess.run(replay, input=script, stdout=file, stderr=subprocess.PIPE, preexec_fn=limit, timeout=PATIENCE, check=False)
+    return done.returncode, bytes_of(path), done.stderr
+
+
+def interrupted_problems(program, folder, site):
+    """An interrupted write is made again, and an interrupted read ends the replay. strace makes them, where it is installed."""
+    if not shutil.which("strace"):
+        return
+    path = os.path.join(folder, "interrupted")
+    with open(path, "wb") as file:
+        file.write(b"x\n" * 2_000)
+    printed = b"".join(b"! %d BadLine\n" % number for number in range(1, 2_001))
+    # The unproved program looks for leaks when it ends, which it can't below strace.
+    environment = {**os.environ, "ASAN_OPTIONS": "detect_leaks=0"}
+    for call, numbers, wanted in (("write", range(1, 5), (2, printed, b"")), ("read", range(1, 3), (3, b"", b"central: device: read\n"))):
+        for number in numbers:
+            of_script = ["-P", path] if call == "read" else []
+            words = ["strace", "-f", "-qq", "-o", os.path.join(folder, "log"), *of_script, "-e", f"trace={call}"]
+            words += ["-e", f"inject={call}:error=EINTR:when={number}", program, "replay", "--site", site]
+            with open(path, "rb") as script:
+                done = subprocess.run(words, stdin=script, capture_output=True, timeout=PATIENCE, check=False, env=environment)
+            is_made = b"INJECTED" in bytes_of(os.path.join(folder, "log"))
+            ok = (done.returncode, done.stdout, done.stderr) == wanted and is_made
+            yield f"{call} {number} is interrupted", [] if ok else [f"status {done.returncode}, {done.stderr!r}, injected: {is_made}"]
 
 
 def closed_pipe_problems(program, folder):
@@ -788,6 +836,7 @@ def check_and_show_problems(program, folder):
         ok = done.returncode == status and not done.stderr and all(text in done.stdout for text in wanted)
         yield f"check: {name}", [] if ok else [f"{done}"]
     yield from shared_remark_problems(program, folder)
+    yield from given_up_problems(program, folder)
     traced = run(program, ["check", "--site", good, "--trace"], heartbeat).stdout
     ok = b"1     2025-01-01T00:00:00Z  CP1    point [2," in traced and b"* CP1 [2," in traced
     yield "check with a trace", [] if ok else [repr(traced)]
@@ -797,6 +846,30 @@ def check_and_show_problems(program, folder):
     yield from refused_line_problems(program, good)
     told = json.loads(run(program, ["show", "--site", good, "--at", "0", "--json"], heartbeat).stdout)
     yield "show for programs", [] if "CP1" in json.dumps(told) else [f"{told}"]
+
+
+def given_up_problems(program, folder):
+    """`check` says of the profile of a remote start that is given up, since its point has 200 profiles when the transaction begins."""
+    at = '2025-01-01T00:00:0{} {} CP1 [2,"{}",'
+    profile = (
+        '"chargingProfileId":{},"stackLevel":{},"chargingProfilePurpose":"{}","chargingProfileKind":"Relative",'
+        '"chargingSchedule":{{"chargingRateUnit":"A","chargingSchedulePeriod":[{{"startPeriod":0,"limit":6}}]}}'
+    )
+    asked = at.format("0Z", "operator", "a") + '"RemoteStartTransaction",{"connectorId":1,"idTag":"T1","chargingProfile":{%s}}]'
+    start = at.format("9Z", "point", "s") + '"StartTransaction",{"connectorId":1,"idTag":"T1","meterStart":0,"timestamp":"2025-01-01T00:00:10Z"}]'
+    for count, wanted in ((199, []), (200, ['TxProfile 5 of the remote start by idTag "T1" is given up: the point would have more than 200 profiles'])):
+        lines = [asked % profile.format(5, 0, "TxProfile"), at.format("1Z", "point", "h") + '"Heartbeat",{}]']
+        lines.append('2025-01-01T00:00:02Z point CP1 [3,"0",{"status":"Unknown"}]')
+        for number in range(count):
+            fields = '"SetChargingProfile",{"connectorId":%d,"csChargingProfiles":{%s}}]'
+            row = profile.format(1_000 + number, number % 100, "TxDefaultProfile")
+            lines.append(at.format("3Z", "operator", "i") + fields % (1 + number // 100, row))
+        done = run(program, ["check", "--site", os.path.join(folder, "good")], "\n".join([*lines, start]).encode())
+        found = [line for line in done.stdout.decode().splitlines() if line.startswith("script: ")]
+        said = [f"script: line {count + 4} (CP1): warning: {text}" for text in wanted]
+        ok = len(found) == len(said) and all(line.startswith(text) for line, text in zip(found, said))
+        status = 2 if wanted else 0
+        yield f"check of a remote start beside {count} profiles", [] if ok and done.returncode == status else [f"status {done.returncode}, {found}"]
 
 
 def shared_remark_problems(program, folder):
@@ -952,10 +1025,12 @@ def all_problems(program):
     results = []
     with tempfile.TemporaryDirectory() as folder:
         results.extend(case_problems(program, fault_cases(folder)))
+        results.extend(site_check_problems(program, folder))
         results.extend(command_line_problems(program))
         results.extend(help_example_problems(program, folder))
         results.extend(first_schedule_problems(program, folder))
         results.extend(device_problems(program, folder))
+        results.extend(failing_problems(program, folder))
         results.extend(closed_pipe_problems(program, folder))
         results.extend(explain_problems(program, folder))
         results.extend(order_problems(program, folder))

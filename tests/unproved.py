@@ -20,7 +20,7 @@ LANES = 2
 # A test that would take an hour without a proof: of its 10,000 books it makes these.
 BOOKS = ("crates/test_books/src/books_at_random.rt", "for seed in 0..10_000u32", "for seed in 0..100u32")
 # The longest first, so that no lane is left with one at the end.
-LONG = ("test_books", "test_core", "test_findings")
+LONG = ("test_books", "test_core")
 TOTALS = re.compile(r"^(\d+) passed, (\d+) failed$|^test result: \w+\. (\d+) passed; (\d+) failed;", re.MULTILINE)
 
 

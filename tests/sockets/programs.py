@@ -392,6 +392,48 @@ def server_out_of_memory(program):
         serving.join(PATIENCE)
 
 
+# On each line an answer, and how the sentence that `call` says of it begins, or `-` for none.
+ANSWERS = r"""
+[3,"a",{"status":"Accepted"}] => -
+[3,"a",{"status":"Unknown"}] => -
+[3,"a",{"status":"Rejected","reason":"WrongUnit"}] => WrongUnit: chargingRateUnit isn't the unit
+[3,"a",{"status":"Rejected","reason":"NotTxProfile"}] => NotTxProfile: the profile of a remote start isn't a TxProfile
+[3,"a",{"status":"Rejected","reason":"NoSuchReason"}] => -
+[4,"a","NotImplemented","",{}] => NotImplemented: the action isn't known here
+[4,"a","TypeConstraintViolation","duration",{}] => TypeConstraintViolation: duration: the field is of another kind
+[4,"a","PropertyConstraintViolation","UnknownConnector",{}] => UnknownConnector: the point has no connector
+[4,"a","InternalError","OutboxFull",{}] => OutboxFull: 256 calls wait
+[4,"a","GenericError","x",{}] => -
+"""
+
+
+def answer_each(listener, texts):
+    """A central system that answers the texts of one client in turn, and closes."""
+    with shake_hands(listener) as peer:
+        for text in texts:
+            answer(peer, text.encode())
+        peer.sendall(CLOSE)
+
+
+def sentences_of_answers(program):
+    """What `call` says of the refusal in an answer: nothing where it has none, or one of another system."""
+    rows = [row.split(" => ") for row in ANSWERS.strip("\n").split("\n")]
+    texts = [text for text, _ in rows]
+    with socket.socket() as listener:
+        listener.bind(("127.0.0.1", 0))
+        listener.listen()
+        serving = threading.Thread(target=answer_each, args=(listener, texts))
+        serving.start()
+        url = f"ws://127.0.0.1:{listener.getsockname()[1]}/operator/P1"
+        _, out, error = run(program, ["call", "--url", url], b'[2,"a","ClearChargingProfile",{"id":1}]\n' * len(rows))
+        serving.join(PATIENCE)
+    expect("the answers", out.decode().splitlines(), texts)
+    wanted = [f"{number}: {sentence}" for number, (_, sentence) in enumerate(rows, 1) if sentence != "-"]
+    said = error.decode().splitlines()
+    expect(f"what is said: {said}", [line[: len(begin)] for line, begin in zip(said, wanted)], wanted)
+    expect("how often something is said", len(said), len(wanted))
+
+
 def answer_slowly(listener, pauses):
     """A central system that answers one text of each client, so many seconds after its handshake."""
     for pause in pauses:
@@ -475,6 +517,7 @@ def tests():
     yield "a point that is stopped in its pause", point_stopped_in_its_pause
     yield "a server that never closes", server_that_never_closes
     yield "a server out of memory", server_out_of_memory
+    yield "sentences of answers", sentences_of_answers
     yield "how far calls to many points are", progress_of_calls
     yield "the faults of a point", faults_of_a_point
     yield "the example", example

@@ -310,8 +310,10 @@ def faulty_boots(program):
                 point.texts_of(accepted("1"))
                 point.texts_of(heartbeat("k"))  # the replies are on the disk before its answer leaves
         with open(path, "wb") as file:
-            file.write(b"2025-01-01T00:00:00Z P1 99\nP2\n2025-01-01T00:00:00Z P9 0\n2025-01-01 P2 0\n\n2025-01-01T00:00:00Z P2 x\n\xff P2 0\n2025-01-01T00:00:00Z P2")
-        left_out = f"central: {path}: 7 of its lines are of no point's boot, and are left out\n"
+            file.write(b"2025-01-01T00:00:00Z P1 99\nP2\n2025-01-01T00:00:00Z P9 0\n2025-01-01 P2 0\n\n2025-01-01T00:00:00Z P2 x\n\xff P2 0\n")
+            file.write(b"2025-01-01T00:00:00Z\n2025-01-01T00:00:00Z P2 \n2025-01-01T00:00:00Z P2 -1\n2025-01-01T00:00:00Z P2 1 2\n")
+            file.write(b"2025-01-01T00:00:00Z P2 18446744073709551616\n 2025-01-01T00:00:00Z P2 1\n2025-01-01T00:00:00Z P2")
+        left_out = f"central: {path}: 13 of its lines are of no point's boot, and are left out\n"
         status, printed, said = read(program, data, "check")
         expect("what check says", (status, said, printed.count("it booted at 2025-01-01T00:00:00Z")), (0, left_out, 1))
         with Running(program, SITE, data.path, has_status=True) as running:
@@ -443,10 +445,12 @@ def full_device(program):
 
 def in_a_browser(program):
     """A page of twenty points fits a phone and a desk, has contrast, needs no script, and can be read aloud."""
-    with Data() as data, Running(program, plain_site(20), data.path, has_status=True) as running:
+    with Data() as data, Running(program, plain_site(41), data.path, has_status=True) as running:
         with RawClient.connected(running, "/operator/P1") as operator:
             operator.texts_of(install("i", profile(1, [7.0, 16.0, 9.0] * 8)))
         page = get(running, "/")[2]
+        expect("the last page", re.findall(r"<h2>(\w+)</h2>", get(running, "/page/3")[2]), ["P41"])
+        expect("one behind it", get(running, "/page/4")[0], 404)
     expect("its language", '<html lang="en">' in page, True)
     expect("a script", "<script" in page, False)
     expect("headings of points", re.findall(r"<h2>(\w+)</h2>", page), [f"P{number}" for number in range(1, 21)])

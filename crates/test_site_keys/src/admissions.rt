@@ -64,7 +64,7 @@ point|CP1|Basic |401
 point|CP1|Basic Og==|401
 point|CP1||401";
 
-pub(crate) fn read(rt: &impl Abort, alloc: Global, file: &str) -> Keys {
+fn read(rt: &impl Abort, alloc: Global, file: &str) -> Keys {
     Keys::read(alloc, file.as_bytes()).expect(rt, "error")
 }
 
@@ -77,7 +77,7 @@ fn role_named(word: &str) -> Role {
 }
 
 /// Says what came of a header.
-pub(crate) fn comes(rt: &impl Abort, admission: &Admission, wanted: &str, case: &str) {
+fn comes(rt: &impl Abort, admission: &Admission, wanted: &str, case: &str) {
     let said = match admission {
         Admission::Admitted(user) => user.as_str(),
         Admission::Unauthorized => "401",
@@ -104,23 +104,4 @@ fn each_comes_as_the_file_says(rt: HostRuntime) {
     for row in ROWS.lines() {
         play(&rt, rt.alloc(), &keys, row);
     }
-}
-
-#[test]
-fn nobody_comes_without_a_header(rt: HostRuntime) {
-    let keys = read(&rt, rt.alloc(), FILE);
-    let admission = keys
-        .admit(rt.alloc(), Role::Point, "CP1", None)
-        .expect(&rt, "error");
-    comes(&rt, &admission, "401", "no header");
-}
-
-#[test]
-fn nobody_comes_without_keys(rt: HostRuntime) {
-    let keys = read(&rt, rt.alloc(), "# nobody yet\n\n");
-    let header = "Basic Q1AxOgABAgMEBQYHCAkKCwwNDg8QERIT";
-    let admission = keys
-        .admit(rt.alloc(), Role::Point, "CP1", Some(header.as_bytes()))
-        .expect(&rt, "error");
-    comes(&rt, &admission, "401", "no keys");
 }

@@ -1,12 +1,10 @@
-//! Tests of `site_keys` by its public names alone: files of keys, headers, and new keys.
+//! Tests of `site_keys` by its public names alone, with digests and headers that were made elsewhere.
 #![tactic(auto)]
 
 #[cfg(test)]
 mod admissions;
 #[cfg(test)]
 mod callers;
-#[cfg(test)]
-mod faults;
 #[cfg(test)]
 mod new_keys;
 #[cfg(test)]
