@@ -20,13 +20,12 @@ argued : (old new : Command) (arg : Arg) (rule : Rule) → AddsArg old arg new �
 argued old new arg rule adds local of = adds.shape local ∙ ap (with_rule (app_of old)) of
 
 -- with the next row's option, what is to come of the rows comes to the same
-pub next_row : (rows : List OptionRow) (i : ℕ) (row : OptionRow) (old new : Command) (arg : Arg) (whole : App)
-    → i < length rows → row ≡ get_or rows i row → AddsArg old arg new → arg.global ≡ false → rule_of arg ≡ rule_of_row row
+pub next_row : (rows : List OptionRow) (i : ℕ) (d : OptionRow) (old new : Command) (arg : Arg) (whole : App)
+    → i < length rows → AddsArg old arg new → arg.global ≡ false → rule_of arg ≡ rule_of_row (get_or rows i d)
     → fold with_row (app_of old) (drop i rows) ≡ whole → fold with_row (app_of new) (drop (i + 1) rows) ≡ whole
-next_row rows i row old new arg whole lt is adds local of so_far =
+next_row rows i d old new arg whole lt adds local of so_far =
     ap (λ (a : App). fold with_row a (drop (i + 1) rows)) (argued old new arg _ adds local of)
-    ∙ ap (λ (r : OptionRow). fold with_row (app_of old) (r ∷ drop (i + 1) rows)) is
-    ∙ sym (at_drop_more (fold with_row (app_of old)) rows i row lt)
+    ∙ sym (at_drop_more (fold with_row (app_of old)) rows i d lt)
     ∙ so_far
 
 -- behind the last row the command is whole
