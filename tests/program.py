@@ -44,6 +44,25 @@ def played_cases(program):
     for case in all_cases():
         done = run(program, case.words, case.script, folder=case.folder)
         yield case.name, list(differences(done, *case.wanted))
+        for name in ("picture.svg", "page.html"):
+            if case.content(name):
+                yield f"{case.name}: {name}", picture_problems(program, case, name)
+
+
+def picture_problems(program, case, name):
+    """What is wrong with the picture or page that a case's command draws, by the lines of the case's file of its name."""
+    with tempfile.TemporaryDirectory(prefix="central-drawn-") as folder:
+        path = os.path.join(folder, name)
+        done = run(program, [*case.words, "--picture", path], case.script, folder=case.folder)
+        drawn = bytes_of(path) if os.path.isfile(path) else b""
+    problems = list(differences(done, *case.wanted))
+    for line in case.content(name).splitlines():
+        unwanted = line.removeprefix(b"not ")
+        if line not in drawn and unwanted == line:
+            problems.append(f"it lacks {line.decode()}")
+        elif unwanted != line and unwanted in drawn:
+            problems.append(f"it has {unwanted.decode()}")
+    return problems
 
 
 def fault_cases(folder):
@@ -121,7 +140,15 @@ def site_texts():
         ("BadConnectors", points(point(connectors="1,null"))),
         ("BadConnectors", points(point(connectors="100000000.1"))),
         ("BadConnectors", points(point(connectors="1,-1"), point())),
+        *listed_sites(),
     )
+
+
+def listed_sites():
+    """The site files of tests/site_faults, each behind its first fault; `@` stands for all that a point has but its identity."""
+    for line in bytes_of(os.path.join(TOP, "tests", "site_faults")).splitlines():
+        fault, _, text = line.partition(b" ")
+        yield fault.decode(), text.replace(b"@", b'"ceiling":16.1,"connectors":[32.0,0.1]')
 
 
 def limit_cases(good):
