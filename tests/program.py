@@ -107,6 +107,7 @@ def site_texts():
         (None, b'{"more":[1],"points":[{"x":0,"connectors":[0],"ceiling":0,"id":"a.B_9-~"}],"unit":"W"}'),
         (None, points(point("CP1"), point("cp1"), point("CP2", "0.1", "1,2.5"))),
         (None, points(*many[:1_000])),
+        (None, points(*(point(f"{number:048}", connectors=",".join(["32"] * 64)) for number in range(1_000)))),
         ("BadPoints", points(*many)),
         (None, points(point(connectors=",".join(["1"] * 64)))),
         ("BadConnectors", points(point(connectors=",".join(["1"] * 65)))),

@@ -55,17 +55,6 @@ fn turns_at_places_alone(rt: HostRuntime) {
     play(&rt, rt.alloc(), TURNS);
 }
 
-/// The most periods that an answer may have, second by second.
-const MOST_PERIODS: &str = "\
-point 630 1 320
-row id=1 kind=Recurring recurrency=Daily start=0 turns=432
-alike 1 0 1769472";
-
-#[test]
-fn answers_with_the_most_periods(rt: HostRuntime) {
-    play(&rt, rt.alloc(), MOST_PERIODS);
-}
-
 /// Puts a line for each of some numbers. It is made of pieces between `|`: for `@` the number is put, for `%` sixty
 /// times the number, and for `&` sixty times what is left of it up to 200.
 fn put_each(rt: &impl Abort, lines: &mut String, (first, end): (u32, u32), line: &str) {
@@ -89,6 +78,22 @@ fn put_one(rt: &impl Abort, lines: &mut String, number: u32, line: &str) {
         }
     }
     lines.push('\n').expect(rt, "error");
+}
+
+/// For a minute each of 69 profiles changes its limit each second, one behind the other.
+const MOST_PERIODS: &str = "\
+alike 1 0 4096
+counts 1 0 4096 = 4096 4096
+counts 1 0 4097 = ResultTooLong 4097
+explained 1 0 4097 = 4097 4097";
+
+#[test]
+fn answers_with_the_most_periods(rt: HostRuntime) {
+    let mut lines = String::from_str(rt.alloc(), "point 630 1 320\n").expect(&rt, "error");
+    let row = "row id=|@| level=|@| start=|%| duration=60 turns=1";
+    put_each(&rt, &mut lines, (0, 69), row);
+    lines.push_str(MOST_PERIODS).expect(&rt, "error");
+    play(&rt, rt.alloc(), lines.as_str());
 }
 
 /// The k-th of 64 transactions began k seconds after midnight and has 16 A in its first minute. So from second 64
