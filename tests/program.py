@@ -105,6 +105,8 @@ def site_texts():
     return (
         (None, SITE),
         (None, b'{"more":[1],"points":[{"x":0,"connectors":[0],"ceiling":0,"id":"a.B_9-~"}],"unit":"W"}'),
+        # Of two fields of a name the last counts, so that a malformed number may stand in the first.
+        (None, b'{"points":[{"id":01}],"unit":"W","points":[%s],"unit":"A"}' % point().encode()),
         (None, points(point("CP1"), point("cp1"), point("CP2", "0.1", "1,2.5"))),
         (None, points(*many[:1_000])),
         (None, points(*(point(f"{number:048}", connectors=",".join(["32"] * 64)) for number in range(1_000)))),
