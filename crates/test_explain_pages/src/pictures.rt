@@ -1,6 +1,6 @@
 //! Pictures and pages of the largest sizes.
 
-use crate::samples::{expect, interval, point, profile};
+use crate::samples::{expect, interval, point_with, profile};
 use explain_pages::{write_page, write_picture};
 use meaning::Cause;
 use profile::Purpose;
@@ -24,7 +24,7 @@ fn hundred_rows(rt: &impl Abort, alloc: Global) -> String {
 #[test]
 fn a_hundred_profiles(rt: HostRuntime) {
     let alloc = rt.alloc();
-    let point = point(&rt, alloc, hundred_rows(&rt, alloc).as_str(), "none");
+    let point = point_with(&rt, alloc, hundred_rows(&rt, alloc).as_str(), "none");
     let cause = Cause::Profile(profile(99, Purpose::TxDefaultProfile, 99));
     let intervals = [interval(alloc, (0, 604_800), 60, cause)];
     let explained = point.explained(&rt, (1, 604_800), &intervals, &[]);
@@ -45,7 +45,7 @@ fn too_many_intervals(rt: HostRuntime) {
         let next = interval(alloc, (second, end), limit, Cause::PointCeiling);
         intervals.push(next).ok().expect(&rt, "error");
     }
-    let point = point(&rt, alloc, "", "none");
+    let point = point_with(&rt, alloc, "", "none");
     let explained = point.explained(&rt, (1, 20_001), intervals.as_slice(), &[]);
     let page = write_page(alloc, &explained).expect(&rt, "error");
     let wanted = "the limit, drawn up to 2025-01-01 05:33:20 alone\n<p> Further intervals: 1.</p>";

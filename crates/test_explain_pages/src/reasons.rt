@@ -1,6 +1,6 @@
 //! Why profiles have no part, against reasons found by hand, and the sentences for it.
 
-use crate::samples::{expect, interval, point, profile, same};
+use crate::samples::{expect, interval, point_with, profile, same};
 use explain_pages::{
     ExplainedAsk, NoPart, NotCounted, is_named, not_counted, sentence, write_json, write_page,
     write_table,
@@ -62,7 +62,7 @@ fn uncounted(
     connector: u32,
     (rows, active): (&str, &str),
 ) -> String {
-    let point = point(rt, alloc, rows, active);
+    let point = point_with(rt, alloc, rows, active);
     let intervals = [
         interval(alloc, (0, 43_200), 320, Cause::ConnectorCeiling),
         interval(alloc, (43_200, 86_400), 310, Cause::PointCeiling),
@@ -125,7 +125,7 @@ fn expect_everywhere(rt: &impl Abort, alloc: Global, reason: NoPart) {
     let intervals = [interval(alloc, (0, 60), 630, Cause::Profile(named))];
     assert!(rt; !is_named(&intervals, never));
     assert!(rt; is_named(&intervals, named));
-    let point = point(rt, alloc, "", "none");
+    let point = point_with(rt, alloc, "", "none");
     let not_counted = [NotCounted {
         profile: never,
         reason,

@@ -18,7 +18,7 @@ pub(crate) struct Point {
 
 /// A point with the rows of lines, and with a transaction since midnight at `none` of the connectors, the `first`,
 /// the `second` or `both`.
-pub(crate) fn point(rt: &impl Abort, alloc: Global, lines: &str, active: &str) -> Point {
+pub(crate) fn point_with(rt: &impl Abort, alloc: Global, lines: &str, active: &str) -> Point {
     let midnight = instant_at(0).ok();
     let mut rows = Vec::new(alloc);
     for line in lines.lines() {

@@ -1,6 +1,6 @@
 //! Tables for people, against those made by hand, by how many columns there are.
 
-use crate::samples::{interval, point, profile, same};
+use crate::samples::{interval, point_with, profile, same};
 use explain_pages::{NoPart, NotCounted, write_table};
 use meaning::{Cause, WhyNot};
 use profile::Purpose;
@@ -94,7 +94,7 @@ fn tables_fit_the_terminal(rt: HostRuntime) {
         profile: profile(7, Purpose::TxProfile, 2),
         reason: NoPart::NotPrevailing(WhyNot::NoTransaction),
     }];
-    let point = point(&rt, alloc, "", "none");
+    let point = point_with(&rt, alloc, "", "none");
     let explained = point.explained(&rt, (1, 172_800), &intervals, &never);
     for (columns, wanted) in [
         (None, PLAIN),
