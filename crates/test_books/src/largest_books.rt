@@ -55,8 +55,8 @@ fn turns_at_places_alone(rt: HostRuntime) {
     play(&rt, rt.alloc(), TURNS);
 }
 
-/// Puts a line for each of some numbers. It is made of pieces between `|`: for `@` the number is put, for `%` sixty
-/// times the number, and for `&` sixty times what is left of it up to 200.
+/// Puts a line for each of some numbers. It is made of pieces between `|`: for `@` the number is put, for `%` 200
+/// times the number, and for `&` 200 times what is left of it up to 200.
 fn put_each(rt: &impl Abort, lines: &mut String, (first, end): (u32, u32), line: &str) {
     for number in first..end {
         put_one(rt, lines, number, line);
@@ -67,11 +67,11 @@ fn put_one(rt: &impl Abort, lines: &mut String, number: u32, line: &str) {
     for word in line.split('|') {
         match word {
             "@" => write!(lines, "{number}").expect(rt, "error"),
-            "%" => write!(lines, "{}", number.saturating_mul(60)).expect(rt, "error"),
+            "%" => write!(lines, "{}", number.saturating_mul(200)).expect(rt, "error"),
             "&" => write!(
                 lines,
                 "{}",
-                200u32.saturating_sub(number).saturating_mul(60)
+                200u32.saturating_sub(number).saturating_mul(200)
             )
             .expect(rt, "error"),
             word => lines.push_str(word).expect(rt, "error"),
@@ -80,18 +80,17 @@ fn put_one(rt: &impl Abort, lines: &mut String, number: u32, line: &str) {
     lines.push('\n').expect(rt, "error");
 }
 
-/// For a minute each of 69 profiles changes its limit each second, one behind the other.
+/// Each of 21 profiles changes its limit each second, for 200 seconds, one behind the other.
 const MOST_PERIODS: &str = "\
 alike 1 0 4096
 counts 1 0 4096 = 4096 4096
-counts 1 0 4097 = ResultTooLong 4097
-explained 1 0 4097 = 4097 4097";
+counts 1 0 4097 = ResultTooLong 4097";
 
 #[test]
 fn answers_with_the_most_periods(rt: HostRuntime) {
     let mut lines = String::from_str(rt.alloc(), "point 630 1 320\n").expect(&rt, "error");
-    let row = "row id=|@| level=|@| start=|%| duration=60 turns=1";
-    put_each(&rt, &mut lines, (0, 69), row);
+    let row = "row id=|@| level=|@| start=|%| duration=200 turns=1";
+    put_each(&rt, &mut lines, (0, 21), row);
     lines.push_str(MOST_PERIODS).expect(&rt, "error");
     play(&rt, rt.alloc(), lines.as_str());
 }
@@ -115,15 +114,15 @@ fn shares_among_the_most_connectors(rt: HostRuntime) {
     play(&rt, rt.alloc(), lines.as_str());
 }
 
-/// Each minute a level comes into force that is above all before, and then the highest ends each minute: so in turn
-/// levels 0 to 99, the last for two minutes, and 98 to 0.
+/// Every 200 seconds a level comes into force that is above all before, and then the highest ends: so in turn levels
+/// 0 to 99, the last twice as long, and 98 to 0.
 const MOST_LEVELS: &str = "\
-counts 0 0 12000 = 199 199
-counts 1 0 12000 = 199 199
-counts 2 0 12000 = 199 199
-alike 1 5900 200
-explained 1 0 12000 = 199 199
-reasons 1 0 12000";
+counts 0 0 40000 = 199 199
+counts 1 0 40000 = 199 199
+counts 2 0 40000 = 199 199
+alike 1 19700 200
+explained 1 0 40000 = 199 199
+reasons 1 0 40000";
 
 #[test]
 fn goes_through_the_most_levels(rt: HostRuntime) {
