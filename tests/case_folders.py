@@ -7,7 +7,9 @@ A case is a folder of examples/ or below tests/cases/ with these files:
 - `command`: the command and its options but for the site file, which `call` has none of; without it, `replay`;
 - `site.json`: the site file; without it, the nearest one in a folder above;
 - `status`: the exit status; without it, 0;
-- `stderr`: what has to be on standard error; without it, nothing.
+- `stderr`: what has to be on standard error; without it, nothing;
+- `picture.svg`, `page.html`: lines that have to be in what the command draws with `--picture`, and behind `not ` what may not;
+  without them, nothing is drawn.
 
 The program runs in the folder. Where a script or a site file is that of another folder, `script.of` or `site.json.of` names that
 folder instead. An example has files of its own, so that its commands work as they stand.

@@ -47,6 +47,25 @@ def played_cases(program):
     for case in all_cases():
         done = run(program, case.words, case.script, folder=case.folder)
         yield case.name, list(differences(done, *case.wanted))
+        for name in ("picture.svg", "page.html"):
+            if case.content(name):
+                yield f"{case.name}: {name}", picture_problems(program, case, name)
+
+
+def picture_problems(program, case, name):
+    """What is wrong with the picture or page that a case's command draws, by the lines of the case's file of its name."""
+    with tempfile.TemporaryDirectory(prefix="central-drawn-") as folder:
+        path = os.path.join(folder, name)
+        done = run(program, [*case.words, "--picture", path], case.script, folder=case.folder)
+        drawn = bytes_of(path) if os.path.isfile(path) else b""
+    problems = list(differences(done, *case.wanted))
+    for line in case.content(name).splitlines():
+        unwanted = line.removeprefix(b"not ")
+        if line not in drawn and unwanted == line:
+            problems.append(f"it lacks {line.decode()}")
+        elif unwanted != line and unwanted in drawn:
+            problems.append(f"it has {unwanted.decode()}")
+    return problems
 
 
 def fault_cases(folder):

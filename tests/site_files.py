@@ -1,5 +1,8 @@
 """Site files, each with its first fault, as a replay names it, and with what `check` finds in it. tests/program.py plays them."""
+import os
 import re
+
+TOP = os.path.dirname(os.path.realpath(__file__))
 
 MAX_SITE_BYTES = 16_777_216
 
@@ -110,11 +113,24 @@ def site_files():
     for row in FAULTS.strip("\n").split("\n"):
         content, _, fault = row.rpartition(" = ")
         yield content.encode(), None if fault == "-" else fault
+    yield from listed_sites()
+    # Of two fields of a name the last counts, so that a malformed number may stand in the first.
+    yield b'{"points":[{"id":01}],"unit":"W","points":[%s],"unit":"A"}' % point("CP1").encode(), None
+    # The largest site.
+    yield site_of(*(point(f"{number:048}", ",".join(["32"] * 64)) for number in range(1_000))), None
     yield b'{"unit":"\xff"}', "NotUtf8"
     spaces = b" " * (MAX_SITE_BYTES - len(site_of(point("CP1"))))
     yield site_of(point("CP1")) + spaces, None
     yield site_of(point("CP1")) + spaces + b" ", "TooLarge"
     yield b"\xff" * (MAX_SITE_BYTES + 1), "TooLarge"
+
+
+def listed_sites():
+    """The site files of tests/site_faults, each behind its first fault; `@` stands for all that a point has but its identity."""
+    with open(os.path.join(TOP, "site_faults"), "rb") as file:
+        for line in file.read().splitlines():
+            fault, _, text = line.partition(b" ")
+            yield text.replace(b"@", b'"ceiling":16.1,"connectors":[32.0,0.1]'), fault.decode()
 
 
 def found_in_files():

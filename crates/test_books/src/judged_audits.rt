@@ -7,18 +7,16 @@
 //! | `1 60 A schedule 8 60 A 0:160 30:80` | the same, of a schedule from a second after midnight on, over a number of seconds (`-`: it doesn't say), in a unit, with these periods |
 //! | `1 60 A schedule 8 60 A each=4096` | the same, with so many periods, one each second, of 16 A |
 
-use crate::fixtures::row_of;
 use crate::same::{holds, same_text};
-use crate::scripted_books::{play, point};
-use crate::words::Words;
-use meaning::{Composite, CompositePeriod, Said, SaidPeriods};
-use ocpp_scalars::Instant;
+use crate::scripted_books::play;
+use crate::{Words, row_of};
+use meaning::{CompositePeriod, Said, SaidPeriods};
 use point_book::PointBook;
 use profile::{Named, Unit};
 use std::alloc::Global;
 use std::process::Abort;
 use std::sync::Arc;
-use sweep_compiler::{AuditJob, Judged, Verdict, agree};
+use sweep_compiler::{AuditJob, Judged, Verdict};
 
 /// A period of `30:80`, its start and its limit.
 fn period_of(rt: &impl Abort, word: &str) -> CompositePeriod {
@@ -78,15 +76,6 @@ fn job_of(rt: &impl Abort, book: &Arc<PointBook>, words: &mut Words<'_>) -> Audi
     )
 }
 
-fn verdict_name(verdict: Verdict) -> &'static str {
-    match verdict {
-        Verdict::Agrees => "Agrees",
-        Verdict::Differs => "Differs",
-        Verdict::Rejected => "Rejected",
-        Verdict::Unsettled => "Unsettled",
-    }
-}
-
 /// That the audit and what was said of a line come to its verdict, and that memory sufficed.
 fn expect(rt: &impl Abort, alloc: Global, book: &Arc<PointBook>, line: &str) {
     let (asked, wanted) = line.split_once(" = ").expect(rt, line);
@@ -94,7 +83,8 @@ fn expect(rt: &impl Abort, alloc: Global, book: &Arc<PointBook>, line: &str) {
     let job = job_of(rt, book, &mut words);
     let kept = job.share().expect(rt, "error");
     let judged = Judged::make(alloc, job, said_of(rt, alloc, words.rest()));
-    same_text(rt, verdict_name(judged.verdict()), wanted, line);
+    let verdict = format!(in alloc; "{:?}", judged.verdict()).expect(rt, "error");
+    same_text(rt, verdict.as_str(), wanted, line);
     holds(rt, !judged.short(), line);
     holds(rt, judged.audit().same(&kept), line);
 }
@@ -108,9 +98,11 @@ fn expect_all(rt: &impl Abort, alloc: Global, rows: &str, lines: &str) {
 
 /// 16 A for half a minute from wherever one asks, and then 8 A. At connector 2, 10 A until a minute past midnight.
 const ROWS: &str = "\
+point 630 2 320
 row id=1 kind=Relative periods=0:160,30:80
 row id=2 connector=2 level=1 start=0 periods=0:100,60:120";
 
+/// Limits are compared from the start that is said on, at each second that both cover; and what can't be compared.
 const COMPARED: &str = "\
 1 60 A schedule 8 60 A 0:160 30:80 = Agrees
 1 60 A schedule 9000 60 A 0:160 30:80 = Agrees
@@ -126,14 +118,7 @@ const COMPARED: &str = "\
 2 120 A schedule 10 120 A 0:100 60:120 = Differs
 1 120 A schedule 10 120 A 0:100 50:120 = Differs
 0 60 A schedule 0 60 A 0:0 = Agrees
-0 60 A schedule 0 60 A 0:160 30:80 = Differs";
-
-#[test]
-fn compares_limits_from_the_start_that_is_said(rt: HostRuntime) {
-    expect_all(&rt, rt.alloc(), ROWS, COMPARED);
-}
-
-const EACH_SECOND: &str = "\
+0 60 A schedule 0 60 A 0:160 30:80 = Differs
 1 60 A schedule 8 60 A 0:160 10:160 30:80 45:80 = Agrees
 1 60 A schedule 8 10 A 0:160 = Agrees
 1 60 A schedule 8 30 A 0:160 = Agrees
@@ -142,14 +127,7 @@ const EACH_SECOND: &str = "\
 1 60 A schedule 8 600 A 0:160 30:80 60:0 = Agrees
 1 60 A schedule 8 600 A 0:160 30:80 59:0 = Differs
 1 30 A schedule 8 8000 A each=4096 = Agrees
-1 31 A schedule 8 8000 A each=4096 = Differs";
-
-#[test]
-fn compares_the_seconds_that_both_cover(rt: HostRuntime) {
-    expect_all(&rt, rt.alloc(), ROWS, EACH_SECOND);
-}
-
-const UNSETTLED: &str = "\
+1 31 A schedule 8 8000 A each=4096 = Differs
 1 60 A refused = Rejected
 1 60 A unread = Unsettled
 1 60 A schedule 8 60 A  = Unsettled
@@ -169,12 +147,8 @@ const UNSETTLED: &str = "\
 1 2678400 A schedule 8 60 A 0:160 30:80 = Agrees
 1 2678401 A schedule 8 60 A 0:160 30:80 = Unsettled";
 
-#[test]
-fn leaves_unsettled_what_cannot_be_compared(rt: HostRuntime) {
-    expect_all(&rt, rt.alloc(), ROWS, UNSETTLED);
-}
-
-const MOST_PERIODS: &str = "row kind=Recurring recurrency=Daily start=0 turns=432";
+/// A schedule of the most periods, and of one more.
+const MOST_PERIODS: &str = "point 630 2 320\nrow kind=Recurring recurrency=Daily start=0 turns=432";
 
 const LONG: &str = "\
 1 1769472 A schedule 0 432 A 0:60 = Agrees
@@ -183,13 +157,15 @@ const LONG: &str = "\
 1 1769473 A schedule 0 433 A 0:60 = Unsettled";
 
 #[test]
-fn leaves_unsettled_what_is_too_long(rt: HostRuntime) {
+fn judges_what_is_said(rt: HostRuntime) {
+    expect_all(&rt, rt.alloc(), ROWS, COMPARED);
     expect_all(&rt, rt.alloc(), MOST_PERIODS, LONG);
 }
 
 /// A book of 16 A for half a minute from wherever one asks, and then 8 A.
 fn relative(rt: &impl Abort, alloc: Global) -> Arc<PointBook> {
-    let mut book = point(rt, alloc, 630, (2, 320));
+    let ceilings = Vec::from_slice(alloc, &[320]).expect(rt, "error");
+    let mut book = PointBook::try_new(alloc, 630, ceilings).expect(rt, "error");
     let row = row_of(alloc, "kind=Relative periods=0:160,30:80").expect(rt, "error");
     assert!(rt; row.connector <= book.connectors());
     match book.install(row) {
@@ -217,62 +193,4 @@ fn an_audit_is_judged_again_where_memory_was_refused(rt: HostRuntime) {
     let second = Judged::make(alloc, again, said_again);
     holds(&rt, second.verdict() == Verdict::Agrees, "judged again");
     holds(&rt, !second.short(), "with memory again");
-}
-
-/// The schedule of `60 0:160 30:80`, a duration and periods, with its start before them.
-fn schedule_of(rt: &impl Abort, alloc: Global, words: &str) -> (Instant, Composite) {
-    let mut words = Words::of(words);
-    let start = words.instant().expect(rt, "a start");
-    let duration = words.number().expect(rt, "a duration");
-    let periods = periods_of(rt, alloc, words.rest());
-    let schedule = Composite::from_said(duration, periods).ok();
-    (start, schedule.expect(rt, "a schedule"))
-}
-
-/// Two schedules in a line, with whether they agree: each its start, its duration and its periods.
-fn expect_agreement(rt: &impl Abort, alloc: Global, line: &str) {
-    let (both, wanted) = line.split_once(" = ").expect(rt, line);
-    let (one, other) = both.split_once(" | ").expect(rt, line);
-    let (start, first) = schedule_of(rt, alloc, one);
-    let (other_start, second) = schedule_of(rt, alloc, other);
-    let found = agree(&first, start, &second, other_start);
-    holds(rt, found == (wanted == "yes"), line);
-    let turned = agree(&second, other_start, &first, start);
-    holds(rt, turned == found, line);
-}
-
-const PAIRS: &str = "\
-0 60 0:160 30:80 | 0 60 0:160 30:80 = yes
-0 60 0:160 30:80 | 0 60 0:160 20:160 30:80 = yes
-0 60 0:160 30:80 | 0 60 0:160 31:80 = no
-0 60 0:160 30:80 | 30 60 0:80 = yes
-0 60 0:160 30:80 | 30 60 0:80 30:70 = yes
-0 60 0:160 30:80 | 30 60 0:80 29:70 = no
-0 60 0:160 30:80 | 29 60 0:80 = no
-0 60 0:160 | 60 60 0:80 = yes
-0 60 0:160 | 59 60 0:80 = no
-0 60 0:160 | 9000 60 0:80 = yes
-10 10 0:160 5:80 | 0 100 0:160 15:80 = yes
-10 10 0:160 5:80 | 0 100 0:160 14:80 = no
-10 10 0:160 5:80 | 0 100 0:70 10:160 15:80 20:70 = yes
-251666611199 60 0:160 | 251666611199 60 0:160 = yes
-251666611199 60 0:160 | 251666611199 4294967295 0:160 59:80 = no";
-
-#[test]
-fn agrees_where_schedules_overlap(rt: HostRuntime) {
-    for line in PAIRS.lines() {
-        expect_agreement(&rt, rt.alloc(), line);
-    }
-}
-
-/// Periods of a duration that make no schedule come back as they were.
-#[test]
-fn returns_periods_that_make_no_schedule(rt: HostRuntime) {
-    for words in ["", "1:160", "0:160 30:80 30:90", "0:160 60:80"] {
-        let periods = periods_of(&rt, rt.alloc(), words);
-        let wanted = periods_of(&rt, rt.alloc(), words);
-        let back = Composite::from_said(60, periods).err().expect(&rt, words);
-        holds(&rt, back.as_slice() == wanted.as_slice(), words);
-        holds(&rt, back.len() == wanted.len(), words);
-    }
 }

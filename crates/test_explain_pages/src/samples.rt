@@ -1,65 +1,73 @@
 //! Explained schedules made by hand.
 
-use meaning::{Ask, Cause, PrevailingProfile, Reason, Share, Shares, View};
+use explain_pages::{ExplainedAsk, NotCounted};
+use meaning::{Ask, Cause, PrevailingProfile, Reason, Shares, View};
 use ocpp_scalars::Instant;
-use profile::{Purpose, Row};
+use profile::{Purpose, Row, Unit};
 use std::alloc::Global;
-use std::test::Fail;
+use std::process::Abort;
 use sweep_compiler::Interval;
 use test_books::{instant_at, row_of};
 
-/// A point of 63 A with two connectors of 32 A, no transaction, and rows.
+/// A point of 63 A with two connectors of 32 A, transactions and rows.
 #[derive(Drop)]
-pub struct Point {
+pub(crate) struct Point {
     rows: Vec<Row>,
-    starts: Vec<Option<Instant>>,
+    starts: [Option<Instant>; 2],
+}
+
+/// A point with the rows of lines, and with a transaction since midnight at `none` of the connectors, the `first`,
+/// the `second` or `both`.
+pub(crate) fn point_with(rt: &impl Abort, alloc: Global, lines: &str, active: &str) -> Point {
+    let midnight = instant_at(0).ok();
+    let mut rows = Vec::new(alloc);
+    for line in lines.lines() {
+        rows.push(row_of(alloc, line).expect(rt, line))
+            .ok()
+            .expect(rt, line);
+    }
+    let starts = match active {
+        "first" => [midnight, None],
+        "second" => [None, midnight],
+        "both" => [midnight, midnight],
+        _ => [None, None],
+    };
+    Point { rows, starts }
 }
 
 impl Point {
-    /// A point with the rows of lines.
-    pub fn with_rows(alloc: Global, lines: &str) -> Result<Point, Fail> {
-        let mut point = Point {
-            rows: Vec::new(alloc),
-            starts: Vec::new(alloc),
-        };
-        for line in lines.lines() {
-            point.rows.push(row_of(alloc, line)?)?;
-        }
-        Ok(point)
-    }
-
-    /// The same with a transaction since midnight at `none` of the connectors, the `first`, the `second` or `both`.
-    pub fn with_transactions(alloc: Global, lines: &str, active: &str) -> Result<Point, Fail> {
-        let mut point = Point::with_rows(alloc, lines)?;
-        for place in ["first", "second"] {
-            let is_active = active == place || active == "both";
-            point.starts.push(if is_active {
-                Some(instant_at(0)?)
-            } else {
-                None
-            })?;
-        }
-        Ok(point)
-    }
-
     /// What it has.
-    pub fn view(&self) -> View<'_> {
+    pub(crate) fn view(&self) -> View<'_> {
         View {
             ceiling: 630,
             ceilings: &[320, 320],
-            starts: self.starts.as_slice(),
+            starts: &self.starts,
             rows: self.rows.as_slice(),
+        }
+    }
+
+    /// What was explained of a connector of it for a number of seconds from midnight on.
+    pub(crate) fn explained<'a>(
+        &'a self,
+        rt: &impl Abort,
+        (connector, duration): (u32, u32),
+        intervals: &'a [Interval],
+        not_counted: &'a [NotCounted],
+    ) -> ExplainedAsk<'a> {
+        let start = instant_at(0).expect(rt, "error");
+        ExplainedAsk {
+            point: "CP1",
+            unit: Unit::A,
+            ask: Ask::try_new(connector, start, duration).expect(rt, "error"),
+            view: self.view(),
+            intervals,
+            not_counted,
         }
     }
 }
 
-/// What is asked of a connector, a number of seconds after midnight.
-pub fn ask(connector: u32, start: u64, duration: u32) -> Result<Ask, Fail> {
-    Ok(Ask::try_new(connector, instant_at(start)?, duration)?)
-}
-
 /// A profile at connector 0.
-pub fn profile(id: i32, purpose: Purpose, stack_level: u32) -> PrevailingProfile {
+pub(crate) fn profile(id: i32, purpose: Purpose, stack_level: u32) -> PrevailingProfile {
     PrevailingProfile {
         id,
         purpose,
@@ -68,13 +76,13 @@ pub fn profile(id: i32, purpose: Purpose, stack_level: u32) -> PrevailingProfile
     }
 }
 
-/// The cause that a profile is.
-pub fn by(id: i32, purpose: Purpose, stack_level: u32) -> Cause {
-    Cause::Profile(profile(id, purpose, stack_level))
-}
-
 /// An interval without shares.
-pub fn interval(alloc: Global, start: u32, end: u32, limit: u32, cause: Cause) -> Interval {
+pub(crate) fn interval(
+    alloc: Global,
+    (start, end): (u32, u32),
+    limit: u32,
+    cause: Cause,
+) -> Interval {
     Interval {
         start,
         end,
@@ -86,21 +94,14 @@ pub fn interval(alloc: Global, start: u32, end: u32, limit: u32, cause: Cause) -
     }
 }
 
-/// An interval of a sum.
-pub fn sum(
-    alloc: Global,
-    start: u32,
-    end: u32,
-    limit: u32,
-    shares: &[Share],
-) -> Result<Interval, Fail> {
-    Ok(Interval {
-        start,
-        end,
-        reason: Reason {
-            limit,
-            cause: Cause::Sum,
-            shares: Shares::new(Vec::from_slice(alloc, shares)?),
-        },
-    })
+/// That a text has each line of some others in it.
+pub(crate) fn expect(rt: &impl Abort, text: &str, wanted: &str) {
+    for line in wanted.lines() {
+        assert!(rt; text.contains(line), "{line}");
+    }
+}
+
+/// That a text is another one.
+pub(crate) fn same(rt: &impl Abort, found: &str, wanted: &str) {
+    assert!(rt; found == wanted, "{found}, wanted {wanted}");
 }

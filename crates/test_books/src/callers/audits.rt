@@ -1,6 +1,6 @@
 //! A caller of `sweep_compiler` that judges what a point says.
 
-use crate::fixtures::{instant_at, row_of};
+use crate::{instant_at, row_of};
 use meaning::{CompositePeriod, Said, SaidPeriods};
 use point_book::PointBook;
 use profile::Unit;

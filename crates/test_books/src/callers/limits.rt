@@ -1,6 +1,6 @@
 //! A caller of `meaning`.
 
-use crate::fixtures::{instant_at, row_of};
+use crate::{instant_at, row_of};
 use meaning::{Ask, View, compile_plain, limit_at};
 use std::test::Fail;
 

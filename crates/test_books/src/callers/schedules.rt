@@ -1,6 +1,6 @@
 //! A caller of `sweep_compiler`.
 
-use crate::fixtures::{instant_at, row_of};
+use crate::{instant_at, row_of};
 use meaning::Ask;
 use point_book::PointBook;
 use std::test::Fail;

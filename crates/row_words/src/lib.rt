@@ -1,0 +1,11 @@
+//! What tests are made of, in words: rows and profiles, starts of transactions, site files. It has no tests of its
+//! own, and so is proved once. Other crates of tests have it by `test_books`.
+#![tactic(auto)]
+
+mod fixtures;
+mod words;
+
+pub use fixtures::{
+    LONGEST_TAG, UnreadWords, begin_of, criteria_of, instant_at, profile_of, row_of, site_text,
+};
+pub use words::{MIDNIGHT, Words};
