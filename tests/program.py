@@ -564,41 +564,30 @@ def memory_problems(program, folder):
 # how many runs at least, and up to which allocation of its first.
 AGAIN = (
     # Copies of a profile share its periods, and so take no memory for them.
-    ("test_core", "runs::a_step_is_made_again_where_memory_was_refused", 1, 17, 150),
-    ("test_core", "runs::a_run_goes_on_where_memory_was_refused", 1, 2, 150),
-    # A book's call lends its step to the machine, and so copies no more of it than the machine keeps.
-    ("test_core", "stored_histories::a_call_is_made_again_where_memory_was_refused", 1, 19, 150),
-    ("test_core", "audits::an_audit_is_made_again_where_memory_was_refused", 1, 1, 200),
-    ("test_core", "refused_memory::a_profile_on_a_machine", 1, 5, 150),
-    ("test_core", "refused_memory::a_profile_on_a_book", 1, 8, 150),
-    ("test_core", "refused_memory::a_transaction_on_a_machine", 1, 10, 150),
-    ("test_core", "refused_memory::a_transaction_on_a_book", 1, 13, 150),
-    ("test_core", "refused_memory::a_held_request_on_a_machine", 1, 10, 150),
-    ("test_core", "refused_memory::a_held_request_on_a_book", 1, 12, 150),
-    ("test_core", "refused_memory::calls_on_a_machine", 1, 2, 150),
-    ("test_core", "refused_memory::calls_on_a_book", 1, 4, 150),
-    ("test_core", "refused_memory::an_audit_on_a_machine", 1, 3, 150),
-    ("test_core", "refused_memory::an_audit_on_a_book", 1, 5, 150),
-    ("test_core", "refused_memory::a_remote_start_on_a_machine", 1, 2, 150),
-    ("test_core", "refused_memory::a_remote_start_on_a_book", 1, 3, 150),
+    ("test_core", "refused_memory::a_run_goes_on", 1, 2, 150),
+    # A book's call lends its step to the machine, and so copies no more of it than the machine keeps. Each step is made on a
+    # machine, and then on a book.
+    ("test_core", "refused_memory::a_transaction", 1, 23, 300),
+    ("test_core", "refused_memory::a_held_request", 1, 22, 300),
+    ("test_core", "refused_memory::an_audit", 1, 8, 300),
+    ("test_core", "refused_memory::a_remote_start", 1, 5, 300),
     ("test_books", "judged_audits::an_audit_is_judged_again_where_memory_was_refused", 1, 2, 150),
     ("test_session", "sessions_over_memory::an_operators_session_is_refused_memory", 1, 25, 200),
     ("test_session", "sessions_over_memory::a_points_session_is_refused_memory", 1, 15, 200),
     # From each allocation on all are refused: past its beginning the test makes none, until its last step.
-    ("test_core", "runs::a_step_without_an_event_wants_no_memory", 1_000_000, 1, 150),
+    ("test_core", "refused_memory::a_step_without_an_event_wants_none", 1_000_000, 1, 150),
     # The same: one allocation just before a compiling, and those of the compiling.
-    ("test_core", "refused_memory::a_compiling_without_memory_on_a_machine", 1_000_000, 2, 150),
-    ("test_core", "refused_memory::a_compiling_without_memory_on_a_book", 1_000_000, 2, 150),
+    ("test_core", "refused_memory::a_compiling_without_memory", 1_000_000, 2, 150),
     # A chunk of the arena that is refused is asked for at half its size, and so on: all of that is refused.
     ("test_texts", "frame_texts::a_text_is_read_again_where_memory_was_refused", 20, 30, 150),
 )
 
 # The last calls of these are made again, after a history that takes many allocations.
 FOLDED_AGAIN = (
-    ("stored_histories::an_install_folds_again_where_memory_was_refused", 10),
-    ("stored_histories::a_start_folds_again_where_memory_was_refused", 10),
-    ("audits::an_audit_folds_again_where_memory_was_refused", 3),
-    ("audits::a_verdict_folds_again_where_memory_was_refused", 3),
+    ("refused_memory::an_install_folds", 10),
+    ("refused_memory::a_start_folds", 10),
+    ("refused_memory::an_audit_folds", 3),
+    ("refused_memory::a_verdict_folds", 3),
 )
 
 

@@ -21,6 +21,8 @@ LANES = 2
 BOOKS = ("crates/test_books/src/books_at_random.rt", "for seed in 0..10_000u32", "for seed in 0..100u32")
 # The longest first, so that no lane is left with one at the end.
 LONG = ("test_books", "test_core")
+# Has the program of tables write what its file says.
+PLAYED = "rt try --seconds 600 < stdin | head -c $(wc -c < stdout) | cmp - stdout && echo 1 passed, 0 failed || echo 0 passed, 1 failed"
 TOTALS = re.compile(r"^(\d+) passed, (\d+) failed$|^test result: \w+\. (\d+) passed; (\d+) failed;", re.MULTILINE)
 
 
@@ -67,6 +69,7 @@ def tasks_over(folder):
         Task("tests/program.py", ["tests/program.py", PROGRAM], needs_program=True),
         Task("tests/sockets/run", ["tests/sockets/run", PROGRAM], needs_program=True),
         *(Task(name, ["rt", "try", "--test", "--seconds", "600"], os.path.join(folder, "crates", name)) for name in crates),
+        Task("play_steps", ["sh", "-c", PLAYED], os.path.join(folder, "crates", "play_steps")),
         Task("tests/pages.py", ["tests/pages.py", PROGRAM], needs_program=True),
         Task("tests/documents.py", ["tests/documents.py"]),
     ]

@@ -1,58 +1,26 @@
 //! A seeded run of calls on a `Book` and of the same steps on a `Machine`, over folds. Each has the
-//! same outcome. In the end the stored events lead from the base to the present state.
+//! same outcome. Sendings, replies and links are lost, and after each confirmed call the first point,
+//! which obeys, has what the store had after the call's change. In the end the stored events lead from
+//! the base to the present state.
 
 ghost use Rattle.std.specs.Prelude.{◌≡◌};
 
-use crate::audits::{judged, judging_both, schedule};
-use crate::copied_steps::copied_step;
-use crate::obeying_point::RandomNumbers;
-use crate::runs::opening;
-use crate::same::{holds, same_outcome};
-use crate::scripted_calls::Desk;
-use crate::scripted_steps::{reply_words, step_of};
+use crate::obeying_point::{Keys, RandomNumbers, lasting, obey};
+use crate::played::{site, step};
+use crate::same::{holds, same, same_said};
 use ocpp_scalars::Refusal;
-use site_core::{Machine, Step};
+use profile::Row;
+use site_core::Machine;
 use std::alloc::{AllocError, Global};
 use std::marker::Brand;
 use std::process::Abort;
 use std::sync::ledger::{Blank, Ledger};
+use step_words::{Said, Sides, judging};
 use version_store::StoredEvent;
-
-/// What can be read of a machine.
-#[derive(Clone, Copy, Debug, PartialEq, Eq)]
-pub(crate) struct Readings {
-    version: u64,
-    open_requests: usize,
-    outboxes: (usize, usize),
-    links: (Option<u64>, Option<u64>),
-    is_stopped: bool,
-}
-
-pub(crate) fn read_machine(machine: &Machine) -> Readings {
-    Readings {
-        version: machine.version(),
-        open_requests: machine.open_requests(),
-        outboxes: (machine.outbox_len("CP1"), machine.outbox_len("CP2")),
-        links: (machine.link_of("CP1"), machine.link_of("CP2")),
-        is_stopped: machine.is_stopped(),
-    }
-}
-
-/// The same of a book, by its own readers.
-pub(crate) fn read_book<C: Ledger, A: Ledger>(desk: &Desk<C, A>) -> Readings {
-    let book = &desk.book;
-    Readings {
-        version: book.version(),
-        open_requests: book.open_requests(),
-        outboxes: (book.outbox_len("CP1"), book.outbox_len("CP2")),
-        links: (book.link_of("CP1"), book.link_of("CP2")),
-        is_stopped: book.is_stopped(),
-    }
-}
 
 type Written = Result<String, AllocError>;
 
-/// The numbers that were drawn last, from which later steps are made.
+/// The numbers that were drawn last, from which later steps are made, and the point that obeys.
 #[derive(Drop)]
 struct Course {
     random: RandomNumbers,
@@ -60,18 +28,52 @@ struct Course {
     request: u64,
     /// The call that was sent last.
     call: u64,
-    /// The call of the last audit.
+    /// The call of the first point's last audit.
     audit: u64,
-    /// How often the history was folded.
+    /// The call that the point has obeyed last, where it is still to reply over the present link.
+    obeyed: Option<u64>,
+    /// What the point has that outlasts transactions.
+    point: Vec<Keys>,
+    /// What the store had of that after the change of each call, by the call's number.
+    stores: Vec<Vec<Keys>>,
+    /// How often the history was folded, how many verdicts were kept, and how many sendings and
+    /// replies of the first point were lost.
     folds: u32,
-    /// How many verdicts were kept.
     verdicts: u32,
+    losses: u32,
 }
 
 impl Course {
+    /// Of a point that has a row of before, which call 0 is to remove.
+    fn new(rt: &impl Abort, alloc: Global) -> Course {
+        let mut stores = Vec::new(alloc);
+        stores.push(Vec::new(alloc)).ok().expect(rt, "error");
+        let mut point = Vec::new(alloc);
+        point.push(Keys::of_before()).ok().expect(rt, "error");
+        Course {
+            random: RandomNumbers { state: 20_261_124 },
+            transaction: 0,
+            request: 0,
+            call: 0,
+            audit: 0,
+            obeyed: None,
+            point,
+            stores,
+            folds: 0,
+            verdicts: 0,
+            losses: 0,
+        }
+    }
+
     /// One of the numbers up to the last that was drawn.
     fn near(&mut self, last: u64, reach: u8) -> u64 {
         last.saturating_sub(u64::from(self.random.below(reach)))
+    }
+
+    fn is_lost(&mut self) -> bool {
+        let is_lost = self.random.below(6) == 0;
+        self.losses = self.losses.saturating_add(u32::from(is_lost));
+        is_lost
     }
 
     /// The words of a random step.
@@ -84,20 +86,32 @@ impl Course {
         let words = match self.random.below(16) {
             0 => self.change(alloc, point),
             1 => self.transact(alloc, point),
-            2 => format!(in alloc; "{point} take"),
+            2 => format!(in alloc; "{point} take 1 0 60"),
             3 | 4 => self.request(alloc),
-            5 | 6 => format!(in alloc; "{point} attach"),
-            7 => self.audit(alloc, point),
+            5 => format!(in alloc; "{point} attach"),
+            6 => self.audit(alloc, point),
             _ => self.exchange(alloc, point, machine.link_of(point).unwrap_or(0)),
         };
         words.expect(rt, "error")
     }
 
+    /// An install, or a clear by an id, a connector, a level, or nothing.
     fn change(&mut self, alloc: Global, point: &str) -> Written {
-        let limit = u64::from(self.random.below(100)).wrapping_add(60);
-        match self.random.below(4) {
+        let (id, connector) = (self.random.below(4), self.random.below(3));
+        let (level, limit) = (self.random.below(3), self.random.below(100));
+        let purpose = match self.random.below(3) {
+            0 => "ChargePointMaxProfile",
+            1 => "TxProfile",
+            _ => "TxDefaultProfile",
+        };
+        match self.random.below(12) {
             0 => format!(in alloc; "{point} clear"),
-            _ => format!(in alloc; "{point} install {limit}"),
+            1 => format!(in alloc; "{point} clear id={id}"),
+            2 => format!(in alloc; "{point} clear connector={connector} purpose={purpose}"),
+            3 => format!(in alloc; "{point} clear level={level}"),
+            _ => format!(in alloc;
+                "{point} install id={id} connector={connector} purpose={purpose} level={level} periods=0:{limit}"
+            ),
         }
     }
 
@@ -106,7 +120,7 @@ impl Course {
         let transaction = self.near(self.transaction, 2);
         match self.random.below(2) {
             0 => format!(in alloc; "{point} stop {transaction}"),
-            _ => format!(in alloc; "{point} start {connector}"),
+            _ => format!(in alloc; "{point} start ann {connector} 0"),
         }
     }
 
@@ -127,154 +141,199 @@ impl Course {
         }
     }
 
-    /// A step over the present link, or over the one before.
+    /// A step over the present link, or over the one before. The first point replies to what it has
+    /// obeyed alone.
     fn exchange(&mut self, alloc: Global, point: &str, link: u64) -> Written {
         let link = match self.random.below(8) {
             0 => link.saturating_sub(1),
             _ => link,
         };
-        let call = self.call;
-        match self.random.below(8) {
+        let call = match point {
+            "CP1" => self.obeyed.unwrap_or(1_000_000),
+            _ => self.call,
+        };
+        match self.random.below(16) {
             0 => format!(in alloc; "{point} lost {link}"),
-            1..=4 => format!(in alloc; "{point} send {link}"),
+            1..=8 => format!(in alloc; "{point} send {link}"),
             _ => format!(in alloc; "{point} confirm {link} {call}"),
         }
     }
 
     /// Takes note of what came of a step.
-    fn note(&mut self, said: (&'static str, u64)) {
-        match said {
-            ("Started", number) => self.transaction = number,
-            ("Taken", number) => self.request = number,
-            ("Sent", number) => self.call = number,
-            ("Audited", number) => self.audit = number,
+    fn note(&mut self, said: Said) {
+        let number = said.1.unwrap_or(0);
+        match said.0 {
+            "Started" => self.transaction = number,
+            "Taken" => self.request = number,
+            "Sent" => self.call = number,
             _ => {}
         }
     }
 }
 
-fn machine_words(machine: &mut Machine, step: Step) -> (&'static str, u64) {
-    match machine.step(step) {
-        Ok(reply) => reply_words(&reply),
-        Err(refused) => (refused.refusal.name(), 0),
+/// What came of a step on both sides is one thing, and memory sufficed.
+fn is_one(rt: &impl Abort, said: Said, words: &str) {
+    holds(rt, !said.0.starts_with("the sides"), words);
+    holds(rt, said.0 != Refusal::OutOfMemory.name(), words);
+}
+
+/// Makes the step of words on both sides.
+fn made<C: Ledger, A: Ledger>(
+    rt: &impl Abort,
+    sides: &mut Sides<C, A>,
+    course: &mut Course,
+    words: &str,
+) -> Said {
+    let stored = sides.book.stored();
+    let said = sides.make(step(rt, sides.alloc, words));
+    is_one(rt, said, words);
+    let is_folded = sides.book.stored() < stored;
+    course.folds = course.folds.saturating_add(u32::from(is_folded));
+    course.note(said);
+    if words.starts_with("CP1") {
+        noted_at_point(rt, sides, course, said);
     }
-}
-
-/// Makes the step of words on both.
-pub(crate) fn step_both<C: Ledger, A: Ledger>(
-    rt: &impl Abort,
-    desk: &mut Desk<C, A>,
-    machine: &mut Machine,
-    words: &str,
-) -> (&'static str, u64) {
-    let steps = (
-        step_of(rt, desk.alloc, words),
-        step_of(rt, desk.alloc, words),
-    );
-    make_both(rt, desk, machine, steps, words)
-}
-
-/// Makes a step on both, given once for each.
-pub(crate) fn make_both<C: Ledger, A: Ledger>(
-    rt: &impl Abort,
-    desk: &mut Desk<C, A>,
-    machine: &mut Machine,
-    (step, other): (Step, Step),
-    words: &str,
-) -> (&'static str, u64) {
-    let said = desk.comes_to(step);
-    same_outcome(rt, said, machine_words(machine, other), words);
-    holds(rt, read_machine(machine) == read_book(desk), words);
-    holds(rt, desk.pass.totals() == desk.book.totals(), words);
-    holds(rt, said.0 != Refusal::OutOfMemory.name(), "memory");
     said
 }
 
-/// Now and then, judges on both the last audit, if it is the first point's.
-fn judge_both<C: Ledger, A: Ledger>(
+/// What the first point has by the machine.
+fn rows_of<C: Ledger, A: Ledger>(sides: &Sides<C, A>) -> &[Row] {
+    match sides.machine.book_of("CP1") {
+        Some(book) => book.view().rows,
+        None => &[],
+    }
+}
+
+/// What came of a step of the first point, at the point: a call more, a call that it obeys, one that is
+/// confirmed, or a link without replies to what was before.
+fn noted_at_point<C: Ledger, A: Ledger>(
     rt: &impl Abort,
-    desk: &mut Desk<C, A>,
-    machine: &mut Machine,
+    sides: &Sides<C, A>,
+    course: &mut Course,
+    said: Said,
+) {
+    match said.0 {
+        "Accepted" | "Audited" => {
+            course.audit = said.1.unwrap_or(course.audit);
+            let rows = lasting(sides.alloc, rows_of(sides)).expect(rt, "error");
+            course.stores.push(rows).ok().expect(rt, "error");
+        }
+        "Sent" => obeyed(rt, sides, course),
+        "Confirmed" => confirmed(rt, course),
+        "Attached" | "LinkLost" => course.obeyed = None,
+        _ => {}
+    }
+}
+
+/// Has the point obey what is sent, unless that is lost.
+fn obeyed<C: Ledger, A: Ledger>(rt: &impl Abort, sides: &Sides<C, A>, course: &mut Course) {
+    if let Some(call) = &sides.sent {
+        if !course.is_lost() {
+            obey(&mut course.point, &call.body).expect(rt, "error");
+            course.obeyed = Some(call.number);
+        }
+    }
+}
+
+/// The point has what the store had after the change of the call that is confirmed.
+fn confirmed(rt: &impl Abort, course: &mut Course) {
+    let call = course.obeyed.take().expect(rt, "no call");
+    let store = course.stores.get(call as usize).expect(rt, "no such call");
+    holds(rt, store.as_slice() == course.point.as_slice(), "in step");
+}
+
+/// Now and then, judges on both the last audit of the first point.
+fn random_judging<C: Ledger, A: Ledger>(
+    rt: &impl Abort,
+    sides: &mut Sides<C, A>,
     course: &mut Course,
 ) {
-    let alloc = desk.alloc;
-    let call = course.audit;
-    let Some(job) = desk.book.audit_job("CP1", call).expect(rt, "error") else {
+    let (alloc, call) = (sides.alloc, course.audit);
+    let Some(job) = sides.book.audit_job("CP1", call).expect(rt, "error") else {
         return;
     };
     if course.random.below(16) > 0 {
         return;
     }
     let limit = u32::from(course.random.below(2)).wrapping_add(159);
-    let verdict = judged(rt, alloc, &job, schedule(rt, alloc, limit));
-    let steps = judging_both(rt, alloc, "CP1", call, verdict);
-    let said = make_both(rt, desk, machine, steps, "judge");
-    same_outcome(rt, said, ("VerdictKept", 0), "judge");
-    step_both(rt, desk, machine, "CP1 status");
+    let words = format!(in alloc; "CP1 judge {call} {limit}").expect(rt, "error");
+    let judged = judging(alloc, &job, words.as_str()).expect(rt, "error");
+    same_said(rt, sides.make(judged), ("VerdictKept", None), "judge");
+    made(rt, sides, course, "CP1 status");
     course.verdicts = course.verdicts.saturating_add(1);
 }
 
-/// A random step on both.
 fn random_step<C: Ledger, A: Ledger>(
     rt: &impl Abort,
-    desk: &mut Desk<C, A>,
-    machine: &mut Machine,
+    sides: &mut Sides<C, A>,
     course: &mut Course,
 ) {
-    let words = course.words(rt, desk.alloc, machine);
-    let stored = desk.book.stored();
-    let said = step_both(rt, desk, machine, words.as_str());
-    course.note(said);
-    if desk.book.stored() < stored {
-        course.folds = course.folds.saturating_add(1);
-    }
+    let words = course.words(rt, sides.alloc, &sides.machine);
+    made(rt, sides, course, words.as_str());
+    random_judging(rt, sides, course);
+}
+
+/// The next call of the first point goes out over a new link, and it obeys and replies.
+fn confirm_next<C: Ledger, A: Ledger>(
+    rt: &impl Abort,
+    sides: &mut Sides<C, A>,
+    course: &mut Course,
+) {
+    made(rt, sides, course, "CP1 attach");
+    let link = sides.machine.link_of("CP1").unwrap_or(0);
+    let words = format!(in sides.alloc; "CP1 send {link}").expect(rt, "error");
+    made(rt, sides, course, words.as_str());
+    let Some(call) = course.obeyed else {
+        return;
+    };
+    let words = format!(in sides.alloc; "CP1 confirm {link} {call}").expect(rt, "error");
+    made(rt, sides, course, words.as_str());
 }
 
 /// A stored event is made as a step.
-fn make_again(rt: &impl Abort, alloc: Global, machine: &mut Machine, event: &StoredEvent) {
-    let step = copied_step(rt, alloc, event.step());
-    holds(rt, machine.step(step).is_ok(), "a stored event");
+fn make_again(rt: &impl Abort, machine: &mut Machine, event: &StoredEvent) {
+    holds(rt, machine.make(event.step()).is_ok(), "a stored event");
 }
 
-/// The stored events are made as steps from the base on.
-fn replayed<C: Ledger, A: Ledger>(rt: &impl Abort, desk: &Desk<C, A>) -> Machine {
-    let mut machine = desk.book.base().copy().expect(rt, "error");
-    for event in desk.book.events() {
-        make_again(rt, desk.alloc, &mut machine, event);
+/// The stored events lead from the base to the present state.
+fn replay<C: Ledger, A: Ledger>(rt: &impl Abort, sides: &mut Sides<C, A>) {
+    let mut machine = sides.book.base().copy().expect(rt, "error");
+    for event in sides.book.events() {
+        make_again(rt, &mut machine, event);
     }
-    machine
+    sides.machine = machine;
+    holds(rt, sides.is_one(), "replayed");
 }
 
-/// 24,000 steps, then the end, and then all once more.
-fn run_desk<C: Ledger, A: Ledger>(rt: &impl Abort, desk: &mut Desk<C, A>, course: &mut Course) {
-    let mut machine = opening(rt, desk.alloc);
+/// 24,000 steps, then the calls that still wait, then the end, and then all once more.
+fn run_sides<C: Ledger, A: Ledger>(rt: &impl Abort, sides: &mut Sides<C, A>, course: &mut Course) {
+    // From the first take on there is something to bring.
+    made(rt, sides, course, "CP1 take 1 0 60");
     for _ in 0..24_000u32 {
-        random_step(rt, desk, &mut machine, course);
-        judge_both(rt, desk, &mut machine, course);
+        random_step(rt, sides, course);
     }
+    for _ in 0..600u32 {
+        confirm_next(rt, sides, course);
+    }
+    same(rt, sides.machine.outbox_len("CP1") as u64, 0, "calls");
+    let rows = lasting(sides.alloc, rows_of(sides)).expect(rt, "error");
+    holds(rt, rows.as_slice() == course.point.as_slice(), "in step");
     holds(rt, course.folds >= 2, "folds");
     holds(rt, course.verdicts >= 5, "verdicts");
-    holds(rt, desk.book.totals().answers > 100, "answers");
-    step_both(rt, desk, &mut machine, "- finish");
-    let again = read_machine(&replayed(rt, desk));
-    holds(rt, again == read_machine(desk.book.present()), "replayed");
+    holds(rt, course.stores.len() > 300, "changes");
+    holds(rt, course.losses > 100, "losses");
+    holds(rt, sides.book.totals().answers > 100, "answers");
+    is_one(rt, sides.make(step(rt, sides.alloc, "- finish")), "finish");
+    replay(rt, sides);
 }
 
 fn run_both<C: Ledger, A: Ledger>(rt: &impl Abort, alloc: Global, changes: Blank, answers: Blank)
     requires changes { (changes.name ≡ C.name) × (changes.parts ≡ C.parts) × (changes.parts ≡ 1) }
     requires answers { (answers.name ≡ A.name) × (answers.parts ≡ A.parts) × (answers.parts ≡ 1) }
 {
-    let mut desk: Desk<C, A> = Desk::new(rt, alloc, changes, answers);
-    let mut course = Course {
-        random: RandomNumbers { state: 20_261_124 },
-        transaction: 0,
-        request: 0,
-        call: 0,
-        audit: 0,
-        folds: 0,
-        verdicts: 0,
-    };
-    run_desk(rt, &mut desk, &mut course);
+    let sides = Sides::<C, A>::new(alloc, changes, answers, site(rt, alloc));
+    let mut course = Course::new(rt, alloc);
+    run_sides(rt, &mut sides.expect(rt, "error"), &mut course);
 }
 
 fn run_beside(rt: &impl Abort, alloc: Global) {

@@ -1,25 +1,16 @@
 //! That memory suffices at the largest sizes, and what comes of one more: a body that always says
 //! out of memory is proved whatever its contract says.
 
-use crate::same::{holds, same, same_text};
-use crate::scripted_steps::run;
-use meaning::Composite;
-use messages::{Response, ScheduleResponse, write_response};
+use crate::played::{comes_to, opening, run, step};
+use crate::same::{holds, same, same_said, same_text};
+use messages::CallBody;
 use ocpp_scalars::Refusal;
-use profile::Unit;
-use site_core::{Machine, PointId, Reply, Step, Take};
+use site_core::{Machine, Outcome, PointId, Reply, Step};
 use site_rules::read_site;
 use std::alloc::Global;
 use std::process::Abort;
-use test_books::{LONGEST_TAG, begin_of, instant_at, row_of, site_text};
-
-const SITE: &str =
-    r#"{"unit":"A","points":[{"id":"CP1","ceiling":32.0,"connectors":[16.0,16.0]}]}"#;
-
-fn machine(rt: &impl Abort, alloc: Global, site: &str) -> Machine {
-    let site = read_site(alloc, site.as_bytes()).expect(rt, "error");
-    Machine::new(alloc, site).expect(rt, "error")
-}
+use step_words::said_of;
+use test_books::{LONGEST_TAG, site_text};
 
 fn expect_copy(rt: &impl Abort, alloc: Global, length: u32) {
     let mut text = String::new(alloc);
@@ -38,14 +29,68 @@ fn identities_are_copied(rt: HostRuntime) {
     }
 }
 
+/// The last of the outcomes is a link of their number.
+fn is_last_link(rt: &impl Abort, outcomes: &[Outcome]) {
+    let said = match outcomes.last() {
+        Some(Outcome::Done(reply)) => said_of(reply),
+        _ => ("no link", None),
+    };
+    same_said(rt, said, ("Attached", Some(outcomes.len() as u64)), "a run");
+}
+
 #[test]
 fn a_run_has_1000_steps(rt: HostRuntime) {
-    let mut lines = String::from_str(rt.alloc(), "CP1 attach = Attached 1").expect(&rt, "error");
-    for link in 2..1_001u32 {
-        write!(&mut lines, "\nCP1 attach = Attached {link}").expect(&rt, "error");
+    let mut steps = Vec::new(rt.alloc());
+    for _ in 0..1_000u32 {
+        let attach = step(&rt, rt.alloc(), "CP1 attach");
+        steps.push(attach).ok().expect(&rt, "error");
     }
-    let mut machine = machine(&rt, rt.alloc(), SITE);
-    run(&rt, rt.alloc(), &mut machine, lines.as_str());
+    let outcomes = opening(&rt, rt.alloc())
+        .run(steps)
+        .ok()
+        .expect(&rt, "error");
+    same(&rt, outcomes.len() as u64, 1_000, "outcomes");
+    is_last_link(&rt, outcomes.as_slice());
+}
+
+/// Installs profiles of 200 periods, of these ids.
+fn install_all(rt: &impl Abort, alloc: Global, machine: &mut Machine, count: u32) {
+    for id in 0..count {
+        let words = format!(in alloc; "CP1 install id={id} connector=1 turns=60").expect(
+            rt, "error",
+        );
+        let said = comes_to(machine, &step(rt, alloc, words.as_str()));
+        same_said(rt, said, ("Accepted", None), "an install");
+    }
+}
+
+/// The next call sets the profile of an id, and is confirmed.
+fn confirm_next(rt: &impl Abort, alloc: Global, machine: &mut Machine, id: u32, call: u64) {
+    let sent = match machine.make(&step(rt, alloc, "CP1 send 1")) {
+        Ok(Reply::Sent(sent)) => sent,
+        _ => rt.panic("nothing is sent"),
+    };
+    same(rt, sent.number, call, "the number of a call");
+    match &sent.body {
+        CallBody::Set { profile, .. } => holds(
+            rt,
+            i64::from(profile.id) == i64::from(id),
+            "its id",
+        ),
+        _ => rt.panic("another call"),
+    }
+    let words = format!(in alloc; "CP1 confirm 1 {call}").expect(rt, "error");
+    let said = comes_to(machine, &step(rt, alloc, words.as_str()));
+    same_said(rt, said, ("Confirmed", None), "a confirmation");
+}
+
+/// Fills an outbox with 256 calls, and confirms them, from this one on.
+fn confirm_all(rt: &impl Abort, alloc: Global, machine: &mut Machine, first: u64) {
+    install_all(rt, alloc, machine, 256);
+    run(rt, alloc, machine, "CP1 clear = OutboxFull");
+    for id in 0..256u32 {
+        confirm_next(rt, alloc, machine, id, first.saturating_add(u64::from(id)));
+    }
 }
 
 const FIRST_CALL: &str = "\
@@ -53,151 +98,38 @@ CP1 attach = Attached 1
 CP1 send 1 = Sent 0
 CP1 confirm 1 0 = Confirmed";
 
-fn confirm_call(rt: &impl Abort, alloc: Global, machine: &mut Machine, call: u32) {
-    let lines = format!(in alloc;
-        "CP1 install 100 = Accepted\nCP1 send 1 = Sent {call}\nCP1 confirm 1 {call} = Confirmed"
-    );
-    run(rt, alloc, machine, lines.expect(rt, "error").as_str());
-}
-
-/// Calls have three digits up to 999, and then four.
+/// Calls have three digits up to 999, and then four. Each comes out as it was put in.
 #[test]
-fn a_point_confirms_1100_calls(rt: HostRuntime) {
-    let mut machine = machine(&rt, rt.alloc(), SITE);
+fn a_point_confirms_1280_calls(rt: HostRuntime) {
+    let mut machine = opening(&rt, rt.alloc());
     run(&rt, rt.alloc(), &mut machine, FIRST_CALL);
-    for call in 1..1_101u32 {
-        confirm_call(&rt, rt.alloc(), &mut machine, call);
+    for place in 0..5u64 {
+        let first = place.saturating_mul(256).saturating_add(1);
+        confirm_all(&rt, rt.alloc(), &mut machine, first);
     }
-    same(&rt, machine.outbox_len("CP1") as u64, 0, "calls");
-    same(&rt, machine.version(), 1_100, "version");
-}
-
-fn id(rt: &impl Abort, alloc: Global, point: &str) -> PointId {
-    PointId::copied(alloc, point).expect(rt, "error")
-}
-
-/// The number of a new request for a schedule from midnight on.
-fn take(
-    rt: &impl Abort,
-    alloc: Global,
-    machine: &mut Machine,
-    point: &str,
-    (connector, duration): (u32, u32),
-) -> u64 {
-    let take = Take {
-        point: id(rt, alloc, point),
-        connector,
-        start: instant_at(0).expect(rt, "error"),
-        duration,
-        unit: None,
-        seen: 0,
-    };
-    match machine.step(Step::Take(take)) {
-        Ok(Reply::Taken { number, .. }) => number,
-        _ => rt.panic("not taken"),
-    }
-}
-
-/// The answer to a request of a connector from midnight on.
-fn answer(
-    rt: &impl Abort,
-    alloc: Global,
-    machine: &mut Machine,
-    point: &str,
-    ask: (u32, u32),
-) -> Result<Composite, Refusal> {
-    let number = take(rt, alloc, machine, point, ask);
-    let compiled = machine.step(Step::Compile(number));
-    holds(rt, matches!(compiled, Ok(Reply::Compiled)), "compiled");
-    match machine.step(Step::Answer(number)) {
-        Ok(Reply::Answered { answer, .. }) => answer,
-        _ => rt.panic("not answered"),
-    }
-}
-
-/// Installs a row, and says why it is refused, if it is.
-fn install(
-    rt: &impl Abort,
-    alloc: Global,
-    machine: &mut Machine,
-    point: &str,
-    words: &str,
-) -> Option<Refusal> {
-    let point = id(rt, alloc, point);
-    let row = row_of(alloc, words).expect(rt, words);
-    let made = machine.step(Step::Install { point, row });
-    made.err().map(|refused| refused.refusal)
-}
-
-/// The answer to a request for a schedule, from midnight on.
-fn written(rt: &impl Abort, alloc: Global, schedule: Composite) -> String {
-    let response = Response::Schedule(ScheduleResponse {
-        connector: 1,
-        start: instant_at(0).expect(rt, "error"),
-        unit: Unit::A,
-        schedule,
-    });
-    write_response(alloc, "1", &response).expect(rt, "error")
-}
-
-const BEFORE_THE_PERIODS: &str =
-    r#"[3,"1",{"status":"Accepted","connectorId":1,"scheduleStart":"2025-01-01T00:00:00Z","chargingSchedule":{"duration":1769472,"chargingRateUnit":"A","chargingSchedulePeriod":["#;
-
-/// The same by hand: 4,096 periods of 432 seconds, of 6 A and 10 A by turns.
-fn written_by_hand(rt: &impl Abort, alloc: Global) -> String {
-    let mut text = String::from_str(alloc, BEFORE_THE_PERIODS).expect(rt, "error");
-    for index in 0..4_096u32 {
-        let comma = if index > 0 { "," } else { "" };
-        let limit = if index % 2 == 0 { "6.0" } else { "10.0" };
-        let start = index.saturating_mul(432);
-        write!(
-            &mut text,
-            r#"{comma}{{"startPeriod":{start},"limit":{limit}}}"#
-        )
-        .expect(rt, "error");
-    }
-    text.push_str("]}}]").expect(rt, "error");
-    text
-}
-
-const BY_TURNS: &str = "kind=Recurring recurrency=Daily start=0 turns=432";
-
-/// A limit changes every 432 seconds: for 4,096 times that a schedule is answered, and for no second more.
-#[test]
-fn an_answer_has_4096_periods(rt: HostRuntime) {
-    let mut machine = machine(&rt, rt.alloc(), SITE);
-    let refusal = install(&rt, rt.alloc(), &mut machine, "CP1", BY_TURNS);
-    holds(&rt, refusal.is_none(), "installed");
-    let answered = answer(&rt, rt.alloc(), &mut machine, "CP1", (1, 1_769_472));
-    let found = written(&rt, rt.alloc(), answered.expect(&rt, "error"));
-    let wanted = written_by_hand(&rt, rt.alloc());
-    same_text(&rt, found.as_str(), wanted.as_str(), "the longest");
-    for duration in [1_769_473, 2_678_400] {
-        let refusal = answer(&rt, rt.alloc(), &mut machine, "CP1", (1, duration)).err();
-        holds(&rt, refusal == Some(Refusal::ResultTooLong), "too long");
-    }
+    run(&rt, rt.alloc(), &mut machine, "CP1 status = None 1280000");
 }
 
 /// As long as an identity may be, of the last of the most points.
 const LAST_POINT: &str = "000000000000000000000000000000000000000000000999";
 
+/// Makes a step of words at the last point.
+fn make(rt: &impl Abort, alloc: Global, machine: &mut Machine, words: &str) -> &'static str {
+    let line = format!(in alloc; "{LAST_POINT} {words}").expect(rt, "error");
+    comes_to(machine, &step(rt, alloc, line.as_str())).0
+}
+
 fn start(rt: &impl Abort, alloc: Global, machine: &mut Machine, connector: u32) {
-    let start = Step::Start {
-        point: id(rt, alloc, LAST_POINT),
-        connector,
-        begin: begin_of(alloc, LONGEST_TAG, 0, 0).expect(rt, "error"),
-    };
-    let started = matches!(machine.step(start), Ok(Reply::Started(_)));
-    holds(rt, started, "a start");
+    let words = format!(in alloc; "start {LONGEST_TAG} {connector} 0").expect(rt, "error");
+    let said = make(rt, alloc, machine, words.as_str());
+    same_text(rt, said, "Started", "a start");
 }
 
 fn install_level(rt: &impl Abort, alloc: Global, machine: &mut Machine, id: u32) {
     let (connector, level) = (id / 100, id % 100);
-    let words = format!(in alloc; "id={id} connector={connector} level={level} turns=60").expect(
-        rt, "error",
-    );
-    let refusal = install(rt, alloc, machine, LAST_POINT, words.as_str());
-    holds(rt, refusal.is_none(), "installed");
+    let words = format!(in alloc; "install id={id} connector={connector} level={level} turns=60");
+    let said = make(rt, alloc, machine, words.expect(rt, "error").as_str());
+    same_text(rt, said, "Accepted", "an install");
 }
 
 /// The answer of a connector of the last point for 200 minutes has 200 periods, of which the first
@@ -206,14 +138,31 @@ fn expect_minutes(
     rt: &impl Abort,
     alloc: Global,
     machine: &mut Machine,
-    connector: u32,
+    (number, connector): (u64, u32),
     limits: [u32; 3],
 ) {
-    let answered = answer(rt, alloc, machine, LAST_POINT, (connector, 12_000));
-    let schedule = answered.expect(rt, "error");
-    same(rt, schedule.periods().len() as u64, 200, "periods");
-    for (period, limit) in schedule.periods().iter().zip(limits) {
-        same(rt, u64::from(period.limit), u64::from(limit), "a limit");
+    let words = format!(in alloc; "take {connector} 0 12000").expect(rt, "error");
+    same_text(
+        rt,
+        make(rt, alloc, machine, words.as_str()),
+        "Taken",
+        "a take",
+    );
+    let compiled = comes_to(machine, &Step::Compile(number));
+    same_said(rt, compiled, ("Compiled", None), "a compiling");
+    match machine.make(&Step::Answer(number)) {
+        Ok(
+            Reply::Answered {
+                answer: Ok(schedule),
+                ..
+            },
+        ) => {
+            same(rt, schedule.periods().len() as u64, 200, "periods");
+            for (period, limit) in schedule.periods().iter().zip(limits) {
+                same(rt, u64::from(period.limit), u64::from(limit), "a limit");
+            }
+        }
+        _ => rt.panic("no schedule"),
     }
 }
 
@@ -223,16 +172,16 @@ fn expect_minutes(
 #[test]
 fn a_point_has_the_most_of_all(rt: HostRuntime) {
     let text = site_text(rt.alloc(), 1_000, 64, 48).expect(&rt, "error");
-    let mut machine = machine(&rt, rt.alloc(), text.as_str());
+    let site = read_site(rt.alloc(), text.as_str().as_bytes()).expect(&rt, "error");
+    let mut machine = Machine::new(rt.alloc(), site).expect(&rt, "error");
     for connector in 1..65u32 {
         start(&rt, rt.alloc(), &mut machine, connector);
     }
     for id in 0..200u32 {
         install_level(&rt, rt.alloc(), &mut machine, id);
     }
-    let one_more = "id=200 connector=64";
-    let refusal = install(&rt, rt.alloc(), &mut machine, LAST_POINT, one_more);
-    holds(&rt, refusal == Some(Refusal::TooManyProfiles), "one more");
-    expect_minutes(&rt, rt.alloc(), &mut machine, 0, [3_840, 6_400, 3_840]);
-    expect_minutes(&rt, rt.alloc(), &mut machine, 64, [60, 100, 60]);
+    let one_more = make(&rt, rt.alloc(), &mut machine, "install id=200 connector=64");
+    same_text(&rt, one_more, Refusal::TooManyProfiles.name(), "one more");
+    expect_minutes(&rt, rt.alloc(), &mut machine, (1, 0), [3_840, 6_400, 3_840]);
+    expect_minutes(&rt, rt.alloc(), &mut machine, (2, 64), [60, 100, 60]);
 }

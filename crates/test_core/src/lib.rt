@@ -1,38 +1,23 @@
-//! Tests of `site_core` and `version_store` from outside, by their public names alone: runs of
-//! steps with what comes of each, and the largest sizes. A charge point obeys its calls and so
-//! stays in step with the machine. The same steps are made as calls on a book, and what a book
-//! stores is compared. They stand here, since a crate with tests of its own is proved twice.
+//! Tests of `site_core` and `version_store` from outside, by their public names alone, of what no table
+//! of `play_steps` shows: refused memory, the largest sizes, numbers at their end, each call of a session
+//! once, and runs at random. They stand here, since a crate with tests of its own is proved twice.
 #![tactic(auto)]
 
-#[cfg(test)]
-mod audits;
 #[cfg(test)]
 mod callers;
 #[cfg(test)]
 mod calls_beside_steps;
 #[cfg(test)]
-mod copied_steps;
+mod calls_of_a_session;
 #[cfg(test)]
 mod largest_sizes;
 #[cfg(test)]
+mod last_numbers;
+#[cfg(test)]
 mod obeying_point;
 #[cfg(test)]
-mod outboxes;
-#[cfg(test)]
-mod posted_answers;
-#[cfg(test)]
-mod random_run;
+mod played;
 #[cfg(test)]
 mod refused_memory;
 #[cfg(test)]
-mod remote_starts;
-#[cfg(test)]
-mod runs;
-#[cfg(test)]
 mod same;
-#[cfg(test)]
-mod scripted_calls;
-#[cfg(test)]
-mod scripted_steps;
-#[cfg(test)]
-mod stored_histories;

@@ -17,51 +17,28 @@ impl RandomNumbers {
         self.state = product.wrapping_add(1_013_904_223);
         (self.state >> 24) as u8 % limit.max(1)
     }
-
-    /// Keys of a few, some of which no point may have.
-    pub(crate) fn keys(&mut self) -> Keys {
-        let purpose = match self.below(3) {
-            0 => Purpose::ChargePointMaxProfile,
-            1 => Purpose::TxProfile,
-            _ => Purpose::TxDefaultProfile,
-        };
-        Keys {
-            id: i32::from(self.below(4)),
-            connector: u32::from(self.below(3)),
-            purpose,
-            level: u32::from(self.below(3)),
-        }
-    }
-
-    /// Criteria of such keys, each given one time of three.
-    pub(crate) fn criteria(&mut self) -> Criteria {
-        let keys = self.keys();
-        Criteria {
-            id: self.maybe(keys.id),
-            connector: self.maybe(keys.connector),
-            purpose: self.maybe(keys.purpose),
-            stack_level: self.maybe(keys.level),
-        }
-    }
-
-    fn maybe<T: Copy>(&mut self, value: T) -> Option<T> {
-        match self.below(3) {
-            0 => Some(value),
-            _ => None,
-        }
-    }
 }
 
 /// What tells the rows of a point apart: all of a row but its moment and its limits.
 #[derive(Clone, Copy, PartialEq, Eq)]
 pub(crate) struct Keys {
-    pub(crate) id: i32,
-    pub(crate) connector: u32,
-    pub(crate) purpose: Purpose,
-    pub(crate) level: u32,
+    id: i32,
+    connector: u32,
+    purpose: Purpose,
+    level: u32,
 }
 
 impl Keys {
+    /// Of a default of the whole point.
+    pub(crate) fn of_before() -> Keys {
+        Keys {
+            id: 1,
+            connector: 0,
+            purpose: Purpose::TxDefaultProfile,
+            level: 0,
+        }
+    }
+
     fn of(connector: u32, profile: &Profile) -> Keys {
         Keys {
             id: profile.id,

@@ -1,91 +1,56 @@
 //! What is done at a machine and at a book where memory is refused: `tests/program.py` refuses each
-//! allocation of these tests in turn. A refused step or call changes nothing, and has its answer
-//! when it is made once more.
-//!
-//! The lines are those of `scripted_steps.rt`. Behind the first limit that is answered stand all
-//! periods of the schedule, as `0:60,30:160`. `CP1 judge 2 160` keeps the verdict on what the point
-//! says of call 2: 16.0 amperes.
+//! allocation of these tests in turn. A refused step or call changes nothing, and has its outcome
+//! when it is made once more. What an answer then is stands in the tables of `play_steps`.
 
 ghost use Rattle.std.specs.Prelude.{◌≡◌};
 
-use crate::audits::{elsewhere, judged, judging, schedule};
-use crate::calls_beside_steps::read_machine;
-use crate::runs::comes_to;
-use crate::same::{holds, same, same_outcome};
-use crate::scripted_calls::Desk;
-use crate::scripted_steps::{parts_of, reply_words, run, step_of};
-use crate::stored_histories::made;
-use meaning::{Composite, CompositePeriod};
+use crate::played::{comes_to, opening, parts_of, run, site, step, with_memory};
+use crate::same::{holds, same, same_said};
 use ocpp_scalars::Refusal;
-use site_core::{Machine, PointId, Reply, Step};
-use site_rules::{Site, read_site};
+use site_core::{Machine, Outcome, PointId, RunFault, Step};
 use std::alloc::Global;
 use std::marker::Brand;
 use std::process::Abort;
 use std::sync::ledger::{Blank, Ledger};
+use step_words::{Said, Sides, judging, said_of};
 use test_books::Words;
-
-const SITE: &str =
-    r#"{"unit":"A","points":[{"id":"CP1","ceiling":63.0,"connectors":[32.0,32.0]}]}"#;
-
-fn site(rt: &impl Abort, alloc: Global) -> Site {
-    read_site(alloc, SITE.as_bytes()).expect(rt, "error")
-}
-
-// ---- what is done
-
-const OF_A_PROFILE: &str = "\
-CP1 install 160 = Accepted
-CP1 ask 1 10 3600 = Taken 1
-- compile 1 = Compiled
-- answer 1 = limit 160 0:160
-CP1 status = None 1002";
+use version_store::Totals;
 
 /// What precedes a compiling.
 const UP_TO_THE_REQUEST: &str = "\
-CP1 install 160 = Accepted
-CP1 ask 1 10 3600 = Taken 1";
+CP1 install periods=0:100 = Accepted
+CP1 take 1 10 3600 = Taken 1";
 
 /// A transaction has a profile of its own above a default, until it ends.
 const OF_A_TRANSACTION: &str = "\
-CP1 start 1 = Started 1
-CP1 row id=1 connector=1 purpose=TxProfile kind=Relative duration=120 periods=0:60,60:160 = Accepted
-CP1 row id=2 start=0 periods=0:100 = Accepted
-CP1 ask 1 30 200 = Taken 1
+CP1 start ann 1 0 = Started 1
+CP1 install id=1 connector=1 purpose=TxProfile kind=Relative duration=120 periods=0:60,60:160 = Accepted
+CP1 install id=2 start=0 periods=0:100 = Accepted
+CP1 take 1 30 200 = Taken 1
 - compile 1 = Compiled
-- answer 1 = limit 60 0:60,30:160,90:100
+- answer 1 = limit 60
 CP1 stop 1 = Ended
-CP1 ask 1 30 200 = Taken 2
+CP1 take 1 30 200 = Taken 2
 - compile 2 = Compiled
-- answer 2 = limit 100 0:100
+- answer 2 = limit 100
 CP1 status = None 4003";
 
 /// A request is held while its profile is cleared.
 const OF_A_HELD_REQUEST: &str = "\
-CP1 install 160 = Accepted
-CP1 ask 1 10 60 = Taken 1
+CP1 install periods=0:100 = Accepted
+CP1 take 1 10 60 = Taken 1
 CP1 clear = Accepted
 - answer 1 = NotYet
 - compile 1 = Compiled
-- answer 1 = limit 160 0:160
-CP1 ask 1 20 60 = Taken 2
+- answer 1 = limit 100
+CP1 take 1 20 60 = Taken 2
 - compile 2 = Compiled
-- answer 2 = limit 320 0:320
+- answer 2 = limit 160
 - answer 1 = UnknownRequest
 CP1 status = None 2003";
 
-const OF_CALLS: &str = "\
-CP1 install 160 = Accepted
-CP1 attach = Attached 1
-CP1 send 1 = Sent 0
-CP1 confirm 1 0 = Confirmed
-CP1 send 1 = Sent 1
-CP1 confirm 1 1 = Confirmed
-CP1 send 1 = Nothing
-CP1 status = None 1000";
-
 const OF_AN_AUDIT: &str = "\
-CP1 install 160 = Accepted
+CP1 install periods=0:100 = Accepted
 CP1 audit 1 60 = Audited 2
 CP1 status = Waiting 1003
 CP1 audit 1 60 = AuditOpen
@@ -96,8 +61,11 @@ CP1 send 1 = Sent 1
 CP1 confirm 1 1 = Confirmed
 CP1 send 1 = Sent 2
 CP1 confirm 1 2 = Confirmed
-CP1 judge 2 160 = VerdictKept
-CP1 status = Agrees 1000";
+CP1 send 1 = Nothing
+CP1 judge 2 100 = VerdictKept
+CP1 status = Agrees 1000
+CP1 lost 1 = LinkLost
+- finish = Finished";
 
 /// A transaction begins with the profile of the remote start that asked for it.
 const OF_A_REMOTE_START: &str = "\
@@ -105,316 +73,383 @@ CP1 attach = Attached 1
 CP1 send 1 = Sent 0
 CP1 confirm 1 0 = Confirmed
 CP1 remote ann 1 id=5 purpose=TxProfile kind=Relative periods=0:60 = Called 1
-CP1 ask 1 10 60 = Taken 1
+CP1 take 1 10 60 = Taken 1
 - compile 1 = Compiled
-- answer 1 = limit 320 0:320
+- answer 1 = limit 160
 CP1 send 1 = Sent 1
 CP1 confirm 1 1 = Confirmed
-CP1 begin ann 1 10 = Started 1
-CP1 ask 1 10 10 = Taken 2
+CP1 start ann 1 10 = Started 1
+CP1 take 1 10 10 = Taken 2
 - compile 2 = Compiled
-- answer 2 = limit 60 0:60
+- answer 2 = limit 60
 CP1 status = None 1000";
 
 /// What leads to an equal audit at another machine.
 const UP_TO_THE_AUDIT: &str = "\
-CP1 install 160 = Accepted
+CP1 install periods=0:100 = Accepted
 CP1 audit 1 60 = Audited 2";
 
-// ---- its steps and its answers
+// ---- what is done, before memory is refused to any of it
 
-/// The verdict on what a point says of the audit of a call: its limit, in words.
-fn verdict(rt: &impl Abort, alloc: Global, point: &str, mut words: Words<'_>) -> Step {
-    let call = words.long().expect(rt, "no call");
-    let limit = words.number().expect(rt, "no limit");
-    let job = elsewhere(rt, alloc, SITE, UP_TO_THE_AUDIT, call);
-    let judged = judged(rt, alloc, &job, schedule(rt, alloc, limit));
-    judging(rt, alloc, point, call, judged)
-}
-
-fn prepared_step(rt: &impl Abort, alloc: Global, text: &str) -> Step {
-    let mut words = Words::of(text);
-    let point = words.word();
-    match words.word() {
-        "judge" => verdict(rt, alloc, point, words),
-        _ => step_of(rt, alloc, text),
+/// The verdict on an equal audit of another machine.
+fn verdict(rt: &impl Abort, alloc: Global, lines: &str, words: &str) -> Step {
+    let mut machine = opening(rt, alloc);
+    run(rt, alloc, &mut machine, lines);
+    let mut parts = Words::of(words);
+    let point = parts.word();
+    parts.word();
+    let call = parts.long().expect(rt, "no call");
+    let job = machine
+        .audit_job(point, call)
+        .expect(rt, "error")
+        .expect(rt, "no audit");
+    let judge = judging(alloc, &job, words).expect(rt, "error");
+    if let Step::Judge { judged, .. } = &judge {
+        holds(rt, !judged.short(), "error: OutOfMemory");
     }
+    judge
 }
 
-/// The steps of lines, made before memory is refused to any of them.
+fn prepared_step(rt: &impl Abort, alloc: Global, line: &str) -> Step {
+    let (words, _) = parts_of(rt, line);
+    if words.starts_with("CP1 judge 2") {
+        return verdict(rt, alloc, UP_TO_THE_AUDIT, words);
+    }
+    step(rt, alloc, words)
+}
+
 fn prepared_steps(rt: &impl Abort, alloc: Global, lines: &str) -> Vec<Step> {
     let mut steps = Vec::new(alloc);
     for line in lines.lines() {
-        let (words, _) = parts_of(rt, line);
-        let step = prepared_step(rt, alloc, words);
-        steps.push(step).ok().expect(rt, "error: OutOfMemory");
+        let prepared = prepared_step(rt, alloc, line);
+        steps.push(prepared).ok().expect(rt, "error: OutOfMemory");
     }
     steps
 }
 
-/// Whether a period is that of `30:160`, its start and its limit.
-fn is_period(period: &CompositePeriod, word: &str) -> bool {
-    let (start, limit) = word.split_once(':').unwrap_or((word, ""));
-    start.parse::<u32>().ok() == Some(period.start)
-        && limit.parse::<u32>().ok() == Some(period.limit)
+// ---- again
+
+/// What a refused step leaves as it was.
+fn read_machine(machine: &Machine) -> (u64, usize, usize, Option<u64>) {
+    let calls = machine.outbox_len("CP1");
+    (
+        machine.version(),
+        machine.open_requests(),
+        calls,
+        machine.link_of("CP1"),
+    )
 }
 
-/// The periods of a line that is answered by a schedule.
-fn periods_of<'a>(rt: &impl Abort, line: &'a str) -> &'a str {
-    let (_, wanted) = line.split_once(" = limit ").expect(rt, line);
-    let mut words = Words::of(wanted);
-    words.word();
-    words.rest()
+/// What a refused call leaves as it was, beside the book's state.
+fn read_book<C: Ledger, A: Ledger>(sides: &Sides<C, A>) -> (usize, Totals, (Totals, u64)) {
+    let pass = (sides.pass.totals(), sides.pass.seen());
+    (sides.book.stored(), sides.book.totals(), pass)
 }
 
-/// There is a next period, and it is that of a word.
-fn next_is(rt: &impl Abort, period: Option<&CompositePeriod>, word: &str, line: &str) {
-    match period {
-        Some(period) => holds(rt, is_period(period, word), line),
-        None => rt.panic(line),
+/// What comes of a step on the machine, made again where memory was refused to it.
+fn on_machine<C: Ledger, A: Ledger>(rt: &impl Abort, sides: &mut Sides<C, A>, step: &Step) -> Said {
+    let before = read_machine(&sides.machine);
+    match sides.on_machine(step) {
+        ("OutOfMemory", None) => {
+            holds(
+                rt,
+                read_machine(&sides.machine) == before,
+                "what a refusal leaves",
+            );
+            sides.on_machine(step)
+        }
+        said => said,
     }
 }
 
-/// A schedule has the periods of a line, and no more.
-fn has_periods(rt: &impl Abort, schedule: &Composite, line: &str) {
-    let mut periods = schedule.periods().iter();
-    for word in periods_of(rt, line).split(',') {
-        next_is(rt, periods.next(), word, line);
-    }
-    holds(rt, periods.next().is_none(), line);
-}
-
-/// What came of a line's step, in words. A compiling that was refused memory answers so.
-fn told(rt: &impl Abort, said: (&'static str, u64), line: &str) {
-    let (_, wanted) = parts_of(rt, line);
-    if said != (Refusal::OutOfMemory.name(), 1) {
-        same_outcome(rt, said, wanted, line);
-    }
-}
-
-// ---- on a machine
-
-/// What comes of a step. A refused one changes nothing, and where that is for lack of memory, it is
-/// made again.
-fn step_again(rt: &impl Abort, machine: &mut Machine, step: Step) -> Result<Reply, Refusal> {
-    let before = read_machine(machine);
-    match machine.step(step) {
-        Ok(reply) => Ok(reply),
+/// What comes of a call on the book, made again with what comes back where memory was refused to it.
+fn on_book<C: Ledger, A: Ledger>(rt: &impl Abort, sides: &mut Sides<C, A>, step: Step) -> Said {
+    let state = read_machine(sides.book.present());
+    let before = read_book(sides);
+    match sides.on_book(step) {
+        Ok(said) => said,
         Err(refused) => {
-            holds(rt, read_machine(machine) == before, "what a refusal leaves");
+            holds(
+                rt,
+                read_machine(sides.book.present()) == state,
+                "what a refusal leaves",
+            );
+            holds(rt, read_book(sides) == before, "what a refusal leaves");
             if refused.refusal != Refusal::OutOfMemory {
-                return Err(refused.refusal);
+                return (refused.refusal.name(), None);
             }
-            match machine.step(refused.step) {
-                Ok(reply) => Ok(reply),
-                Err(again) => Err(again.refusal),
+            match sides.on_book(refused.step) {
+                Ok(said) => said,
+                Err(again) => (again.refusal.name(), None),
             }
         }
     }
 }
 
-fn play_step(rt: &impl Abort, machine: &mut Machine, step: Step, line: &str) {
-    match step_again(rt, machine, step) {
-        Ok(reply) => {
-            told(rt, reply_words(&reply), line);
-            if let Reply::Answered {
-                answer: Ok(schedule),
-                ..
-            } = &reply
-            {
-                has_periods(rt, schedule, line);
-            }
-        }
-        Err(refusal) => told(rt, (refusal.name(), 0), line),
+/// What came of a line's step. A compiling that was refused memory answers so.
+fn told(rt: &impl Abort, said: Said, line: &str) {
+    let (_, wanted) = parts_of(rt, line);
+    match said {
+        ("OutOfMemory", Some(1)) => holds(rt, wanted.0 == "limit", line),
+        said => same_said(rt, said, wanted, line),
     }
 }
 
-/// Makes the steps of lines on a new machine. Each request has its answer in the end.
-fn play_on_a_machine(rt: &impl Abort, alloc: Global, lines: &str) {
-    let mut machine = Machine::new(alloc, site(rt, alloc)).expect(rt, "error");
-    let steps = prepared_steps(rt, alloc, lines);
+fn play_step<C: Ledger, A: Ledger>(
+    rt: &impl Abort,
+    sides: &mut Sides<C, A>,
+    step: Step,
+    line: &str,
+) {
+    told(rt, on_machine(rt, sides, &step), line);
+    told(rt, on_book(rt, sides, step), line);
+}
+
+/// Each request has its answer in the end.
+fn play_lines<C: Ledger, A: Ledger>(rt: &impl Abort, sides: &mut Sides<C, A>, lines: &str) {
+    let steps = prepared_steps(rt, sides.alloc, lines);
     for (step, line) in steps.into_iter().zip(lines.lines()) {
-        play_step(rt, &mut machine, step, line);
+        play_step(rt, sides, step, line);
     }
-    same(rt, machine.open_requests() as u64, 0, "open requests");
+    same(rt, sides.book.open_requests() as u64, 0, "open requests");
+    holds(rt, sides.is_one(), "both sides");
+    holds(rt, sides.book.totals() == sides.pass.totals(), "totals");
 }
-
-#[test]
-fn a_profile_on_a_machine(rt: HostRuntime) {
-    play_on_a_machine(&rt, rt.alloc(), OF_A_PROFILE);
-}
-
-#[test]
-fn a_transaction_on_a_machine(rt: HostRuntime) {
-    play_on_a_machine(&rt, rt.alloc(), OF_A_TRANSACTION);
-}
-
-#[test]
-fn a_held_request_on_a_machine(rt: HostRuntime) {
-    play_on_a_machine(&rt, rt.alloc(), OF_A_HELD_REQUEST);
-}
-
-#[test]
-fn calls_on_a_machine(rt: HostRuntime) {
-    play_on_a_machine(&rt, rt.alloc(), OF_CALLS);
-}
-
-#[test]
-fn an_audit_on_a_machine(rt: HostRuntime) {
-    play_on_a_machine(&rt, rt.alloc(), OF_AN_AUDIT);
-}
-
-#[test]
-fn a_remote_start_on_a_machine(rt: HostRuntime) {
-    play_on_a_machine(&rt, rt.alloc(), OF_A_REMOTE_START);
-}
-
-// ---- a compiling without memory
-
-/// What an allocation gave before a compiling, and what came of that compiling. From the first
-/// allocation that is refused on, all are. So without memory before it, the answer is just that.
-fn answered(rt: &impl Abort, spare: &Option<PointId>, said: (&'static str, u64)) {
-    let is_short = said == (Refusal::OutOfMemory.name(), 1);
-    let is_schedule = spare.is_some() && said == ("limit", 160);
-    holds(rt, is_short || is_schedule, said.0);
-}
-
-fn spare_point(alloc: Global) -> Option<PointId> {
-    PointId::copied(alloc, "CP1").ok()
-}
-
-/// The step that the memory before the compiling was for, if there was any.
-fn status_of(spare: Option<PointId>) -> Step {
-    match spare {
-        Some(point) => Step::Status(point),
-        None => Step::Finish,
-    }
-}
-
-fn status_is(rt: &impl Abort, said: (&'static str, u64)) {
-    let is_told = said == ("None", 1_002) || said == ("Finished", 0);
-    holds(rt, is_told, said.0);
-}
-
-/// `tests/program.py` refuses all allocations from each one on.
-#[test]
-fn a_compiling_without_memory_on_a_machine(rt: HostRuntime) {
-    let mut machine = Machine::new(rt.alloc(), site(&rt, rt.alloc())).expect(&rt, "error");
-    run(&rt, rt.alloc(), &mut machine, UP_TO_THE_REQUEST);
-    let spare = spare_point(rt.alloc());
-    let compiled = comes_to(&mut machine, Step::Compile(1));
-    same_outcome(&rt, compiled, ("Compiled", 0), "a compiling");
-    answered(&rt, &spare, comes_to(&mut machine, Step::Answer(1)));
-    status_is(&rt, comes_to(&mut machine, status_of(spare)));
-    same(&rt, machine.open_requests() as u64, 0, "open requests");
-}
-
-/// The answer counts as any other.
-fn compile_without_memory<C: Ledger, A: Ledger>(rt: &impl Abort, desk: &mut Desk<C, A>) {
-    desk.run(rt, UP_TO_THE_REQUEST);
-    let spare = spare_point(desk.alloc);
-    let compiled = desk.comes_to(Step::Compile(1));
-    same_outcome(rt, compiled, ("Compiled", 0), "a compiling");
-    answered(rt, &spare, desk.comes_to(Step::Answer(1)));
-    status_is(rt, desk.comes_to(status_of(spare)));
-    same(rt, desk.book.totals().answers, 1, "answers");
-    same(rt, desk.pass.totals().answers, 1, "the pass's answers");
-}
-
-// ---- on a book
 
 /// What is done at a new book.
 #[derive(Clone, Copy)]
 enum Story {
     Lines(&'static str),
-    CompilingWithoutMemory,
+    /// The first lines come before as many links as are stored, and the last folds them.
+    Fold(&'static str, &'static str),
 }
 
-/// The answer that was handed out last, where it is a schedule, has the periods of a line.
-fn handed_out<C: Ledger, A: Ledger>(rt: &impl Abort, desk: &mut Desk<C, A>, line: &str) {
-    if let Some(answer) = desk.answered.take() {
-        if let Ok(schedule) = answer.answer() {
-            has_periods(rt, schedule, line);
-        }
-    }
-}
-
-fn play_call<C: Ledger, A: Ledger>(rt: &impl Abort, desk: &mut Desk<C, A>, step: Step, line: &str) {
-    let (words, _) = parts_of(rt, line);
-    let said = made(rt, desk, step, words);
-    told(rt, said, line);
-    handed_out(rt, desk, line);
-}
-
-/// Makes the calls of lines. Each request has its answer in the end.
-fn play_calls<C: Ledger, A: Ledger>(rt: &impl Abort, desk: &mut Desk<C, A>, lines: &str) {
-    let steps = prepared_steps(rt, desk.alloc, lines);
-    for (step, line) in steps.into_iter().zip(lines.lines()) {
-        play_call(rt, desk, step, line);
-    }
-    same(rt, desk.book.open_requests() as u64, 0, "open requests");
-    holds(rt, desk.book.totals() == desk.pass.totals(), "totals");
-}
-
-fn tell<C: Ledger, A: Ledger>(
+fn tell_at<C: Ledger, A: Ledger>(
     rt: &impl Abort,
     alloc: Global,
     changes: Blank,
     answers: Blank,
     story: Story,
 )
-    requires changes { (changes.name ≡ C.name) × (changes.parts ≡ C.parts)
-        × (changes.parts ≡ 1) }
-    requires answers { (answers.name ≡ A.name) × (answers.parts ≡ A.parts)
-        × (answers.parts ≡ 1) }
+    requires changes { (changes.name ≡ C.name) × (changes.parts ≡ C.parts) × (changes.parts ≡ 1) }
+    requires answers { (answers.name ≡ A.name) × (answers.parts ≡ A.parts) × (answers.parts ≡ 1) }
 {
-    let mut desk: Desk<C, A> = Desk::of_site(rt, alloc, changes, answers, site(rt, alloc));
+    let sides = Sides::<C, A>::new(alloc, changes, answers, site(rt, alloc));
+    let mut sides = sides.expect(rt, "error");
     match story {
-        Story::Lines(lines) => play_calls(rt, &mut desk, lines),
-        Story::CompilingWithoutMemory => compile_without_memory(rt, &mut desk),
+        Story::Lines(lines) => play_lines(rt, &mut sides, lines),
+        Story::Fold(before, line) => fold(rt, &mut sides, before, line),
     }
 }
 
-fn tell_on_a_book(rt: &impl Abort, alloc: Global, story: Story) {
-    tell::<Brand, Brand>(rt, alloc, Blank::new(1), Blank::new(1), story);
-}
-
-fn play_on_a_book(rt: &impl Abort, alloc: Global, lines: &'static str) {
-    tell_on_a_book(rt, alloc, Story::Lines(lines));
+fn tell(rt: &impl Abort, alloc: Global, story: Story) {
+    tell_at::<Brand, Brand>(rt, alloc, Blank::new(1), Blank::new(1), story);
 }
 
 #[test]
-fn a_profile_on_a_book(rt: HostRuntime) {
-    play_on_a_book(&rt, rt.alloc(), OF_A_PROFILE);
+fn a_transaction(rt: HostRuntime) {
+    tell(&rt, rt.alloc(), Story::Lines(OF_A_TRANSACTION));
 }
 
 #[test]
-fn a_transaction_on_a_book(rt: HostRuntime) {
-    play_on_a_book(&rt, rt.alloc(), OF_A_TRANSACTION);
+fn a_held_request(rt: HostRuntime) {
+    tell(&rt, rt.alloc(), Story::Lines(OF_A_HELD_REQUEST));
 }
 
 #[test]
-fn a_held_request_on_a_book(rt: HostRuntime) {
-    play_on_a_book(&rt, rt.alloc(), OF_A_HELD_REQUEST);
+fn an_audit(rt: HostRuntime) {
+    tell(&rt, rt.alloc(), Story::Lines(OF_AN_AUDIT));
 }
 
 #[test]
-fn calls_on_a_book(rt: HostRuntime) {
-    play_on_a_book(&rt, rt.alloc(), OF_CALLS);
+fn a_remote_start(rt: HostRuntime) {
+    tell(&rt, rt.alloc(), Story::Lines(OF_A_REMOTE_START));
+}
+
+// ---- folds
+
+/// The call of a line on the book, as a step that prepares a test.
+fn call<C: Ledger, A: Ledger>(rt: &impl Abort, sides: &mut Sides<C, A>, line: &str) {
+    let (words, wanted) = parts_of(rt, line);
+    match sides.on_book(step(rt, sides.alloc, words)) {
+        Ok(said) => same_said(rt, with_memory(rt, said), wanted, line),
+        Err(refused) => rt.panic(format_args!("error: {:?}", refused.refusal)),
+    }
+}
+
+fn attach<C: Ledger, A: Ledger>(rt: &impl Abort, sides: &mut Sides<C, A>) {
+    let attach = step(rt, sides.alloc, "CP2 attach");
+    if let Err(refused) = sides.on_book(attach) {
+        rt.panic(format_args!("error: {:?}", refused.refusal));
+    }
+}
+
+/// The step of a line folds 3,900 events, and a take comes after it.
+fn fold<C: Ledger, A: Ledger>(rt: &impl Abort, sides: &mut Sides<C, A>, before: &str, line: &str) {
+    for line in before.lines() {
+        call(rt, sides, line);
+    }
+    let (words, _) = parts_of(rt, line);
+    let folding = match words.starts_with("CP1 judge") {
+        true => verdict(rt, sides.alloc, before, words),
+        false => step(rt, sides.alloc, words),
+    };
+    let next = step(rt, sides.alloc, "CP1 take 1 0 60");
+    for _ in sides.book.stored()..3_900 {
+        attach(rt, sides);
+    }
+    told(rt, on_book(rt, sides, folding), line);
+    same(rt, sides.book.stored() as u64, 1, "after the fold");
+    let taken = on_book(rt, sides, next);
+    same_said(rt, taken, ("Taken", Some(1)), "a take");
+    same(rt, sides.book.stored() as u64, 2, "after the take");
+}
+
+/// Passes whichever allocation of the two last calls is refused, the first of which folds.
+#[test]
+fn an_install_folds(rt: HostRuntime) {
+    let story = Story::Fold("", "CP1 install periods=0:100 = Accepted");
+    tell(&rt, rt.alloc(), story);
 }
 
 #[test]
-fn an_audit_on_a_book(rt: HostRuntime) {
-    play_on_a_book(&rt, rt.alloc(), OF_AN_AUDIT);
+fn a_start_folds(rt: HostRuntime) {
+    tell(
+        &rt,
+        rt.alloc(),
+        Story::Fold("", "CP1 start ann 1 0 = Started 1"),
+    );
 }
 
 #[test]
-fn a_remote_start_on_a_book(rt: HostRuntime) {
-    play_on_a_book(&rt, rt.alloc(), OF_A_REMOTE_START);
+fn an_audit_folds(rt: HostRuntime) {
+    tell(
+        &rt,
+        rt.alloc(),
+        Story::Fold("", "CP1 audit 1 60 = Audited 1"),
+    );
+}
+
+#[test]
+fn a_verdict_folds(rt: HostRuntime) {
+    let audit = "CP1 audit 1 60 = Audited 1";
+    tell(
+        &rt,
+        rt.alloc(),
+        Story::Fold(audit, "CP1 judge 1 160 = VerdictKept"),
+    );
+}
+
+// ---- runs
+
+const FOUR_TAKES: &str = "\
+CP1 take 1 0 60 = Taken 1
+CP1 take 1 0 60 = Taken 2
+CP1 take 1 0 60 = Taken 3
+CP1 take 1 0 60 = Taken 4";
+
+/// The outcomes of a run of as many steps. Where memory is refused to it, none of them was made,
+/// and all come back and are run again.
+fn run_again(rt: &impl Abort, machine: &mut Machine, steps: Vec<Step>) -> Vec<Outcome> {
+    let count = steps.len();
+    match machine.run(steps) {
+        Ok(outcomes) => outcomes,
+        Err(RunFault { steps }) => {
+            same(
+                rt,
+                steps.len() as u64,
+                count as u64,
+                "the steps that come back",
+            );
+            same(rt, machine.open_requests() as u64, 0, "what a fault leaves");
+            machine.run(steps).ok().expect(rt, "no memory")
+        }
+    }
+}
+
+/// What came of one of four takes. Where memory was refused to it, the other three are made, and it
+/// is made now.
+fn take_said(rt: &impl Abort, machine: &mut Machine, outcome: Outcome) -> Said {
+    match outcome {
+        Outcome::Done(reply) => said_of(&reply),
+        Outcome::Refused(refused) => {
+            same(rt, machine.open_requests() as u64, 3, "open requests");
+            match machine.step(refused.step) {
+                Ok(reply) => said_of(&reply),
+                Err(again) => (again.refusal.name(), None),
+            }
+        }
+    }
+}
+
+/// Where memory is refused to a run, none of its steps was made; where it is refused to one of
+/// them, the others are made.
+#[test]
+fn a_run_goes_on(rt: HostRuntime) {
+    let mut machine = opening(&rt, rt.alloc());
+    let steps = prepared_steps(&rt, rt.alloc(), FOUR_TAKES);
+    let outcomes = run_again(&rt, &mut machine, steps);
+    let mut number = 0u64;
+    for outcome in outcomes {
+        let is_done = matches!(outcome, Outcome::Done(_));
+        let wanted = if is_done { number.saturating_add(1) } else { 4 };
+        let said = take_said(&rt, &mut machine, outcome);
+        same_said(&rt, said, ("Taken", Some(wanted)), "a take");
+        number = if is_done { wanted } else { number };
+    }
+    same(&rt, machine.open_requests() as u64, 4, "open requests");
+}
+
+// ---- steps that want no memory
+
+/// Steps that make way for those below, which are no events.
+const BEFORE: &str = "\
+CP1 start ann 1 0 = Started 1
+CP1 attach = Attached 1
+CP1 send 1 = Sent 0
+CP1 confirm 1 0 = Confirmed";
+
+const WITHOUT_AN_EVENT: &str = "\
+CP1 clear = Unknown
+CP1 start ann 1 0 = Repeated 1
+CP1 stop 2 = NoSuch
+CP1 send 1 = Nothing
+CP1 status = None 1000";
+
+/// A step without an event wants no memory: it has its reply where each allocation is refused, as
+/// `tests/program.py` does from each one on. A take wants some, and shows that it was refused.
+#[test]
+fn a_step_without_an_event_wants_none(rt: HostRuntime) {
+    let mut machine = opening(&rt, rt.alloc());
+    run(&rt, rt.alloc(), &mut machine, BEFORE);
+    let take = step(&rt, rt.alloc(), "CP1 take 1 0 60");
+    let steps = prepared_steps(&rt, rt.alloc(), WITHOUT_AN_EVENT);
+    for (step, line) in steps.iter().zip(WITHOUT_AN_EVENT.lines()) {
+        let said = comes_to(&mut machine, step);
+        same_said(&rt, said, parts_of(&rt, line).1, line);
+    }
+    let taken = comes_to(&mut machine, &take);
+    let is_taken = taken == ("Taken", Some(1)) || taken == ("OutOfMemory", None);
+    holds(&rt, is_taken, taken.0);
+}
+
+/// What an allocation gave before a compiling, and what came of that compiling. From the first
+/// allocation that is refused on, all are. So without memory before it, the answer is just that.
+fn answered(rt: &impl Abort, spare: &Option<PointId>, said: Said) {
+    let is_short = said == ("OutOfMemory", Some(1));
+    let is_schedule = spare.is_some() && said == ("limit", Some(100));
+    holds(rt, is_short || is_schedule, said.0);
 }
 
 /// `tests/program.py` refuses all allocations from each one on.
 #[test]
-fn a_compiling_without_memory_on_a_book(rt: HostRuntime) {
-    tell_on_a_book(&rt, rt.alloc(), Story::CompilingWithoutMemory);
+fn a_compiling_without_memory(rt: HostRuntime) {
+    let mut machine = opening(&rt, rt.alloc());
+    run(&rt, rt.alloc(), &mut machine, UP_TO_THE_REQUEST);
+    let spare = PointId::copied(rt.alloc(), "CP1").ok();
+    let compiled = comes_to(&mut machine, &Step::Compile(1));
+    same_said(&rt, compiled, ("Compiled", None), "a compiling");
+    answered(&rt, &spare, comes_to(&mut machine, &Step::Answer(1)));
+    same(&rt, machine.open_requests() as u64, 0, "open requests");
+    holds(&rt, machine.version() == 1, "version");
 }

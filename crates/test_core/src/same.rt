@@ -11,10 +11,15 @@ pub(crate) fn same_text(rt: &impl Abort, found: &str, wanted: &str, case: &str) 
     assert!(rt; found == wanted, "{case}: {found}, wanted {wanted}");
 }
 
-/// What came of a step: its name, and its number.
-pub(crate) fn same_outcome(rt: &impl Abort, found: (&str, u64), wanted: (&str, u64), case: &str) {
+/// What came of a step: its name, and its number where it has one.
+pub(crate) fn same_said(
+    rt: &impl Abort,
+    found: (&str, Option<u64>),
+    wanted: (&str, Option<u64>),
+    case: &str,
+) {
     same_text(rt, found.0, wanted.0, case);
-    same(rt, found.1, wanted.1, case);
+    holds(rt, found.1 == wanted.1, case);
 }
 
 pub(crate) fn holds(rt: &impl Abort, fact: bool, case: &str) {

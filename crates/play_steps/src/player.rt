@@ -1,0 +1,150 @@
+//! What comes of a line. Beside a step it is one of these:
+//!
+//! - `3893 times CP2 attach`: a step so many times, with what comes of the last
+//! - `CP1 job 1`: reads what the audit of call 1 asked, with its seconds, and keeps it
+//! - `CP1 judge 1 160`, `CP1 refuse 1`, `CP1 garble 1`: keeps the verdict on what the point says to
+//!   what was kept (`judging` of `step_words`)
+//! - `- bring 2 1`: brings for request 1 what was compiled for request 2
+//! - `- version`, `- requests`, `- events`, `- changes`, `- answers`: how far the book is, how many
+//!   requests are kept and events stored, and how many changes and answers are counted
+//! - `CP1 link`: the link over which a call is to be sent; `CP1 starts`: how many starts wait
+//! - `CP1 rows`: how many profiles a point has, and, with the number of a profile, `CP1 transaction 0`
+//!   and `CP1 moment 0`: its transaction, and when it was installed, in seconds from midnight on
+
+use meaning::Composite;
+use profile::Row;
+use site_core::Machine;
+use std::sync::ledger::Ledger;
+use step_words::{Said, Sides, judging, step_of};
+use sweep_compiler::AuditJob;
+use test_books::{MIDNIGHT, Words};
+
+const UNREAD: Said = ("unread words", None);
+
+/// The sides of a table, and what the audit asked that was read last.
+#[derive(Drop)]
+pub(crate) struct Player<C: Ledger, A: Ledger> {
+    pub(crate) sides: Sides<C, A>,
+    pub(crate) job: Option<AuditJob>,
+}
+
+impl<C: Ledger, A: Ledger> Player<C, A> {
+    /// The schedule that was handed out last.
+    pub(crate) fn answered(&self) -> Option<&Composite> {
+        match &self.sides.answered {
+            Some(answer) => answer.answer().as_ref().ok(),
+            None => None,
+        }
+    }
+
+    /// What comes of a line, nothing of an empty one.
+    pub(crate) fn said(&mut self, line: &str) -> Said {
+        let mut words = Words::of(line);
+        let point = words.word();
+        match words.word() {
+            "" => ("", None),
+            "times" => self.repeated(point, words.rest()),
+            "job" => self.read_job(point, words),
+            "judge" | "refuse" | "garble" => self.judged(line),
+            "bring" => self.brought(words),
+            name => match self.told(point, name, words) {
+                Some(said) => said,
+                None => self.made(line),
+            },
+        }
+    }
+
+    fn made(&mut self, line: &str) -> Said {
+        match step_of(self.sides.alloc, line) {
+            Ok(step) => self.sides.make(step),
+            Err(_) => UNREAD,
+        }
+    }
+
+    fn repeated(&mut self, times: &str, line: &str) -> Said {
+        let mut said = UNREAD;
+        for _ in 0..times.parse::<u32>().unwrap_or(0) {
+            said = self.made(line);
+        }
+        said
+    }
+
+    fn brought(&mut self, mut words: Words<'_>) -> Said {
+        let own = words.long().unwrap_or(0);
+        self.sides.bring_both(own, words.long().unwrap_or(0))
+    }
+
+    fn read_job(&mut self, point: &str, mut words: Words<'_>) -> Said {
+        let call = words.long().unwrap_or(0);
+        let of_machine = self.sides.machine.audit_job(point, call);
+        match (of_machine, self.sides.book.audit_job(point, call)) {
+            (Ok(Some(job)), Ok(Some(other))) if job.same(&other) => {
+                let seconds = u64::from(job.duration());
+                self.job = Some(job);
+                ("job", Some(seconds))
+            }
+            (Ok(None), Ok(None)) => ("none", None),
+            _ => ("the sides differ", None),
+        }
+    }
+
+    fn judged(&mut self, line: &str) -> Said {
+        let Some(job) = &self.job else {
+            return ("no job", None);
+        };
+        match judging(self.sides.alloc, job, line) {
+            Ok(step) => self.sides.make(step),
+            Err(_) => UNREAD,
+        }
+    }
+
+    /// What is told of the sides, if it is a question: a number.
+    fn told(&self, point: &str, name: &str, words: Words<'_>) -> Option<Said> {
+        let book = &self.sides.book;
+        match name {
+            "version" => number(book.version()),
+            "requests" => number(book.open_requests() as u64),
+            "events" => number(book.stored() as u64),
+            "changes" => number(book.totals().changes),
+            "answers" => number(book.totals().answers),
+            name => self.told_of_point(point, name, words),
+        }
+    }
+
+    fn told_of_point(&self, point: &str, name: &str, mut words: Words<'_>) -> Option<Said> {
+        let machine = &self.sides.machine;
+        match name {
+            "link" => Some(link_said(machine.link_to_send(point))),
+            "starts" => number(machine.waiting_of(point).len() as u64),
+            "rows" => number(rows_of(machine, point).len() as u64),
+            name => told_of_row(rows_of(machine, point).get(words.number()? as usize)?, name),
+        }
+    }
+}
+
+fn number(number: u64) -> Option<Said> {
+    Some(("", Some(number)))
+}
+
+fn link_said(link: Option<u64>) -> Said {
+    match link {
+        Some(_) => ("", link),
+        None => ("no link", None),
+    }
+}
+
+/// The profiles that a point has.
+fn rows_of<'a>(machine: &'a Machine, point: &str) -> &'a [Row] {
+    match machine.book_of(point) {
+        Some(book) => book.view().rows,
+        None => &[],
+    }
+}
+
+fn told_of_row(row: &Row, name: &str) -> Option<Said> {
+    match name {
+        "moment" => number(row.moment.seconds().saturating_sub(MIDNIGHT)),
+        "transaction" => number(u64::from(row.profile.transaction?.unsigned_abs())),
+        _ => None,
+    }
+}

@@ -1,0 +1,222 @@
+//! A machine and a book to which the same is done.
+
+ghost use Rattle.std.specs.Prelude.{◌≡◌};
+ghost use Rattle.site_core.specs.Step.{HasAskedConnector};
+
+use crate::said::{Said, said_of, said_of_answer};
+use messages::Call;
+use ocpp_scalars::Refusal;
+use site_core::{Machine, Refused, Reply, Step};
+use site_rules::Site;
+use std::alloc::{AllocError, Global};
+use std::sync::Arc;
+use std::sync::ledger::{Blank, Ledger};
+use sweep_compiler::Compiled;
+use version_store::{Answer, Book, Pass};
+
+/// How many answers are kept until they are posted, at most.
+const ROOM: usize = 128;
+
+/// A machine, and a book with the pass of its one session.
+#[derive(Drop)]
+pub struct Sides<C: Ledger, A: Ledger> {
+    pub alloc: Global,
+    pub machine: Machine,
+    pub book: Book<C, A>,
+    pub pass: Pass<C, A>,
+    /// What was compiled for requests of the book and isn't posted yet, each with the number of its
+    /// request.
+    compiled: Vec<(u64, Compiled)>,
+    /// What is brought where nothing is kept: an answer without a schedule to the last request.
+    spare: Option<Compiled>,
+    /// The answer that the book handed out last, and the call that it sent last.
+    pub answered: Option<Answer>,
+    pub sent: Option<Call>,
+}
+
+impl<C: Ledger, A: Ledger> Sides<C, A> {
+    /// Both as a site is at first.
+    pub fn new(
+        alloc: Global,
+        changes: Blank,
+        answers: Blank,
+        site: Site,
+    ) -> Result<Sides<C, A>, AllocError>
+        requires changes { (changes.name ≡ C.name) × (changes.parts ≡ C.parts)
+            × (changes.parts ≡ 1) }
+        requires answers { (answers.name ≡ A.name) × (answers.parts ≡ A.parts)
+            × (answers.parts ≡ 1) }
+    {
+        let compiled = Vec::with_capacity(alloc, ROOM)?;
+        let (book, mut passes) = Book::make(alloc, changes, answers, site, 1)?;
+        let machine = book.present().copy()?;
+        let Some(pass) = passes.pop() else {
+            return Err(AllocError);
+        };
+        Ok(Sides {
+            alloc,
+            machine,
+            book,
+            pass,
+            compiled,
+            spare: None,
+            answered: None,
+            sent: None,
+        })
+    }
+
+    /// What comes of a step on the machine.
+    pub fn on_machine(&mut self, step: &Step) -> Said {
+        match self.machine.make(step) {
+            Ok(reply) => said_of(&reply),
+            Err(refusal) => (refusal.name(), None),
+        }
+    }
+
+    /// What comes of a step as the call of a session on the book, or the step again where it is
+    /// refused. What a request asks is compiled at once, and posted by its Compile.
+    pub fn on_book(&mut self, step: Step) -> Result<Said, Refused> {
+        match step {
+            Step::Compile(number) => Ok(self.bring(number, number)),
+            Step::Answer(number) => Ok(self.collect(number)),
+            Step::Finish => {
+                self.book.finish();
+                Ok(("Finished", None))
+            }
+            step => match self.book.make_step(&mut self.pass, step) {
+                Ok(reply) => Ok(self.keep(reply)),
+                Err(refused) => Err(refused),
+            },
+        }
+    }
+
+    /// Compiles what is asked, where a request was taken, and keeps a call that is sent.
+    fn keep(&mut self, reply: Reply) -> Said
+        requires { HasAskedConnector reply }
+    {
+        match reply {
+            Reply::Taken { number, book, ask } => {
+                let book = book.into_arc();
+                if let Ok(same) = Arc::try_clone(&book) {
+                    self.spare = Some(Compiled::unmade(same, ask));
+                }
+                let compiled = Compiled::make(self.alloc, book, ask);
+                self.put_back(number, compiled);
+                ("Taken", Some(number))
+            }
+            Reply::Sent(call) => {
+                let number = call.number;
+                self.sent = Some(call);
+                ("Sent", Some(number))
+            }
+            reply => said_of(&reply),
+        }
+    }
+
+    /// Keeps what was compiled for the request of a number, as far as there is room. The spare has
+    /// the number 0.
+    fn put_back(&mut self, number: u64, compiled: Compiled) {
+        if number == 0 {
+            self.spare = Some(compiled);
+        } else if self.compiled.len() < ROOM {
+            drop(self.compiled.push((number, compiled)));
+        }
+    }
+
+    /// What was compiled for the request of a number, or else the spare.
+    fn take_out(&mut self, number: u64) -> Option<(u64, Compiled)> {
+        match self.compiled.iter().position(|kept| kept.0 == number) {
+            Some(place) => Some(self.compiled.remove(place)),
+            None => self.spare.take().map(|compiled| (0, compiled)),
+        }
+    }
+
+    /// Posts to the book, for the request of a number, what was compiled for the one of its own
+    /// number.
+    pub fn bring(&mut self, own: u64, number: u64) -> Said {
+        let Some((own, compiled)) = self.take_out(own) else {
+            return ("nothing to bring", None);
+        };
+        match self.book.post(number, compiled) {
+            Ok(()) => ("Compiled", None),
+            Err((refusal, compiled)) => {
+                self.put_back(own, compiled);
+                (refusal.name(), None)
+            }
+        }
+    }
+
+    fn collect(&mut self, number: u64) -> Said {
+        match self.book.collect(&mut self.pass, number) {
+            Ok(Some(answer)) => {
+                let said = said_of_answer(answer.answer());
+                self.answered = Some(answer);
+                said
+            }
+            Ok(None) => ("NotYet", None),
+            Err(refusal) => (refusal.name(), None),
+        }
+    }
+
+    /// What comes of a step on both, if that is one thing, and what the machine's outlook was.
+    /// Otherwise the name begins with `the sides`.
+    pub fn make(&mut self, step: Step) -> Said {
+        let outlook = self.machine.outlook(&step);
+        let stored = self.book.stored();
+        let on_machine = self.on_machine(&step);
+        let said = match self.on_book(step) {
+            Ok(said) => said,
+            Err(refused) => (refused.refusal.name(), None),
+        };
+        let is_event = self.book.stored() != stored;
+        if !is_foreseen(outlook, said, is_event) {
+            return ("the sides foresaw otherwise", None);
+        }
+        self.agreed(on_machine, said)
+    }
+
+    /// Brings what was compiled for a request of its own number for another one. A machine compiles
+    /// by itself, and so only where it isn't a stranger's.
+    pub fn bring_both(&mut self, own: u64, number: u64) -> Said {
+        let said = self.bring(own, number);
+        if said.0 == Refusal::StrangerInput.name() {
+            return self.agreed(said, said);
+        }
+        let on_machine = self.on_machine(&Step::Compile(number));
+        self.agreed(on_machine, said)
+    }
+
+    /// What came of both, where it is one thing, and both read the same since.
+    fn agreed(&self, on_machine: Said, said: Said) -> Said {
+        if on_machine.0 != said.0 || on_machine.1 != said.1 {
+            return ("the sides differ", None);
+        }
+        if !self.is_one() || self.pass.totals() != self.book.totals() {
+            return ("the sides read otherwise", None);
+        }
+        said
+    }
+
+    /// Whether both have the same version, requests, end, and calls and links of two points.
+    pub fn is_one(&self) -> bool {
+        self.machine.version() == self.book.version()
+            && self.machine.open_requests() == self.book.open_requests()
+            && self.machine.is_stopped() == self.book.is_stopped()
+            && self.is_one_at("CP1")
+            && self.is_one_at("CP2")
+    }
+
+    fn is_one_at(&self, point: &str) -> bool {
+        self.machine.outbox_len(point) == self.book.outbox_len(point)
+            && self.machine.link_of(point) == self.book.link_of(point)
+            && self.machine.link_to_send(point) == self.book.link_to_send(point)
+    }
+}
+
+/// Whether what came of a step is what was foreseen: an event, an answer alone, or a refusal.
+fn is_foreseen(outlook: Result<bool, Refusal>, said: Said, is_event: bool) -> bool {
+    match outlook {
+        Ok(is_foreseen) => is_foreseen == is_event,
+        Err(refusal) => said.0 == refusal.name() && !is_event,
+    }
+}
