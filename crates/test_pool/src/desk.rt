@@ -40,12 +40,7 @@ impl<C: Ledger, A: Ledger> Played<C, A> {
 impl<C: Ledger, A: Ledger> Desk<'_, C, A> {
     /// Goes on with these lines, such as `3* ask 0 1 60 = #`: so many times, with the number of the time
     /// for `#`.
-    pub(crate) fn play(
-        &self,
-        rt: &impl Wait,
-        played: Played<C, A>,
-        lines: &str,
-    ) -> Played<C, A> {
+    pub(crate) fn play(&self, rt: &impl Wait, played: Played<C, A>, lines: &str) -> Played<C, A> {
         let mut played = played;
         for line in lines.lines() {
             let (times, text) = line.split_once("* ").unwrap_or(("1", line));
@@ -66,12 +61,7 @@ impl<C: Ledger, A: Ledger> Desk<'_, C, A> {
     }
 
     /// What comes of a command: a number, which is 0 where there is none, or a refusal.
-    fn done(
-        &self,
-        rt: &impl Wait,
-        pass: &mut Pass<C, A>,
-        command: &str,
-    ) -> Result<u64, Refusal> {
+    fn done(&self, rt: &impl Wait, pass: &mut Pass<C, A>, command: &str) -> Result<u64, Refusal> {
         let mut words = Words::of(command);
         match words.word() {
             "install" => self.install(rt, pass, words),
@@ -137,12 +127,7 @@ impl<C: Ledger, A: Ledger> Desk<'_, C, A> {
     }
 
     /// Asks for a connector of a point, for so many seconds from midnight on.
-    fn job(
-        &self,
-        rt: &impl Wait,
-        pass: &mut Pass<C, A>,
-        words: Words<'_>,
-    ) -> Result<Job, Refusal> {
+    fn job(&self, rt: &impl Wait, pass: &mut Pass<C, A>, words: Words<'_>) -> Result<Job, Refusal> {
         let mut words = words;
         let point = PointId::copied(self.alloc, words.word())?;
         let connector = words.number().unwrap_or(u32::MAX);
@@ -155,12 +140,7 @@ impl<C: Ledger, A: Ledger> Desk<'_, C, A> {
     }
 
     /// The same, and sends the job to a worker: the request's number.
-    fn ask(
-        &self,
-        rt: &impl Wait,
-        pass: &mut Pass<C, A>,
-        words: Words<'_>,
-    ) -> Result<u64, Refusal> {
+    fn ask(&self, rt: &impl Wait, pass: &mut Pass<C, A>, words: Words<'_>) -> Result<u64, Refusal> {
         let job = self.job(rt, pass, words)?;
         let number = job.number();
         match self.jobs.send(rt, job) {
@@ -180,7 +160,11 @@ impl<C: Ledger, A: Ledger> Desk<'_, C, A> {
         let (number, book, ask) = (job.number(), job.share_book()?, *job.ask());
         let is_sent = self.jobs.send(rt, job).is_ok();
         answer_unmade(rt, self.shared, number, book, ask);
-        if is_sent { Ok(number) } else { Err(Refusal::Stopped) }
+        if is_sent {
+            Ok(number)
+        } else {
+            Err(Refusal::Stopped)
+        }
     }
 
     /// Waits for the answer to the request of a number: the tenths of its first limit.

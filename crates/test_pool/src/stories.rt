@@ -3,16 +3,15 @@
 //! of the session's pass, of kept requests, of what workers came to and began; `open` the gate, `pause`.
 
 use crate::threads::{Story, play};
-use std::marker::Brand;
+use std::alloc::Global;
+use std::marker::{Brand, Sync};
+use std::process::Abort;
+use std::sync::Wait;
 use std::sync::ledger::Blank;
-use version_store::Totals;
+use std::thread::Threads;
 
-fn played(rt: &HostRuntime, story: &Story) {
-    play::<Brand, Brand, HostRuntime>(rt, rt.alloc(), Blank::new(3), Blank::new(3), story);
-}
-
-const fn totals(changes: u64, answers: u64) -> Totals {
-    Totals { changes, answers }
+fn played<R: Abort + Threads + Wait + Sync>(rt: &R, alloc: Global, story: &Story) {
+    play::<Brand, Brand, R>(rt, alloc, Blank::new(3), Blank::new(3), story);
 }
 
 /// Nobody does anything.
@@ -25,7 +24,7 @@ const NOTHING: Story = Story {
     other: "",
     beside: "",
     after: "kept = 0\nran-out = 0",
-    totals: totals(0, 0),
+    totals: (0, 0),
 };
 
 /// An install goes through while a request is held up, and changes neither answer.
@@ -42,13 +41,13 @@ answer 1 = 320
 changes = 1
 answers = 2",
     after: "entered = 2\nkept = 0\nran-out = 0",
-    totals: totals(1, 2),
+    totals: (1, 2),
     ..NOTHING
 };
 
 #[test]
 fn a_later_request_overtakes_one_that_is_held_up(rt: HostRuntime) {
-    played(&rt, &OVERTAKEN);
+    played(&rt, rt.alloc(), &OVERTAKEN);
 }
 
 const IN_TURN: Story = Story {
@@ -62,13 +61,13 @@ install 1 0 periods=0:3 = 0
 ask 1 1 60 = 3
 answer 3 = 3",
     after: "entered = 3\nkept = 0\nran-out = 0",
-    totals: totals(3, 3),
+    totals: (3, 3),
     ..NOTHING
 };
 
 #[test]
 fn one_worker_answers_in_turn(rt: HostRuntime) {
-    played(&rt, &IN_TURN);
+    played(&rt, rt.alloc(), &IN_TURN);
 }
 
 /// Each of 64 points has a limit of its own before its request, and another one behind it.
@@ -80,13 +79,13 @@ const MANY: Story = Story {
 64* install # 0 periods=0:200 = 0
 64* answer # = #",
     after: "entered = 64\nkept = 0\nran-out = 0",
-    totals: totals(128, 64),
+    totals: (128, 64),
     ..NOTHING
 };
 
 #[test]
 fn eight_workers_answer_64_requests(rt: HostRuntime) {
-    played(&rt, &MANY);
+    played(&rt, rt.alloc(), &MANY);
 }
 
 #[test]
@@ -97,7 +96,7 @@ fn workers_end_with_the_jobs(rt: HostRuntime) {
         after,
         ..NOTHING
     };
-    played(&rt, &story);
+    played(&rt, rt.alloc(), &story);
 }
 
 /// The central system is stopped while each second request is held up.
@@ -117,13 +116,13 @@ answer 6 = Stopped
 answer 7 = 320 or Stopped
 answer 8 = Stopped",
     after: "entered = 8\nkept = 0\nran-out = 0",
-    totals: totals(0, 8),
+    totals: (0, 8),
     ..NOTHING
 };
 
 #[test]
 fn whoever_waits_at_the_end_is_answered(rt: HostRuntime) {
-    played(&rt, &STOPPED);
+    played(&rt, rt.alloc(), &STOPPED);
 }
 
 /// Two sessions wait for requests that are held up.
@@ -133,13 +132,13 @@ const BOTH_WAIT: Story = Story {
     one: "answer 1 = Stopped\nanswers = 1",
     other: "answer 2 = Stopped\nanswers = 1",
     beside: "pause = 0\nfinish = 0",
-    totals: totals(0, 2),
+    totals: (0, 2),
     ..NOTHING
 };
 
 #[test]
 fn stopping_wakes_all_who_wait(rt: HostRuntime) {
-    played(&rt, &BOTH_WAIT);
+    played(&rt, rt.alloc(), &BOTH_WAIT);
 }
 
 /// Each session counts its own.
@@ -147,13 +146,13 @@ const COUNTED: Story = Story {
     one: "100* install 0 0 periods=0:# = 0\nchanges = 100\nanswers = 0",
     other: "60* install 1 0 periods=0:# = 0\nask 1 1 60 = 1\nanswer 1 = 60\nchanges = 60\nanswers = 1",
     after: "changes = 0\nanswers = 0\nkept = 0",
-    totals: totals(160, 1),
+    totals: (160, 1),
     ..NOTHING
 };
 
 #[test]
 fn two_sessions_count_what_all_was(rt: HostRuntime) {
-    played(&rt, &COUNTED);
+    played(&rt, rt.alloc(), &COUNTED);
 }
 
 /// A request of 31 days is long beside a daily profile of 200 periods of a second, and its answer would be too.
@@ -172,13 +171,13 @@ kept = 1
 open = 0
 answer 1 = ResultTooLong
 begun = 4",
-    totals: totals(1, 4),
+    totals: (1, 4),
     ..NOTHING
 };
 
 #[test]
 fn short_jobs_pass_a_long_one(rt: HostRuntime) {
-    played(&rt, &PASSED);
+    played(&rt, rt.alloc(), &PASSED);
 }
 
 /// The third request is behind the second, so that the worker has come to that when this is answered.
@@ -192,13 +191,13 @@ ask 0 1 2678400 = 3
 answer 3 = ResultTooLong
 answer 1 = ResultTooLong
 begun = 2",
-    totals: totals(1, 3),
+    totals: (1, 3),
     ..PASSED
 };
 
 #[test]
 fn a_request_that_is_given_up_is_not_begun(rt: HostRuntime) {
-    played(&rt, &GIVEN_UP);
+    played(&rt, rt.alloc(), &GIVEN_UP);
 }
 
 /// A job is short that changes at most 10,000 times. A day comes 32 times at most in 31 days, and a week 5
@@ -234,11 +233,11 @@ is-short 5 1 2678400 = 1
 is-short 6 2 2073599 = 1
 turns 6 2 2073599 = 9601",
     after: "kept = 14",
-    totals: totals(11, 0),
+    totals: (10, 0),
     ..NOTHING
 };
 
 #[test]
 fn short_jobs_are_no_more_work_than_is_counted(rt: HostRuntime) {
-    played(&rt, &WORK);
+    played(&rt, rt.alloc(), &WORK);
 }

@@ -33,8 +33,8 @@ pub(crate) struct Story {
     pub(crate) other: &'static str,
     pub(crate) beside: &'static str,
     pub(crate) after: &'static str,
-    /// What all sessions count.
-    pub(crate) totals: Totals,
+    /// The changes and the answers that all sessions count.
+    pub(crate) totals: (u64, u64),
 }
 
 /// Three sessions: those that come beside the first one, and that.
@@ -60,7 +60,8 @@ pub(crate) fn play<
         Played::new(alloc, passes.pop().expect(rt, "no pass")),
     );
     let (one, other, first) = beside_workers(rt, alloc, &shared, &gate, story, sessions).expect(
-        rt, "no thread",
+        rt,
+        "no thread",
     );
     let (jobs, _) = bounded(alloc, 1).expect(rt, "error");
     let desk = Desk {
@@ -74,26 +75,23 @@ pub(crate) fn play<
     for played in [one, other, first] {
         keep(rt, &mut passes, played);
     }
-    assert!(rt; shared.settle(passes) == Ok(story.totals), "what all sessions count");
+    let (changes, answers) = story.totals;
+    let totals = Totals { changes, answers };
+    assert!(rt;
+        shared.settle(passes) == Ok(totals),
+        "what all sessions count"
+    );
 }
 
 /// Keeps the pass of a session of which no line came otherwise.
-fn keep<C: Ledger, A: Ledger>(
-    rt: &impl Abort,
-    passes: &mut Vec<Pass<C, A>>,
-    played: Played<C, A>,
-) {
+fn keep<C: Ledger, A: Ledger>(rt: &impl Abort, passes: &mut Vec<Pass<C, A>>, played: Played<C, A>) {
     let Played { pass, wrong } = played;
     assert!(rt; wrong.is_empty(), "{wrong}");
     passes.push(pass).ok().expect(rt, "error");
 }
 
 /// Plays a story's sessions beside its workers. None where there isn't a thread for each.
-fn beside_workers<
-    C: Ledger + Send + Sync,
-    A: Ledger + Send + Sync,
-    R: Threads + Wait + Sync,
->(
+fn beside_workers<C: Ledger + Send + Sync, A: Ledger + Send + Sync, R: Threads + Wait + Sync>(
     rt: &R,
     alloc: Global,
     shared: &Shared<C, A>,
@@ -105,33 +103,37 @@ fn beside_workers<
     let (long, of_long) = bounded(alloc, MAX_JOBS).ok()?;
     let (of_short, of_long) = (&of_short, &of_long);
     let workers = story.workers.max(1);
-    thread::scope(thread::scope_env(), rt, |scope| -> Option<Sessions<C, A>>
-        requires { 1 ≤ workers }
-    {
-        let pool = scope
-            .spawn(
-                move || -> usize
-                    requires { 1 ≤ workers }
-                { run_pool(rt, alloc, workers, of_short, shared, gate) },
-            )
-            .ok()?;
-        let working = scope
-            .spawn(move || worker(rt, alloc, of_long, shared, gate))
-            .ok()?;
-        let desk = Desk {
-            alloc,
-            shared,
-            jobs: Jobs::new(&short, &long),
-            gate,
-        };
-        let played = beside(rt, &desk, story, sessions);
-        drop(desk);
-        drop(short);
-        drop(long);
-        let ran = pool.join(rt);
-        working.join(rt);
-        if ran == workers { played } else { None }
-    })
+    thread::scope(
+        thread::scope_env(),
+        rt,
+        |scope| -> Option<Sessions<C, A>>
+            requires { 1 ≤ workers }
+        {
+            let pool = scope
+                .spawn(
+                    move || -> usize
+                        requires { 1 ≤ workers }
+                    { run_pool(rt, alloc, workers, of_short, shared, gate) },
+                )
+                .ok()?;
+            let working = scope
+                .spawn(move || worker(rt, alloc, of_long, shared, gate))
+                .ok()?;
+            let desk = Desk {
+                alloc,
+                shared,
+                jobs: Jobs::new(&short, &long),
+                gate,
+            };
+            let played = beside(rt, &desk, story, sessions);
+            drop(desk);
+            drop(short);
+            drop(long);
+            let ran = pool.join(rt);
+            working.join(rt);
+            if ran == workers { played } else { None }
+        },
+    )
 }
 
 /// Plays the first session beside the two others. In the end nothing is held up.
