@@ -44,7 +44,11 @@ impl<C: Ledger, A: Ledger> Desk<'_, C, A> {
         let mut played = played;
         for line in lines.lines() {
             let (times, text) = line.split_once("* ").unwrap_or(("1", line));
-            for time in 0..times.parse::<u32>().unwrap_or(1) {
+            let Ok(times) = times.parse::<u32>() else {
+                let _ = played.wrong.push_str(line);
+                continue;
+            };
+            for time in 0..times {
                 self.play_once(rt, &mut played, text, time.saturating_add(1));
             }
         }

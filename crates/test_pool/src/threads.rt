@@ -99,10 +99,13 @@ fn beside_workers<C: Ledger + Send + Sync, A: Ledger + Send + Sync, R: Threads +
     story: &Story,
     sessions: Sessions<C, A>,
 ) -> Option<Sessions<C, A>> {
+    let workers = story.workers;
+    if workers == 0 {
+        return None;
+    }
     let (short, of_short) = bounded(alloc, MAX_JOBS).ok()?;
     let (long, of_long) = bounded(alloc, MAX_JOBS).ok()?;
     let (of_short, of_long) = (&of_short, &of_long);
-    let workers = story.workers.max(1);
     thread::scope(
         thread::scope_env(),
         rt,

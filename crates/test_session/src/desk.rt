@@ -59,7 +59,12 @@ pub(crate) fn play<C: Ledger, A: Ledger, R: Abort + Wait + Clock>(
     let (shared, mut passes) = made.expect(rt, "error");
     let mut pass = passes.pop().expect(rt, "no pass");
     let (jobs, queue) = bounded(alloc, 1).expect(rt, "error");
-    let queue = if story.contains(" | ") { Some(queue) } else { None };
+    let queue = if story.contains(" | ") {
+        Some(queue)
+    } else {
+        drop(queue);
+        None
+    };
     let moment = instant_at(10).expect(rt, "no instant");
     let clock = Fixed(if story.contains("timeless") { None } else { Some(moment) });
     let reading = Mutex::new(());
