@@ -15,10 +15,7 @@ impl MaskKeys for OneKey {
     }
 }
 
-fn client_of<'a>(
-    alloc: Global,
-    bytes: &'a [u8],
-) -> WebSocket<Duplex<&'a [u8], Vec<u8>>, OneKey> {
+fn client_of<'a>(alloc: Global, bytes: &'a [u8]) -> WebSocket<Duplex<&'a [u8], Vec<u8>>, OneKey> {
     let stream = Duplex {
         reader: bytes,
         writer: Vec::new(alloc),

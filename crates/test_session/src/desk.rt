@@ -66,7 +66,11 @@ pub(crate) fn play<C: Ledger, A: Ledger, R: Abort + Wait + Clock>(
         None
     };
     let moment = instant_at(10).expect(rt, "no instant");
-    let clock = Fixed(if story.contains("timeless") { None } else { Some(moment) });
+    let clock = Fixed(if story.contains("timeless") {
+        None
+    } else {
+        Some(moment)
+    });
     let reading = Mutex::new(());
     let desk: Desk<'_, C, A, R> = Context {
         rt,
@@ -102,7 +106,10 @@ fn play_line<C: Ledger, A: Ledger, R: Abort + Wait + Clock>(
     }
     let calls = words.number().expect(rt, line) as usize;
     let bytes = words.number().expect(rt, line) as usize;
-    let (first, later) = words.rest().split_once(" | ").unwrap_or((words.rest(), "end"));
+    let (first, later) = words
+        .rest()
+        .split_once(" | ")
+        .unwrap_or((words.rest(), "end"));
     let first = client_bytes(rt, alloc, first);
     let later = client_bytes(rt, alloc, later);
     let mut output = Vec::with_capacity(alloc, 4_096).expect(rt, "error");
@@ -170,7 +177,10 @@ fn send_other<C: Ledger, A: Ledger, R: Abort + Wait>(
     let (rt, mut pass) = (desk.rt, pass);
     let point = PointId::copied(desk.alloc, "CP1").expect(rt, "error");
     let start = instant_at(0).expect(rt, "no instant");
-    let job = desk.shared.lock(rt).take(&mut pass, point, 1, start, 60, None);
+    let job = desk
+        .shared
+        .lock(rt)
+        .take(&mut pass, point, 1, start, 60, None);
     let sent = desk.jobs.send(rt, job.expect(rt, "error"));
     sent.ok().expect(rt, "not sent");
     pass
@@ -191,7 +201,12 @@ fn put_book<C: Ledger, A: Ledger, R: Abort + Wait>(
     assert!(desk.rt; is_counted && !is_linked, "behind {found}");
     let totals = pass.totals();
     let (changes, answers) = (totals.changes, totals.answers);
-    write!(found, "/{changes} {answers} {waiting} {kept} {};", jobs.len()).expect(desk.rt, "error");
+    write!(
+        found,
+        "/{changes} {answers} {waiting} {kept} {};",
+        jobs.len()
+    )
+    .expect(desk.rt, "error");
 }
 
 fn name_of_end(ended: Option<Ended>) -> &'static str {

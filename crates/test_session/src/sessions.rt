@@ -64,7 +64,9 @@ fn come_to(rt: &(impl Abort + Wait + Clock), alloc: Global, story: &str, most: u
     let (mut row, mut left) = rows.split_once('\n').expect(rt, rows);
     for number in 0..most {
         let number = format!(in alloc; "{number}").expect(rt, "error");
-        let story = story.replace(alloc, "#", number.as_str()).expect(rt, "error");
+        let story = story
+            .replace(alloc, "#", number.as_str())
+            .expect(rt, "error");
         let found = played(rt, alloc, story.as_str(), "");
         if found.as_str() != row {
             (row, left) = left.split_once('\n').unwrap_or((left, ""));
@@ -91,46 +93,54 @@ fn bytes_may_end_anywhere(rt: HostRuntime) {
     come_to(&rt, rt.alloc(), story, 100, BYTES_OF_POINT);
 }
 
-/// What a session may come to of which an allocation is refused.
-const SHORT_OPERATOR: &str = "closed accepted ask-short close
-closed install-short schedule-without close
-out-of-memory
-out-of-memory accepted
-out-of-memory accepted schedule
-out-of-memory accepted schedule close";
+/// What a session may come to of which an allocation is refused, with its book: it says so to its client, or
+/// ends. No request is left, and a point's call waits again.
+const SHORT_OPERATOR: &str = "closed accepted ask-short close/1 0 2 0 0
+closed accepted ask-short close/1 1 2 0 0
+closed install-short schedule-without close/0 1 1 0 0
+out-of-memory/0 0 1 0 0
+out-of-memory/1 0 2 0 0
+out-of-memory accepted/1 0 2 0 0
+out-of-memory accepted/1 1 2 0 0
+out-of-memory accepted schedule/1 1 2 0 0
+out-of-memory accepted schedule close/1 1 2 0 0";
 
-const SHORT_POINT: &str = "closed heartbeat-short clear close
-out-of-memory
-out-of-memory moment
-out-of-memory moment clear
-out-of-memory moment clear close";
+const SHORT_POINT: &str = "closed heartbeat-short clear close/0 0 1 0 0
+out-of-memory/0 0 1 0 0
+out-of-memory close/0 0 1 0 0
+out-of-memory moment/0 0 1 0 0
+out-of-memory moment clear/0 0 1 0 0
+out-of-memory moment clear close/0 0 1 0 0";
 
-/// A session of which `tests/program.py` refuses an allocation says so to its client, or ends. No request is left,
-/// and a point's call waits again. The next session isn't short of anything.
-fn may_be_refused(rt: &(impl Abort + Wait + Clock), alloc: Global, line: &str, whole: &str, short: &str) {
-    let story = format!(in alloc; "{line}; {line}").expect(rt, "error");
-    let found = played(rt, alloc, story.as_str(), whole);
+/// Plays two sessions, of the first of which `tests/program.py` refuses an allocation. It comes to this, or to one
+/// of these, and then the next one isn't short of anything.
+fn may_be_refused(
+    rt: &(impl Abort + Wait + Clock),
+    alloc: Global,
+    story: &str,
+    whole: &str,
+    short: &str,
+) {
+    let found = played(rt, alloc, story, whole);
     if found.as_str() == whole {
         return;
     }
     let (first, next) = found.as_str().split_once(';').expect(rt, "two sessions");
-    let (first, book) = first.split_once('/').expect(rt, "a book");
-    assert!(rt; short.lines().any(|row| row == first) && book.ends_with(" 0 0"), "{found}");
-    let (next, book) = next.split_once('/').expect(rt, "a book");
-    let is_whole = whole.starts_with(next) && book.ends_with(" 0 0;");
-    assert!(rt; is_whole && next.ends_with(" close"), "{found}");
+    assert!(rt; short.lines().any(|row| row == first), "{found}");
+    let (told, _) = whole.split_once('/').expect(rt, "what is told");
+    assert!(rt; next.starts_with(told), "{found}");
 }
 
 #[test]
 fn an_operators_session_is_refused_memory(rt: HostRuntime) {
-    let line = "operator 100 450 install ask close";
+    let story = "operator 100 450 install ask close; operator 100 450 install ask close";
     let whole = "closed accepted schedule close/1 1 2 0 0;";
-    may_be_refused(&rt, rt.alloc(), line, whole, SHORT_OPERATOR);
+    may_be_refused(&rt, rt.alloc(), story, whole, SHORT_OPERATOR);
 }
 
 #[test]
 fn a_points_session_is_refused_memory(rt: HostRuntime) {
-    let line = "point 100 450 heartbeat close";
+    let story = "point 100 450 heartbeat close; point 100 450 heartbeat close";
     let whole = "closed moment clear close/0 0 1 0 0;";
-    may_be_refused(&rt, rt.alloc(), line, whole, SHORT_POINT);
+    may_be_refused(&rt, rt.alloc(), story, whole, SHORT_POINT);
 }

@@ -26,10 +26,7 @@ const TEXTS: [(&str, &str); 11] = [
         "schedule-without",
         r#"[3,"b",{"status":"Accepted","connectorId":1,"scheduleStart":"2025-01-01T00:00:10Z","chargingSchedule":{"duration":60,"chargingRateUnit":"A","chargingSchedulePeriod":[{"startPeriod":0,"limit":32.0}]}}]"#,
     ),
-    (
-        "ask-short",
-        r#"[4,"b","InternalError","OutOfMemory",{}]"#,
-    ),
+    ("ask-short", r#"[4,"b","InternalError","OutOfMemory",{}]"#),
     ("heartbeat", r#"[2,"1","Heartbeat",{}]"#),
     (
         "moment",
