@@ -22,46 +22,37 @@ pub(crate) struct Desk<'a, C: Ledger, A: Ledger> {
 }
 
 /// A session that has played its lines: its pass, and which came otherwise.
-#[derive(Drop)]
-pub(crate) struct Played<C: Ledger, A: Ledger> {
-    pub(crate) pass: Pass<C, A>,
-    pub(crate) wrong: String,
-}
-
-impl<C: Ledger, A: Ledger> Played<C, A> {
-    pub(crate) fn new(alloc: Global, pass: Pass<C, A>) -> Played<C, A> {
-        Played {
-            pass,
-            wrong: String::new(alloc),
-        }
-    }
-}
+pub(crate) type Played<C, A> = (Pass<C, A>, String);
 
 impl<C: Ledger, A: Ledger> Desk<'_, C, A> {
     /// Goes on with these lines, such as `3* ask 0 1 60 = #`: so many times, with the number of the time
     /// for `#`.
     pub(crate) fn play(&self, rt: &impl Wait, played: Played<C, A>, lines: &str) -> Played<C, A> {
-        let mut played = played;
+        let (mut pass, mut wrong) = played;
         for line in lines.lines() {
             let (times, text) = line.split_once("* ").unwrap_or(("1", line));
             let Ok(times) = times.parse::<u32>() else {
-                let _ = played.wrong.push_str(line);
+                let _ = wrong.push_str(line);
                 continue;
             };
             for time in 0..times {
-                self.play_once(rt, &mut played, text, time.saturating_add(1));
+                let found = self.play_once(rt, &mut pass, text, time.saturating_add(1));
+                let _ = wrong.push_str(found.as_str());
             }
         }
-        played
+        (pass, wrong)
     }
 
-    fn play_once(&self, rt: &impl Wait, played: &mut Played<C, A>, text: &str, time: u32) {
+    /// What came otherwise, if anything did.
+    fn play_once(&self, rt: &impl Wait, pass: &mut Pass<C, A>, text: &str, time: u32) -> String {
         let text = numbered(self.alloc, text, time).unwrap_or(String::new(self.alloc));
         let (command, wanted) = text.as_str().split_once(" = ").unwrap_or(("", ""));
-        let found = self.done(rt, &mut played.pass, command);
+        let found = self.done(rt, pass, command);
+        let mut wrong = String::new(self.alloc);
         if !is_one_of(found, wanted) {
-            let _ = write!(&mut played.wrong, "{text}: {found:?}; ");
+            let _ = write!(&mut wrong, "{text}: {found:?}; ");
         }
+        wrong
     }
 
     /// What comes of a command: a number, which is 0 where there is none, or a refusal.

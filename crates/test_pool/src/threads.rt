@@ -55,9 +55,9 @@ pub(crate) fn play<
     let (shared, mut passes) = made.expect(rt, "error");
     let gate = HoldingGate::new(story.held);
     let sessions = (
-        Played::new(alloc, passes.pop().expect(rt, "no pass")),
-        Played::new(alloc, passes.pop().expect(rt, "no pass")),
-        Played::new(alloc, passes.pop().expect(rt, "no pass")),
+        (passes.pop().expect(rt, "no pass"), String::new(alloc)),
+        (passes.pop().expect(rt, "no pass"), String::new(alloc)),
+        (passes.pop().expect(rt, "no pass"), String::new(alloc)),
     );
     let (one, other, first) = beside_workers(rt, alloc, &shared, &gate, story, sessions).expect(
         rt,
@@ -85,7 +85,7 @@ pub(crate) fn play<
 
 /// Keeps the pass of a session of which no line came otherwise.
 fn keep<C: Ledger, A: Ledger>(rt: &impl Abort, passes: &mut Vec<Pass<C, A>>, played: Played<C, A>) {
-    let Played { pass, wrong } = played;
+    let (pass, wrong) = played;
     assert!(rt; wrong.is_empty(), "{wrong}");
     passes.push(pass).ok().expect(rt, "error");
 }
