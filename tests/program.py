@@ -549,15 +549,16 @@ def memory_problems(program, folder):
         yield f"explain --zone: each of {refused} allocations refused", problems if refused >= 60 else [f"only {refused}", *problems]
     yield from again_tests(program, library)
     for test, step in (
-        ("waiting_sessions::stopping_wakes_all_who_wait", 1),
-        ("settled_totals::two_sessions_count_what_all_was", 7),
-        ("workers_beside_sessions::a_later_request_overtakes_one_that_is_held_up", 1),
-        ("workers_beside_sessions::one_worker_answers_in_turn", 1),
-        ("workers_beside_sessions::workers_end_with_the_jobs", 1),
-        ("workers_beside_sessions::whoever_waits_at_the_end_is_answered", 1),
-        ("workers_beside_sessions::eight_workers_answer_64_requests", 61),
+        ("stopping_wakes_all_who_wait", 1),
+        ("two_sessions_count_what_all_was", 7),
+        ("a_later_request_overtakes_one_that_is_held_up", 1),
+        ("one_worker_answers_in_turn", 1),
+        ("workers_end_with_the_jobs", 1),
+        ("whoever_waits_at_the_end_is_answered", 1),
+        ("a_request_that_is_given_up_is_not_begun", 1),
+        ("eight_workers_answer_64_requests", 61),
     ):
-        yield ending_problems(library, [built_tests(program, "test_pool"), test], step)
+        yield ending_problems(library, [built_tests(program, "test_pool"), f"stories::{test}"], step)
 
 
 # Tests of what is tried again: the crate, the test, how many allocations in a row are refused, in
@@ -572,8 +573,8 @@ AGAIN = (
     ("test_core", "refused_memory::an_audit", 1, 8, 300),
     ("test_core", "refused_memory::a_remote_start", 1, 5, 300),
     ("test_books", "judged_audits::an_audit_is_judged_again_where_memory_was_refused", 1, 2, 150),
-    ("test_session", "sessions_over_memory::an_operators_session_is_refused_memory", 1, 25, 200),
-    ("test_session", "sessions_over_memory::a_points_session_is_refused_memory", 1, 15, 200),
+    ("test_session", "sessions::an_operators_session_is_refused_memory", 1, 25, 200),
+    ("test_session", "sessions::a_points_session_is_refused_memory", 1, 15, 200),
     # From each allocation on all are refused: past its beginning the test makes none, until its last step.
     ("test_core", "refused_memory::a_step_without_an_event_wants_none", 1_000_000, 1, 150),
     # The same: one allocation just before a compiling, and those of the compiling.

@@ -146,6 +146,8 @@ def one_at_a_time(program):
             for asked, reason in (((3, 60), "UnknownConnector"), ((1, 0), "BadDuration"), ((1, 2_678_401), "BadDuration")):
                 expect(reason, desk.operator.texts_of(audit(*asked)), [rejected("a", reason)])
             number = desk.begin()
+            expect("behind a reply to another call", desk.point.texts_of(accepted("0")), [])
+            desk.status("Waiting", 1)
             expect("another", desk.operator.texts_of(audit(2, 9)), [rejected("a", "AuditOpen")])
             expect("of nothing", desk.operator.texts_of(audit(3, 9)), [rejected("a", "UnknownConnector")])
             desk.point.texts_of(schedule_reply(number, [(0, 15.0)]))

@@ -144,18 +144,21 @@ def requests_of_nobody(program):
 
 
 def messages_while_it_waits(program):
-    """What comes while a long request waits is answered behind it, in its order. A client that closes isn't answered."""
+    """What comes while a long request waits is answered behind it, in its order, a ping too that comes behind a text. A client
+    that closes isn't answered."""
     with Site(program) as running:
         waiting = Waiting(running)
         with RawClient.connected(running, "/operator/P1") as operator:
             for text in (long_ask("x"), ask("a", 1, 60), clear("c", id=9), ask("b", 1, 60)):
                 operator.send_text(text)
+            operator.send_frame(PING, b"behind")
             waiting.last.send_frame(CLOSE, b"\x03\xe8")
             expect("what a client that closes reads", waiting.last.read_frame(), Frame(CLOSE, b"\x03\xe8"))
             for client in waiting.crowd:
                 client.socket.close()
             found = [operator.read_text()[:6] for _ in range(4)]
             expect("the answers", found, ['[3,"lo', '[3,"a"', '[3,"c"', '[3,"b"'])
+            expect("what comes behind them", operator.read_frame(), Frame(PONG, b"behind"))
         waiting.leave()
 
 

@@ -227,10 +227,34 @@ def status_for(running, host, *headers):
         return client.read_response().status
 
 
+class AtAName(Running):
+    """A site that listens at a name, which the system's resolver has for 127.0.0.1, and which is no address as such."""
+
+    NAME = "0x7f.1"
+
+    def _command(self, path, address):
+        return super()._command(path, address.replace("127.0.0.1", self.NAME))
+
+    def _first_line(self):
+        return super()._first_line().replace(self.NAME.encode(), b"127.0.0.1")
+
+
+def own_name(program):
+    """A request may be for the name that is listened at, in whatever letters, and for no longer one."""
+    with Data() as data, AtAName(program, SITE, data.path) as running:
+        for host in ("0x7f.1", "0X7F.1:80", f"0x7f.1:{running.port}", "127.0.0.1", "localhost"):
+            expect(f"for {host}", status_for(running, host), 101)
+        for host in ("0x7f.1.example", "0x7f.2", "example.0x7f.1", "", ":9"):
+            expect(f"for {host!r}", status_for(running, host), 421)
+
+
 def names_of_others(program):
     """Without keys a request is for this machine, and no web page's whose name leads here. With keys it may have any name."""
     own = ("127.0.0.1", "127.0.0.1:9", "localhost", "LOCALHOST:80", "[::1]", "[::1]:9", "192.0.2.1:9000", None)
-    others = ("elsewhere.example", "elsewhere.example:9", "localhost.elsewhere.example", "127.0.0.1.elsewhere.example", "[::1].example", ":9")
+    others = (
+        "elsewhere.example", "elsewhere.example:9", "localhost.elsewhere.example", "127.0.0.1.elsewhere.example", "127.0.0.1.example:9",
+        "[::1].example", "1.2.3", AtAName.NAME, "", ":9",
+    )
     with Data() as data, Running(program, SITE, data.path) as running:
         for host in (*own, f"127.0.0.1:{running.port}"):
             expect(f"for {host}", status_for(running, host), 101)
@@ -266,4 +290,5 @@ def tests():
     yield "checked keys", checked_keys
     yield "without keys", without_keys
     yield "names of others", names_of_others
+    yield "its own name", own_name
     yield "faulty keys", faulty_keys

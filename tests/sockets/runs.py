@@ -1,5 +1,6 @@
 """Runs of a site that is killed and started again: what the journal holds, and that nothing that was answered is lost."""
 import asyncio
+import contextlib
 import json
 import os
 import re
@@ -288,6 +289,41 @@ def another_site_file_that_does_not_fit(program):
         expect("how it ends without the connector", (status, out, err), (1, b"", wanted))
 
 
+def one_seat(program):
+    """It serves one connection after another, also behind one that ends before its handshake, all on the same book."""
+    with Data() as data, Running(program, SITE, data.path, seats=1) as running:
+        socket.create_connection(("127.0.0.1", running.port), PATIENCE).close()
+        with seated(running, "/operator/P1") as operator:
+            expect("an install", operator.texts_of(install("a", profile(1, [16]))), [accepted("a")])
+            operator.close()
+        with seated(running, "/ocpp/P1") as point:
+            expect("a start", transaction_of(point.texts_of(start("s"))[0]), 1)
+            expect("its end", point.texts_of(stop("e", 1))[0][:7], '[3,"e",')
+            expect("a start at the other connector", transaction_of(point.texts_of(start("t", 2))[0]), 2)
+            point.close()
+        with seated(running, "/operator/P1") as operator:
+            periods = json.loads(operator.texts_of(ask("q", 0, 60))[0])[2]["chargingSchedule"]["chargingSchedulePeriod"]
+            expect("the schedule of the one that charges", periods, [{"startPeriod": 0, "limit": 16.0}])
+            expect("the version", json.loads(operator.texts_of(call("p", "PointStatus"))[0])[2]["version"], 4)
+
+
+def seated(running, path):
+    """A client that is served, once a seat is free."""
+    clients = []
+
+    def is_seated():
+        client = RawClient(running)
+        with contextlib.suppress(OSError):  # it may be turned away before it has asked
+            response = client.shake_hands(path, [f"Sec-WebSocket-Protocol: {OCPP}"])
+            if response is not None and response.status == 101:
+                clients.append(client)
+                return True
+        client.socket.close()
+        return False
+    until("a seat is free", is_seated)
+    return clients[0]
+
+
 def no_more_than_the_seats(program):
     """Above N at a time one is answered 503, and a seat that is free again serves the next one."""
     with Data() as data, Running(program, SITE, data.path, seats=2) as running:
@@ -467,6 +503,7 @@ def a_full_device(program):
             expect("the answers before", answers[:count], [accepted("short")] * count)
             expect("an ask", told(running, ask("a"))[:28], '[3,"a",{"status":"Accepted",')
             expect("a clear", told(running, clear("short")), SHORT)
+            expect("the version", json.loads(told(running, call("p", "PointStatus")))[2]["version"], count)
             data.has_room_again()
             until("there is room", lambda: told(running, install("short", profile(50, [9], 50))) == accepted("short"))
             said = running.kill().decode()
@@ -638,6 +675,7 @@ def tests():
     yield "another site file", another_site_file
     yield "another site file that does not fit", another_site_file_that_does_not_fit
     yield "served at once", served_at_once
+    yield "one seat", one_seat
     yield "no more than the seats", no_more_than_the_seats
     yield "no file descriptors", no_file_descriptors
     yield "silent handshakes", silent_handshakes

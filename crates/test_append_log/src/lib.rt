@@ -2,10 +2,4 @@
 #![tactic(auto)]
 
 #[cfg(test)]
-mod crashes;
-#[cfg(test)]
-mod faults;
-#[cfg(test)]
-mod opened;
-#[cfg(test)]
-mod same;
+mod faults_and_crashes;

@@ -1,131 +1,225 @@
-//! The session that sits before the workers: it takes requests, sends their jobs, changes what
-//! points have, and waits for answers.
+//! A session before the workers, whose lines say what it does and what comes of that. What comes otherwise
+//! is noted, and it goes on, so that its thread ends.
 
-use compile_pool::wait_answer;
-use crossbeam_channel::Sender;
+use crate::gates::HoldingGate;
+use compile_pool::{Jobs, MOST_OF_SHORT, answer_unmade, is_at_most, wait_answer};
 use ocpp_scalars::Refusal;
 use site_core::PointId;
 use std::alloc::Global;
 use std::sync::Wait;
 use std::sync::ledger::Ledger;
-use std::test::Fail;
-use test_books::{begin_of, instant_at, profile_of};
+use sweep_compiler::{Turns, compile};
+use test_books::{Words, begin_of, instant_at, profile_of};
 use version_store::{Job, Pass, Shared};
 
-/// What a session has at hand. Its points are named by their places in the site file.
+/// What sessions have at hand.
 #[derive(Drop)]
 pub(crate) struct Desk<'a, C: Ledger, A: Ledger> {
     pub(crate) alloc: Global,
     pub(crate) shared: &'a Shared<C, A>,
-    pub(crate) jobs: &'a Sender<Job>,
+    pub(crate) jobs: Jobs<'a>,
+    pub(crate) gate: &'a HoldingGate,
 }
 
+/// A session that has played its lines: its pass, and which came otherwise.
+pub(crate) type Played<C, A> = (Pass<C, A>, String);
+
 impl<C: Ledger, A: Ledger> Desk<'_, C, A> {
-    fn point(&self, place: usize) -> Result<PointId, Fail> {
-        let text = format!(in self.alloc; "{place:0>4}")?;
-        Ok(PointId::copied(self.alloc, text.as_str())?)
+    /// Goes on with these lines, such as `3* ask 0 1 60 = #`: so many times, with the number of the time
+    /// for `#`.
+    pub(crate) fn play(&self, rt: &impl Wait, played: Played<C, A>, lines: &str) -> Played<C, A> {
+        let (mut pass, mut wrong) = played;
+        for line in lines.lines() {
+            let (times, text) = line.split_once("* ").unwrap_or(("1", line));
+            let Ok(times) = times.parse::<u32>() else {
+                let _ = wrong.push_str(line);
+                continue;
+            };
+            for time in 0..times {
+                let found = self.play_once(rt, &mut pass, text, time.saturating_add(1));
+                let _ = wrong.push_str(found.as_str());
+            }
+        }
+        (pass, wrong)
     }
 
-    /// Installs a limit for the whole point.
-    pub(crate) fn install(
+    /// What came otherwise, if anything did.
+    fn play_once(&self, rt: &impl Wait, pass: &mut Pass<C, A>, text: &str, time: u32) -> String {
+        let text = numbered(self.alloc, text, time).unwrap_or(String::new(self.alloc));
+        let (command, wanted) = text.as_str().split_once(" = ").unwrap_or(("", ""));
+        let found = self.done(rt, pass, command);
+        let mut wrong = String::new(self.alloc);
+        if !is_one_of(found, wanted) {
+            let _ = write!(&mut wrong, "{text}: {found:?}; ");
+        }
+        wrong
+    }
+
+    /// What comes of a command: a number, which is 0 where there is none, or a refusal.
+    fn done(&self, rt: &impl Wait, pass: &mut Pass<C, A>, command: &str) -> Result<u64, Refusal> {
+        let mut words = Words::of(command);
+        match words.word() {
+            "install" => self.install(rt, pass, words),
+            "start" => self.start(rt, pass, words),
+            "ask" => self.ask(rt, pass, words),
+            "leave" => self.leave(rt, pass, words),
+            "answer" => self.answer(rt, pass, words),
+            "is-short" => self.is_short(rt, pass, words),
+            "turns" => self.turns(rt, pass, words),
+            "changes" => Ok(pass.totals().changes),
+            "answers" => Ok(pass.totals().answers),
+            "kept" => Ok(self.shared.lock(rt).open_requests() as u64),
+            "finish" => self.finish(rt),
+            word => self.gate.done(word),
+        }
+    }
+
+    /// Stops the central system.
+    fn finish(&self, rt: &impl Wait) -> Result<u64, Refusal> {
+        self.shared.lock(rt).finish();
+        self.shared.wake();
+        Ok(0)
+    }
+
+    /// Installs a profile in words at a point and a connector.
+    fn install(
         &self,
         rt: &impl Wait,
         pass: &mut Pass<C, A>,
-        place: usize,
-        limit: u32,
-    ) -> Result<(), Fail> {
-        let words = format!(in self.alloc; "id={limit} periods=0:{limit}")?;
-        self.install_at(rt, pass, place, 0, words.as_str())
-    }
-
-    /// Installs a profile in words at a connector.
-    pub(crate) fn install_at(
-        &self,
-        rt: &impl Wait,
-        pass: &mut Pass<C, A>,
-        place: usize,
-        connector: u32,
-        words: &str,
-    ) -> Result<(), Fail> {
-        let profile = profile_of(self.alloc, words)?;
-        let (point, moment) = (self.point(place)?, instant_at(0)?);
+        words: Words<'_>,
+    ) -> Result<u64, Refusal> {
+        let mut words = words;
+        let point = PointId::copied(self.alloc, words.word())?;
+        let connector = words.number().unwrap_or(u32::MAX);
+        let (Ok(profile), Ok(moment)) = (profile_of(self.alloc, words.rest()), instant_at(0)) else {
+            return Err(Refusal::OutOfMemory);
+        };
         let mut book = self.shared.lock(rt);
         match book.install(pass, point, connector, profile, moment) {
-            Ok(()) => Ok(()),
-            Err((refusal, _)) => Err(refusal)?,
+            Ok(()) => Ok(0),
+            Err((refusal, _)) => Err(refusal),
         }
     }
 
-    /// Starts a transaction at a connector.
-    pub(crate) fn start(
+    /// Starts a transaction at a point and a connector: its number.
+    fn start(
         &self,
         rt: &impl Wait,
         pass: &mut Pass<C, A>,
-        place: usize,
-        connector: u32,
-    ) -> Result<(), Fail> {
-        let begin = begin_of(self.alloc, "T1", 0, 0)?;
-        let point = self.point(place)?;
+        words: Words<'_>,
+    ) -> Result<u64, Refusal> {
+        let mut words = words;
+        let point = PointId::copied(self.alloc, words.word())?;
+        let connector = words.number().unwrap_or(u32::MAX);
+        let Ok(begin) = begin_of(self.alloc, "T1", 0, 0) else {
+            return Err(Refusal::OutOfMemory);
+        };
         let mut book = self.shared.lock(rt);
         match book.start(pass, point, connector, begin) {
-            Ok(_) => Ok(()),
-            Err((refusal, _)) => Err(refusal)?,
+            Ok(number) => Ok(number),
+            Err((refusal, _)) => Err(refusal),
         }
-    }
-
-    /// Asks for connector 1 of a point, for a minute from midnight on.
-    pub(crate) fn take(
-        &self,
-        rt: &impl Wait,
-        pass: &mut Pass<C, A>,
-        place: usize,
-    ) -> Result<Job, Fail> {
-        self.take_of(rt, pass, place, 1, 60)
     }
 
     /// Asks for a connector of a point, for so many seconds from midnight on.
-    pub(crate) fn take_of(
-        &self,
-        rt: &impl Wait,
-        pass: &mut Pass<C, A>,
-        place: usize,
-        connector: u32,
-        seconds: u32,
-    ) -> Result<Job, Fail> {
-        let (point, start) = (self.point(place)?, instant_at(0)?);
+    fn job(&self, rt: &impl Wait, pass: &mut Pass<C, A>, words: Words<'_>) -> Result<Job, Refusal> {
+        let mut words = words;
+        let point = PointId::copied(self.alloc, words.word())?;
+        let connector = words.number().unwrap_or(u32::MAX);
+        let seconds = words.number().unwrap_or(0);
+        let Ok(start) = instant_at(0) else {
+            return Err(Refusal::PastCalendar);
+        };
         let mut book = self.shared.lock(rt);
-        Ok(book.take(pass, point, connector, start, seconds, None)?)
+        book.take(pass, point, connector, start, seconds, None)
     }
 
-    /// The same, and sends the job to a worker. Gives the request's number.
-    pub(crate) fn ask(
-        &self,
-        rt: &impl Wait,
-        pass: &mut Pass<C, A>,
-        place: usize,
-    ) -> Result<u64, Fail> {
-        let job = self.take(rt, pass, place)?;
+    /// The same, and sends the job to a worker: the request's number.
+    fn ask(&self, rt: &impl Wait, pass: &mut Pass<C, A>, words: Words<'_>) -> Result<u64, Refusal> {
+        let job = self.job(rt, pass, words)?;
         let number = job.number();
         match self.jobs.send(rt, job) {
             Ok(()) => Ok(number),
-            Err(_) => Err("not sent")?,
+            Err(_) => Err(Refusal::Stopped),
         }
     }
 
-    /// Waits for an answer: the tenths of its first limit, or its refusal.
-    pub(crate) fn answer(
+    /// The same, and gives the request up at once.
+    fn leave(
         &self,
         rt: &impl Wait,
         pass: &mut Pass<C, A>,
-        number: u64,
-    ) -> Result<Result<u32, Refusal>, Fail> {
-        let answer = wait_answer(rt, self.shared, pass, number)?;
-        match answer.into_answer() {
-            Ok(schedule) => {
-                let first = schedule.periods().first().ok_or("no period")?;
-                Ok(Ok(first.limit))
-            }
-            Err(refusal) => Ok(Err(refusal)),
+        words: Words<'_>,
+    ) -> Result<u64, Refusal> {
+        let job = self.job(rt, pass, words)?;
+        let (number, book, ask) = (job.number(), job.share_book()?, *job.ask());
+        let is_sent = self.jobs.send(rt, job).is_ok();
+        answer_unmade(rt, self.shared, number, book, ask);
+        if is_sent {
+            Ok(number)
+        } else {
+            Err(Refusal::Stopped)
         }
     }
+
+    /// Waits for the answer to the request of a number: the tenths of its first limit.
+    fn answer(
+        &self,
+        rt: &impl Wait,
+        pass: &mut Pass<C, A>,
+        words: Words<'_>,
+    ) -> Result<u64, Refusal> {
+        let mut words = words;
+        let answer = wait_answer(rt, self.shared, pass, words.long().unwrap_or(0))?;
+        let schedule = answer.into_answer()?;
+        match schedule.periods().first() {
+            Some(first) => Ok(u64::from(first.limit)),
+            None => Err(Refusal::ResultTooLong),
+        }
+    }
+
+    /// Whether the job of a request is short: 1, or 0.
+    fn is_short(
+        &self,
+        rt: &impl Wait,
+        pass: &mut Pass<C, A>,
+        words: Words<'_>,
+    ) -> Result<u64, Refusal> {
+        let job = self.job(rt, pass, words)?;
+        Ok(u64::from(is_at_most(&job, MOST_OF_SHORT)))
+    }
+
+    /// How often the limit is evaluated for a request.
+    fn turns(
+        &self,
+        rt: &impl Wait,
+        pass: &mut Pass<C, A>,
+        words: Words<'_>,
+    ) -> Result<u64, Refusal> {
+        let job = self.job(rt, pass, words)?;
+        let (_, book, ask) = job.into_parts();
+        let mut turns = Turns::new();
+        compile(self.alloc, &book, &ask, &mut turns)?;
+        Ok(turns.count())
+    }
+}
+
+/// The text with a number for each `#`.
+fn numbered(alloc: Global, text: &str, number: u32) -> Option<String> {
+    let number = format!(in alloc; "{number}").ok()?;
+    text.replace(alloc, "#", number.as_str()).ok()
+}
+
+/// Whether this came: one of `320 or Stopped`, say.
+fn is_one_of(found: Result<u64, Refusal>, wanted: &str) -> bool {
+    for word in wanted.split(" or ") {
+        let is_so = match found {
+            Ok(number) => word.parse::<u64>().ok() == Some(number),
+            Err(refusal) => refusal.name() == word,
+        };
+        if is_so {
+            return true;
+        }
+    }
+    false
 }

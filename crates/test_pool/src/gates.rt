@@ -1,24 +1,21 @@
-//! Gates that hold a worker up until something is done, for so many turns at most.
+//! A gate that holds workers up until it is opened, for so many turns at most.
 
 use compile_pool::Gate;
+use ocpp_scalars::Refusal;
 use std::sync::atomic::{AtomicU64, Ordering};
 use std::thread;
 
 /// How many turns a worker is held up at most; each yields.
-const TURNS: u32 = 1_000_000;
+const TURNS: u64 = 1_000_000;
 
-/// Which requests are held up.
-#[derive(Clone, Copy)]
-pub(crate) enum Held {
-    None,
-    First,
-    Even,
-}
+/// How many turns those are left who begin to wait.
+const PAUSE: u64 = 10_000;
 
 /// Holds the workers of some requests up until it is opened.
 #[derive(Drop)]
 pub(crate) struct HoldingGate {
-    held: Held,
+    /// Which: a letter for each number from 1 on, `h` for one that is held up.
+    held: &'static str,
     entered: AtomicU64,
     begun: AtomicU64,
     opened: AtomicU64,
@@ -26,7 +23,7 @@ pub(crate) struct HoldingGate {
 }
 
 impl HoldingGate {
-    pub(crate) fn new(held: Held) -> HoldingGate {
+    pub(crate) fn new(held: &'static str) -> HoldingGate {
         HoldingGate {
             held,
             entered: AtomicU64::new(0),
@@ -41,43 +38,41 @@ impl HoldingGate {
         self.opened.store(1, Ordering::SeqCst);
     }
 
-    /// How often a worker came to it.
-    pub(crate) fn entered(&self) -> u64 {
-        self.entered.load(Ordering::SeqCst)
-    }
-
-    /// How many requests a worker began to compile.
-    pub(crate) fn begun(&self) -> u64 {
-        self.begun.load(Ordering::SeqCst)
-    }
-
-    /// Whether a worker went on before it was opened.
-    pub(crate) fn ran_out(&self) -> bool {
-        self.ran_out.load(Ordering::SeqCst) != 0
-    }
-
-    fn holds(&self, number: u64) -> bool {
-        match self.held {
-            Held::None => false,
-            Held::First => number == 1,
-            Held::Even => number % 2 == 0,
+    /// Yields so many turns, or until it is opened. Whether it is.
+    fn is_opened_within(&self, turns: u64) -> bool {
+        for _turn in 0..turns {
+            if self.opened.load(Ordering::SeqCst) != 0 {
+                return true;
+            }
+            thread::yield_now();
         }
+        false
+    }
+
+    /// Does what a word says, or tells: how often a worker came to it, how many requests a worker began to
+    /// compile, and whether one went on before it was opened.
+    pub(crate) fn done(&self, word: &str) -> Result<u64, Refusal> {
+        match word {
+            "open" => self.open(),
+            "pause" => {
+                self.is_opened_within(PAUSE);
+            }
+            "entered" => return Ok(self.entered.load(Ordering::SeqCst)),
+            "begun" => return Ok(self.begun.load(Ordering::SeqCst)),
+            "ran-out" => return Ok(self.ran_out.load(Ordering::SeqCst)),
+            _ => return Err(Refusal::UnknownRequest),
+        }
+        Ok(0)
     }
 }
 
 impl Gate for HoldingGate {
     fn enter(&self, number: u64) {
         self.entered.fetch_add(1, Ordering::SeqCst);
-        if !self.holds(number) {
-            return;
+        let letter = self.held.as_bytes().get(number.saturating_sub(1) as usize);
+        if letter == Some(&b'h') && !self.is_opened_within(TURNS) {
+            self.ran_out.store(1, Ordering::SeqCst);
         }
-        for _turn in 0..TURNS {
-            if self.opened.load(Ordering::SeqCst) != 0 {
-                return;
-            }
-            thread::yield_now();
-        }
-        self.ran_out.store(1, Ordering::SeqCst);
     }
 
     fn begin(&self, _number: u64) {

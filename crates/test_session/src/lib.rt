@@ -1,16 +1,13 @@
-//! Tests of `session` by its public names alone: sessions over memory, on a book and on a shared
-//! one.
+//! Tests of `session` by its public names alone: sessions over bytes in memory, on a shared book.
 #![tactic(auto)]
 
 #[cfg(test)]
-mod same;
+mod clients;
 #[cfg(test)]
-mod served_texts;
+mod desk;
 #[cfg(test)]
-mod sessions_on_a_book;
-#[cfg(test)]
-mod sessions_over_memory;
+mod sessions;
 #[cfg(test)]
 mod streams;
 #[cfg(test)]
-mod watched_sessions;
+mod texts;

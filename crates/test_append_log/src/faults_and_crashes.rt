@@ -1,0 +1,115 @@
+//! Faults at each call in turn; what a crash leaves behind what was acknowledged, and what a log that is
+//! opened then goes on with.
+
+use append_log::{Answer, Log, LogFault, MemoryFile, whole_length};
+use std::alloc::{AllocError, Global};
+use std::process::Abort;
+
+/// Letters of the answers of the file: `m` is made, `p` takes one byte, `f` finds no room, `x` fails; how many
+/// bytes a crash leaves behind what is on the disk; what the trials come to, with `k` kept, `f` full, `x` failed
+/// and `-` failed before; what the crash leaves; and what the log has that is opened then. `/` is a line feed.
+const FAULTS: &str = "|0|kkk|a/bc/|a/bc/
+mmmm|0|kkk|a/bc/|a/bc/
+f|0|fkk|a/bc/|a/bc/
+ff|0|ffk|a/bc/|a/bc/
+fff|0|fff||
+x|0|x--||
+mx|0|x--||
+p|0|kkk|a/bc/|a/bc/
+pp|0|kkk|a/bc/|a/bc/
+pf|0|fkk|a/bc/|a/bc/
+ppf|0|kkk|a/bc/|a/bc/
+px|0|x--||
+ppx|0|x--||
+mmf|0|kfk|a/bc/|a/bc/
+mmff|0|kff|a/|a/
+mmx|0|kx-|a/|a/
+mmmx|0|kx-|a/|a/
+mmpf|0|kfk|a/bc/|a/bc/
+mmpff|0|kff|a/|a/
+mmpfx|0|kfx|a/|a/
+mmppf|0|kfk|a/bc/|a/bc/
+mmpppx|0|kx-|a/|a/
+fmx|0|fx-||
+fpfpm|0|ffk|a/bc/|a/bc/";
+
+const CRASHES: &str = "mmf|0|kf|a/|a/
+mmpf|0|kf|a/|a/
+mmpf|1|kf|a/b|a/
+mmpf|2|kf|a/b|a/
+mmppf|1|kf|a/b|a/
+mmppf|2|kf|a/b/|a/b/
+mmpppf|3|kf|a/b/c|a/b/
+mmppppx|4|kx|a/|a/
+mmmm|0|kk|a/b/c/|a/b/c/";
+
+#[test]
+fn each_fault_leaves_what_was_acknowledged(rt: HostRuntime) {
+    for row in FAULTS.lines() {
+        play(&rt, rt.alloc(), &["a\n", "bc\n", ""], row);
+    }
+}
+
+#[test]
+fn a_crash_leaves_a_first_part_and_opening_its_whole_lines(rt: HostRuntime) {
+    for row in CRASHES.lines() {
+        play(&rt, rt.alloc(), &["a\n", "b\nc\n"], row);
+    }
+}
+
+/// Plays a row: each text is added, and tried once to be kept.
+fn play(rt: &impl Abort, alloc: Global, texts: &[&str], row: &str) {
+    let (letters, rest) = row.split_once('|').expect(rt, row);
+    let (behind, wanted) = rest.split_once('|').expect(rt, row);
+    let mut found = String::new(alloc);
+    let mut log = log_in(rt, alloc, "", letters);
+    for text in texts {
+        log.add(text.as_bytes()).expect(rt, "error");
+        found.push_str(trial(&mut log)).expect(rt, "error");
+    }
+    let left = text_left(rt, alloc, &log, behind.parse().ok().expect(rt, row));
+    let opened = log_in(rt, alloc, left.as_str(), "");
+    let recovered = text_left(rt, alloc, &opened, 9);
+    write!(&mut found, "|{left}|{recovered}").expect(rt, "error");
+    let found = found.replace(alloc, "\n", "/").expect(rt, "error");
+    assert!(rt; found.as_str() == wanted, "{row}: {found}");
+}
+
+/// A log in a file that has this text. Its calls come to the answers of these letters, once it is opened.
+fn log_in(rt: &impl Abort, alloc: Global, text: &str, letters: &str) -> Log<MemoryFile> {
+    let bytes = text.as_bytes().to_vec(alloc).expect(rt, "error");
+    let answers = answers_of(alloc, letters).expect(rt, "error");
+    let end = whole_length(bytes.as_slice()) as u64;
+    let file = MemoryFile::new(bytes, answers);
+    Log::open(alloc, file, end).ok().expect(rt, "it is opened")
+}
+
+/// The answers of letters, the last one first, behind that of the cut.
+fn answers_of(alloc: Global, letters: &str) -> Result<Vec<Answer>, AllocError> {
+    let mut answers = Vec::new(alloc);
+    for letter in letters.as_bytes().iter().rev() {
+        answers.push(match *letter {
+            b'p' => Answer::Part(1),
+            b'f' => Answer::Full,
+            b'x' => Answer::Failed,
+            _ => Answer::Made,
+        })?;
+    }
+    answers.push(Answer::Made)?;
+    Ok(answers)
+}
+
+fn trial(log: &mut Log<MemoryFile>) -> &'static str {
+    match log.write_and_sync() {
+        Ok(()) => "k",
+        Err(LogFault::Full(_)) => "f",
+        Err(LogFault::Failed(_)) => "x",
+        Err(LogFault::FailedBefore) => "-",
+    }
+}
+
+/// What a crash leaves of a log, with so many bytes behind what is on the disk.
+fn text_left(rt: &impl Abort, alloc: Global, log: &Log<MemoryFile>, behind: usize) -> String {
+    let left = log.file().crash(alloc, behind).expect(rt, "error");
+    String::from_utf8(left).ok().expect(rt, "ASCII")
+}

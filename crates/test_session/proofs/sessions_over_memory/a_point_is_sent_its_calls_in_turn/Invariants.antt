@@ -1,8 +1,0 @@
--- The ledgers are those of the two blanks.
-use Rattle.test_session.proofs.sessions_over_memory.a_point_is_sent_its_calls_in_turn.Given as goal
-
-abbrev pub ghosts-point_texts-C-Ledger : goal.ghosts-point_texts-C-Ledger
-ghosts-point_texts-C-Ledger g a = record { name = a.blanks.0.name; parts = a.blanks.0.parts }
-
-abbrev pub ghosts-point_texts-A-Ledger : goal.ghosts-point_texts-A-Ledger
-ghosts-point_texts-A-Ledger g a = record { name = a.blanks.1.name; parts = a.blanks.1.parts }

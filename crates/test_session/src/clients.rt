@@ -1,0 +1,67 @@
+//! What a client sends, all of it from the beginning, and what it reads in the end.
+
+use crate::texts::{name_of, text_of};
+use std::alloc::Global;
+use std::process::Abort;
+use tungstenite::{Duplex, MaskKeys, Message, Role, WebSocket};
+
+/// A client's masking keys, which are all the same.
+#[derive(Clone, Copy, Debug)]
+struct OneKey;
+
+impl MaskKeys for OneKey {
+    fn next_key(&mut self) -> [u8; 4] {
+        [1, 2, 3, 4]
+    }
+}
+
+fn client_of<'a>(alloc: Global, bytes: &'a [u8]) -> WebSocket<Duplex<&'a [u8], Vec<u8>>, OneKey> {
+    let stream = Duplex {
+        reader: bytes,
+        writer: Vec::new(alloc),
+    };
+    WebSocket::from_raw_socket(alloc, stream, OneKey, Role::Client, None)
+}
+
+/// The bytes of a client that sends messages of these names, and a close frame for `close`. For `end` it
+/// sends nothing.
+pub(crate) fn client_bytes(rt: &impl Abort, alloc: Global, names: &str) -> Vec<u8> {
+    let mut socket = client_of(alloc, &[]);
+    for name in names.split(' ') {
+        if name != "end" {
+            socket.send(message_of(rt, alloc, name)).expect(rt, "error");
+        }
+    }
+    socket.into_inner().writer
+}
+
+fn message_of(rt: &impl Abort, alloc: Global, name: &str) -> Message {
+    if name == "close" {
+        return Message::Close(None);
+    }
+    Message::text(alloc, text_of(name)).expect(rt, "error")
+}
+
+/// The names of what a client reads from a server's bytes. It is read twice, in case memory was refused to
+/// one reading.
+pub(crate) fn heard(alloc: Global, bytes: &[u8]) -> String {
+    let (one, other) = (heard_once(alloc, bytes), heard_once(alloc, bytes));
+    if one.len() < other.len() { other } else { one }
+}
+
+fn heard_once(alloc: Global, bytes: &[u8]) -> String {
+    let mut socket = client_of(alloc, bytes);
+    let mut names = String::new(alloc);
+    for _message in 0..100u32 {
+        let Ok(message) = socket.read() else {
+            break;
+        };
+        let name = match &message {
+            Message::Text(text) => name_of(text.as_str()),
+            Message::Close(_) => "close",
+            _ => "other",
+        };
+        let _ = write!(&mut names, " {name}");
+    }
+    names
+}

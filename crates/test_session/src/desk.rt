@@ -1,0 +1,221 @@
+//! Sessions that are served one after another on a shared book without workers, a line each.
+
+ghost use Rattle.std.specs.Prelude.{◌≡◌};
+
+use crate::clients::{client_bytes, heard};
+use crate::streams::Stream;
+use crate::texts::SITE;
+use compile_pool::Jobs;
+use crossbeam_channel::{Sender, bounded};
+use ocpp_scalars::{Instant, Moments};
+use profile::Unit;
+use session::{
+    Context, Ended, Heard, NoJournal, SessionCore, WatchedSocket, serve_next, serve_session,
+};
+use site_core::PointId;
+use site_rules::read_site;
+use std::alloc::Global;
+use std::process::Abort;
+use std::rt::Clock;
+use std::sync::ledger::{Blank, Ledger};
+use std::sync::{Mutex, Wait};
+use test_books::{Words, instant_at};
+use tungstenite::{NoMask, Role, WebSocket};
+use version_store::{Job, NoName, Pass, Shared};
+
+/// A clock that tells one moment, or none.
+#[derive(Clone, Copy, Debug)]
+pub(crate) struct Fixed(Option<Instant>);
+
+impl Moments for Fixed {
+    fn now(&self) -> Option<Instant> {
+        self.0
+    }
+}
+
+type Desk<'a, C, A, R> = Context<'a, C, A, R, Fixed, NoJournal, NoName>;
+
+/// Plays a story's lines, such as `operator 5 450 install ask close`: who is served; after how many calls the
+/// stream fails; behind how many of its client's bytes it ends; and what the client sends. A session that is
+/// `watched`, or compiles a `small` request itself, gets what is behind `|` once it looks at its stream. A
+/// job goes to nobody where there is one of these, and else comes back. `other` is a job of another session.
+/// `timeless` is an operator's session without a clock. Returns for each how it ended, and what its client
+/// read; then the changes and answers of the book, the calls that wait, the requests that are kept, and the jobs
+/// on their way. A story that came to `enough` ends there.
+pub(crate) fn play<C: Ledger, A: Ledger, R: Abort + Wait + Clock>(
+    rt: &R,
+    alloc: Global,
+    blanks: (Blank, Blank),
+    story: &str,
+    enough: &str,
+) -> String
+    requires changes { (blanks.0.name ≡ C.name) × (blanks.0.parts ≡ C.parts)
+        × (blanks.0.parts ≡ 1) }
+    requires answers { (blanks.1.name ≡ A.name) × (blanks.1.parts ≡ A.parts)
+        × (blanks.1.parts ≡ 1) }
+{
+    let site = read_site(alloc, SITE.as_bytes()).expect(rt, "error");
+    let made: Result<(Shared<C, A>, _), _> = Shared::make(alloc, blanks.0, blanks.1, site, 1);
+    let (shared, mut passes) = made.expect(rt, "error");
+    let mut pass = passes.pop().expect(rt, "no pass");
+    let (jobs, queue) = bounded(alloc, 1).expect(rt, "error");
+    let queue = if story.contains(" | ") {
+        Some(queue)
+    } else {
+        drop(queue);
+        None
+    };
+    let moment = instant_at(10).expect(rt, "no instant");
+    let clock = Fixed(if story.contains("timeless") {
+        None
+    } else {
+        Some(moment)
+    });
+    let reading = Mutex::new(());
+    let desk: Desk<'_, C, A, R> = Context {
+        rt,
+        alloc,
+        shared: &shared,
+        jobs: Jobs::one(&jobs),
+        clock: &clock,
+        journal: &NoJournal,
+        reading: &reading,
+    };
+    let mut found = String::with_capacity(alloc, 1_000).expect(rt, "error");
+    for line in story.split("; ") {
+        pass = play_line(&desk, line, pass, &mut found);
+        put_book(&desk, &jobs, &pass, &mut found);
+        if found.as_str() == enough {
+            break;
+        }
+    }
+    drop(queue);
+    found
+}
+
+fn play_line<C: Ledger, A: Ledger, R: Abort + Wait + Clock>(
+    desk: &Desk<'_, C, A, R>,
+    line: &str,
+    pass: Pass<C, A>,
+    found: &mut String,
+) -> Pass<C, A> {
+    let (rt, alloc, mut words) = (desk.rt, desk.alloc, Words::of(line));
+    let who = words.word();
+    if who == "other" {
+        return send_other(desk, pass);
+    }
+    let calls = words.number().expect(rt, line) as usize;
+    let bytes = words.number().expect(rt, line) as usize;
+    let (first, later) = words
+        .rest()
+        .split_once(" | ")
+        .unwrap_or((words.rest(), "end"));
+    let first = client_bytes(rt, alloc, first);
+    let later = client_bytes(rt, alloc, later);
+    let mut output = Vec::with_capacity(alloc, 4_096).expect(rt, "error");
+    let stream = Stream {
+        first: first.as_slice().split_at(bytes.min(first.len())).0,
+        later: later.as_slice(),
+        waits: line.contains(" | "),
+        calls,
+        output: &mut output,
+    };
+    let socket = WebSocket::from_raw_socket(alloc, stream, NoMask, Role::Server, None);
+    let (ended, pass) = serve(desk, who, socket, pass);
+    let heard = heard(alloc, output.as_slice());
+    write!(found, "{}{heard}", name_of_end(ended)).expect(rt, "error");
+    pass
+}
+
+fn serve<C: Ledger, A: Ledger, R: Abort + Wait + Clock>(
+    desk: &Desk<'_, C, A, R>,
+    who: &str,
+    socket: WebSocket<Stream<'_>, NoMask>,
+    pass: Pass<C, A>,
+) -> (Option<Ended>, Pass<C, A>) {
+    let core = match who {
+        "point" => SessionCore::point(desk.alloc, "CP1"),
+        _ => SessionCore::operator(desk.alloc, "CP1", Unit::A),
+    };
+    let core = core.expect(desk.rt, "error");
+    match who {
+        "watched" => watch(desk, socket, None, &core, pass),
+        "small" => watch(desk, socket, Some(0), &core, pass),
+        _ => {
+            let (ended, pass) = serve_session(desk, socket, core, pass);
+            (Some(ended), pass)
+        }
+    }
+}
+
+/// Serves messages over a stream that is looked at, until none comes or the session ends. How it ended, if it
+/// did.
+fn watch<C: Ledger, A: Ledger, R: Abort + Wait + Clock>(
+    desk: &Desk<'_, C, A, R>,
+    socket: WebSocket<Stream<'_>, NoMask>,
+    most_of_own: Option<u64>,
+    core: &SessionCore,
+    pass: Pass<C, A>,
+) -> (Option<Ended>, Pass<C, A>) {
+    let (mut socket, mut pass) = (socket, pass);
+    let mut watched = WatchedSocket::new(desk.rt, &mut socket, most_of_own);
+    for _message in 0..20u32 {
+        match serve_next(desk, &mut watched, core, &mut pass) {
+            Ok(Heard::Nothing) => return (None, pass),
+            Ok(_) => {}
+            Err(ended) => return (Some(ended), pass),
+        }
+    }
+    desk.rt.panic("it goes on")
+}
+
+/// Sends the job of a request.
+fn send_other<C: Ledger, A: Ledger, R: Abort + Wait>(
+    desk: &Desk<'_, C, A, R>,
+    pass: Pass<C, A>,
+) -> Pass<C, A> {
+    let (rt, mut pass) = (desk.rt, pass);
+    let point = PointId::copied(desk.alloc, "CP1").expect(rt, "error");
+    let start = instant_at(0).expect(rt, "no instant");
+    let job = desk
+        .shared
+        .lock(rt)
+        .take(&mut pass, point, 1, start, 60, None);
+    let sent = desk.jobs.send(rt, job.expect(rt, "error"));
+    sent.ok().expect(rt, "not sent");
+    pass
+}
+
+/// Adds what the book has, whose point has no link. The pass counts all of it.
+fn put_book<C: Ledger, A: Ledger, R: Abort + Wait>(
+    desk: &Desk<'_, C, A, R>,
+    jobs: &Sender<Job>,
+    pass: &Pass<C, A>,
+    found: &mut String,
+) {
+    let book = desk.shared.lock(desk.rt);
+    let is_counted = pass.totals() == book.totals() && pass.seen() == book.version();
+    let is_linked = book.link_of("CP1").is_some();
+    let (waiting, kept) = (book.outbox_len("CP1"), book.open_requests());
+    drop(book);
+    assert!(desk.rt; is_counted && !is_linked, "behind {found}");
+    let totals = pass.totals();
+    let (changes, answers) = (totals.changes, totals.answers);
+    write!(
+        found,
+        "/{changes} {answers} {waiting} {kept} {};",
+        jobs.len()
+    )
+    .expect(desk.rt, "error");
+}
+
+fn name_of_end(ended: Option<Ended>) -> &'static str {
+    match ended {
+        None => "open",
+        Some(Ended::Closed) => "closed",
+        Some(Ended::Broken) => "broken",
+        Some(Ended::Breach(_)) => "breach",
+        Some(Ended::OutOfMemory) => "out-of-memory",
+        Some(Ended::Unsaved) => "unsaved",
+    }
+}

@@ -1,0 +1,146 @@
+//! Stories of sessions, of which `play` has the form: sockets that fail or end anywhere, requests that are
+//! given up, and memory that is refused.
+
+use crate::desk::play;
+use std::alloc::Global;
+use std::marker::Brand;
+use std::process::Abort;
+use std::rt::Clock;
+use std::sync::Wait;
+use std::sync::ledger::Blank;
+
+/// What comes of a story.
+fn played<R: Abort + Wait + Clock>(rt: &R, alloc: Global, story: &str, enough: &str) -> String {
+    play::<Brand, Brand, R>(rt, alloc, (Blank::new(1), Blank::new(1)), story, enough)
+}
+
+/// Nobody compiles a job. Where its client leaves, a request is kept no longer, and is counted; one that finds
+/// no room is answered at once, one that is small too; another one waits. Without a clock no message is read.
+const STORIES: &str = "watched 100 450 ask | close = closed close/0 1 1 0 1;
+watched 100 450 ask | end = broken/0 1 1 0 1;
+other; watched 100 450 ask | end = /0 0 1 1 1;open ask-short/0 1 1 1 1;
+small 100 450 ask | end = open schedule-without/0 1 1 0 0;
+operator 100 450 install no-frame ask close = closed accepted schedule close/1 1 2 0 0;
+point 100 450 no-frame heartbeat close = closed clear moment close/0 0 1 0 0;
+timeless 100 450 heartbeat close = broken/0 0 1 0 0;";
+
+#[test]
+fn each_story_comes_to_its_end(rt: HostRuntime) {
+    for row in STORIES.lines() {
+        let (story, wanted) = row.split_once(" = ").expect(&rt, row);
+        let found = played(&rt, rt.alloc(), story, "");
+        assert!(rt; found.as_str() == wanted, "{row}: {found}");
+    }
+}
+
+/// What an operator's session that fails later and later comes to, and the next session. First nothing is read;
+/// then the install is made and not answered; then the schedule is counted and not told; then the close.
+const CALLS_OF_OPERATOR: &str = "broken/0 0 1 0 0;closed accepted schedule close/1 1 2 0 0;
+broken/1 0 2 0 0;closed accepted schedule close/2 1 3 0 0;
+broken accepted/1 1 2 0 0;closed accepted schedule close/2 2 3 0 0;
+broken accepted schedule/1 1 2 0 0;closed accepted schedule close/2 2 3 0 0;
+closed accepted schedule close/1 1 2 0 0;closed accepted schedule close/2 2 3 0 0;";
+
+/// The same with a client whose bytes end.
+const BYTES_OF_OPERATOR: &str = "broken/0 0 1 0 0;closed accepted schedule close/1 1 2 0 0;
+broken accepted/1 0 2 0 0;closed accepted schedule close/2 1 3 0 0;
+broken accepted schedule/1 1 2 0 0;closed accepted schedule close/2 2 3 0 0;
+closed accepted schedule close/1 1 2 0 0;closed accepted schedule close/2 2 3 0 0;";
+
+/// A point's call that was in flight waits again.
+const CALLS_OF_POINT: &str = "broken/0 0 1 0 0;closed moment clear moment close/0 0 1 0 0;
+broken moment/0 0 1 0 0;closed moment clear moment close/0 0 1 0 0;
+broken moment clear/0 0 1 0 0;closed moment clear moment close/0 0 1 0 0;
+broken moment clear moment/0 0 1 0 0;closed moment clear moment close/0 0 1 0 0;
+closed moment clear moment close/0 0 1 0 0;closed moment clear moment close/0 0 1 0 0;";
+
+const BYTES_OF_POINT: &str = "broken/0 0 1 0 0;closed moment clear moment close/0 0 1 0 0;
+broken moment clear/0 0 1 0 0;closed moment clear moment close/0 0 1 0 0;
+broken moment clear moment/0 0 1 0 0;closed moment clear moment close/0 0 1 0 0;
+closed moment clear moment close/0 0 1 0 0;closed moment clear moment close/0 0 1 0 0;";
+
+/// Plays a story with each number up to this for `#`. They come to each of these rows, in this order.
+fn come_to(rt: &(impl Abort + Wait + Clock), alloc: Global, story: &str, most: u32, rows: &str) {
+    let (mut row, mut left) = rows.split_once('\n').expect(rt, rows);
+    for number in 0..most {
+        let number = format!(in alloc; "{number}").expect(rt, "error");
+        let story = story
+            .replace(alloc, "#", number.as_str())
+            .expect(rt, "error");
+        let found = played(rt, alloc, story.as_str(), "");
+        if found.as_str() != row {
+            (row, left) = left.split_once('\n').unwrap_or((left, ""));
+        }
+        assert!(rt; found.as_str() == row, "{story}: {found}, wanted {row}");
+    }
+    assert!(rt; left.is_empty(), "not come to: {left}");
+}
+
+#[test]
+fn a_socket_may_fail_at_each_call(rt: HostRuntime) {
+    let story = "operator # 450 install ask close; operator 100 450 install ask close";
+    come_to(&rt, rt.alloc(), story, 12, CALLS_OF_OPERATOR);
+    let story = "point # 450 heartbeat heartbeat close; point 100 450 heartbeat heartbeat close";
+    come_to(&rt, rt.alloc(), story, 12, CALLS_OF_POINT);
+}
+
+/// The bytes of all messages are fewer than 450.
+#[test]
+fn bytes_may_end_anywhere(rt: HostRuntime) {
+    let story = "operator 100 # install ask close; operator 100 450 install ask close";
+    come_to(&rt, rt.alloc(), story, 450, BYTES_OF_OPERATOR);
+    let story = "point 100 # heartbeat heartbeat close; point 100 450 heartbeat heartbeat close";
+    come_to(&rt, rt.alloc(), story, 100, BYTES_OF_POINT);
+}
+
+/// What a session may come to of which an allocation is refused, with its book: it says so to its client, or
+/// ends. No request is left, and a point's call waits again.
+const SHORT_OPERATOR: &str = "closed accepted ask-short close/1 0 2 0 0
+closed accepted ask-short close/1 1 2 0 0
+closed install-short schedule-without close/0 1 1 0 0
+out-of-memory/0 0 1 0 0
+out-of-memory/1 0 2 0 0
+out-of-memory accepted/1 0 2 0 0
+out-of-memory accepted/1 1 2 0 0
+out-of-memory accepted schedule/1 1 2 0 0
+out-of-memory accepted schedule close/1 1 2 0 0";
+
+const SHORT_POINT: &str = "closed heartbeat-short clear close/0 0 1 0 0
+out-of-memory/0 0 1 0 0
+out-of-memory close/0 0 1 0 0
+out-of-memory moment/0 0 1 0 0
+out-of-memory moment clear/0 0 1 0 0
+out-of-memory moment clear close/0 0 1 0 0";
+
+/// Plays two sessions, of the first of which `tests/program.py` refuses an allocation. It comes to this, or to one
+/// of these, and then the next one isn't short of anything.
+fn may_be_refused(
+    rt: &(impl Abort + Wait + Clock),
+    alloc: Global,
+    story: &str,
+    whole: &str,
+    short: &str,
+) {
+    let found = played(rt, alloc, story, whole);
+    if found.as_str() == whole {
+        return;
+    }
+    let (first, next) = found.as_str().split_once(';').expect(rt, "two sessions");
+    assert!(rt; short.lines().any(|row| row == first), "{found}");
+    let (told, _) = whole.split_once('/').expect(rt, "what is told");
+    assert!(rt; next.starts_with(told), "{found}");
+}
+
+#[test]
+fn an_operators_session_is_refused_memory(rt: HostRuntime) {
+    let story = "operator 100 450 install ask close; operator 100 450 install ask close";
+    let whole = "closed accepted schedule close/1 1 2 0 0;";
+    may_be_refused(&rt, rt.alloc(), story, whole, SHORT_OPERATOR);
+}
+
+#[test]
+fn a_points_session_is_refused_memory(rt: HostRuntime) {
+    let story = "point 100 450 heartbeat close; point 100 450 heartbeat close";
+    let whole = "closed moment clear close/0 0 1 0 0;";
+    may_be_refused(&rt, rt.alloc(), story, whole, SHORT_POINT);
+}
