@@ -27,15 +27,17 @@ const MESSAGES: &str =
     r#"operator [2,"a","SetChargingProfile",{"connectorId":%,~"csChargingProfiles":{"chargingProfileId":%,"stackLevel":%,"chargingProfilePurpose":"TxDefaultProfile","chargingProfileKind":"Relative","chargingSchedule":{"chargingRateUnit":"A","chargingSchedulePeriod":[{"startPeriod":0,"limit":1%.%}]}}}]
 operator [2,"a","SetChargingProfile",{"connectorId":0,"csChargingProfiles":{"chargingProfileId":%,"stackLevel":0,"chargingProfilePurpose":"TxDefaultProfile","chargingProfileKind":"Relative","chargingSchedule":{"chargingRateUnit":"A","chargingSchedulePeriod":[{"startPeriod":0,"limit":%}]}}}]
 operator [2,"b","ClearChargingProfile",{"id":%}]
-point [2,"e","StartTransaction",{"connectorId":%,"idTag":"T%","meterStart":%,"timestamp":"2025-01-01T00:00:00Z"}]
 point [2,"f","StopTransaction",{"transactionId":@,"meterStop":1,"timestamp":"2025-01-01T01:00:00Z"}]
 operator [2,"c","AuditPoint",{"connectorId":%,"duration":60}]
 operator [2,"d","RemoteStartTransaction",{"connectorId":%,"idTag":"T%","chargingProfile":{"chargingProfileId":9,"stackLevel":0,"chargingProfilePurpose":"TxProfile","chargingProfileKind":"Relative","chargingSchedule":{"chargingRateUnit":"A","chargingSchedulePeriod":[{"startPeriod":0,"limit":6}]}}}]
-point [4,"&","InternalError","",{}]
-point [3,"1&",{"status":"Accepted"}]
-point [3,"&",{"status":"Rejected"}]
-point [3,"&",{"status":"Accepted"}]
-point [3,"&",{"status":"Accepted",~"connectorId":1,"scheduleStart":"2025-01-01T00:00:08Z","chargingSchedule":{"duration":60,"chargingRateUnit":"A","chargingSchedulePeriod":[{"startPeriod":0,"limit":32.0}]}}]"#;
+reply [4,"&","InternalError","",{}]
+reply [3,"1&",{"status":"Accepted"}]
+reply [3,"&",{"status":"Rejected"}]
+reply [3,"&",{"status":"Accepted"}]
+reply [3,"&",{"status":"Accepted",~"connectorId":1,"scheduleStart":"2025-01-01T00:00:08Z","chargingSchedule":{"duration":60,"chargingRateUnit":"A","chargingSchedulePeriod":[{"startPeriod":0,"limit":32.0}]}}]"#;
+
+const START: &str =
+    r#"[2,"e","StartTransaction",{"connectorId":%,"idTag":"T%","meterStart":%,"timestamp":"2025-01-01T00:00:00Z"}]"#;
 
 /// A book, and the journal of what was done to it.
 #[derive(Drop)]
@@ -81,12 +83,11 @@ impl<C: Ledger, A: Ledger> Desk<C, A> {
 
     // ---- what is said
 
-    /// A message comes that asks for a change, or replies to a call.
-    fn hear(&mut self, rt: &impl Abort, sender: Side, point: &str, frame: &str) {
+    /// A message comes that asks for a change.
+    fn message(&mut self, rt: &impl Abort, sender: Side, point: &str, frame: &str) {
         let text = SentText::new(self.moment(rt), sender, point, frame);
         match asked_of(self.alloc, &mut self.memory, &text).ok() {
             Some(Asked::Step { step, .. }) => self.change(rt, &text, step),
-            Some(Asked::Confirm { call, accepted, .. }) => self.confirm(rt, &text, call, accepted),
             _ => rt.panic(frame),
         }
     }
@@ -99,6 +100,15 @@ impl<C: Ledger, A: Ledger> Desk<C, A> {
         };
         if let Some(number) = number_drawn(&reply, self.book.version()) {
             self.note(rt, text.point(), noted, number);
+        }
+    }
+
+    /// The point replies to a call.
+    fn reply(&mut self, rt: &impl Abort, point: &str, frame: &str) {
+        let text = SentText::new(self.moment(rt), Side::Point, point, frame);
+        match asked_of(self.alloc, &mut self.memory, &text).ok() {
+            Some(Asked::Confirm { call, accepted, .. }) => self.confirm(rt, &text, call, accepted),
+            _ => rt.panic(frame),
         }
     }
 
@@ -124,7 +134,7 @@ impl<C: Ledger, A: Ledger> Desk<C, A> {
         let judged = Judged::make(self.alloc, job, said);
         holds(rt, !judged.short(), "error: OutOfMemory");
         if self.below(4) == 0 {
-            self.say(rt, text.point(), 3);
+            self.start(rt, text.point());
         }
         let point = self.id(rt, text.point());
         if self.book.judge(point, call, judged).is_ok() {
@@ -168,20 +178,30 @@ impl<C: Ledger, A: Ledger> Desk<C, A> {
         }
     }
 
-    /// The message of this row is said at a point.
-    fn say(&mut self, rt: &impl Abort, point: &str, row: u64) {
-        let row = MESSAGES.lines().nth(row as usize).expect(rt, "no row");
-        let (sender, form) = row.split_once(' ').expect(rt, row);
+    /// A message of this form, filled.
+    fn frame_of(&mut self, rt: &impl Abort, point: &str, form: &str) -> String {
         let mut frame = String::new(self.alloc);
         for mark in form.chars() {
             self.push_filled(rt, &mut frame, point, mark);
         }
-        let side = if sender == "point" {
-            Side::Point
-        } else {
-            Side::Operator
-        };
-        self.hear(rt, side, point, frame.as_str());
+        frame
+    }
+
+    fn start(&mut self, rt: &impl Abort, point: &str) {
+        let frame = self.frame_of(rt, point, START);
+        self.message(rt, Side::Point, point, frame.as_str());
+    }
+
+    /// The message of this row is said at a point.
+    fn say(&mut self, rt: &impl Abort, point: &str, row: u64) {
+        let row = MESSAGES.lines().nth(row as usize).expect(rt, "no row");
+        let (sender, form) = row.split_once(' ').expect(rt, row);
+        let frame = self.frame_of(rt, point, form);
+        match sender {
+            "operator" => self.message(rt, Side::Operator, point, frame.as_str()),
+            "point" => self.message(rt, Side::Point, point, frame.as_str()),
+            _ => self.reply(rt, point, frame.as_str()),
+        }
     }
 
     // ---- what happens
@@ -192,6 +212,7 @@ impl<C: Ledger, A: Ledger> Desk<C, A> {
         let place = self.below(2) as usize;
         let point = *POINTS.get(place).expect(rt, "no point");
         match self.below(17) {
+            11 => self.start(rt, point),
             12 => self.link(rt, point),
             13..=16 => self.send(rt, point),
             row => self.say(rt, point, row),

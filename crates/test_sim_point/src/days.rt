@@ -102,7 +102,10 @@ fn default_text(
     let mut text = text.expect(rt, "error");
     let first = level.saturating_mul(200);
     for begin in first..first.saturating_add(periods) {
-        let (comma, limit) = (if begin == first { "" } else { "," }, 1 + begin % 2);
+        let (comma, limit) = (
+            if begin == first { "" } else { "," },
+            1_u32.saturating_add(begin % 2),
+        );
         write!(text, r#"{comma}{{"startPeriod":{begin},"limit":{limit}}}"#).expect(rt, "error");
     }
     text.push_str("]}}}]").expect(rt, "error");
