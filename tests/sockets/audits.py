@@ -1,9 +1,10 @@
 """Audits: a point is asked for the schedule that it follows, and its reply is compared with what the central system means."""
+import subprocess
 import tempfile
 
-from programs import PROFILE, SITE, operator, point
+from programs import PROFILE, SITE, TX_PROFILE, operator, point, run
 from raw_client import RawClient
-from serving import Serving, expect
+from serving import ENVIRONMENT, PATIENCE, Serving, expect
 from texts import CALL_0, accepted, call, error, heartbeat, install, profile, rejected, result, start
 
 POINT, OPERATOR = "/P1", "/operator/P1"
@@ -67,9 +68,9 @@ class Desk:
         self.status("Waiting", 1)
         return number
 
-    def judged(self, reply_to, outcome):
+    def judged(self, reply_to, outcome, **asked):
         """A new audit is replied to, and has this outcome."""
-        number = self.begin()
+        number = self.begin(**asked)
         expect("behind the reply", self.point.texts_of(reply_to(number)), [])
         self.status(outcome)
 
@@ -108,6 +109,42 @@ def simulated_that_forgot(program):
         expect("the totals", serving.totals(), (2, 0))
 
 
+def simulated_of_another_unit(program):
+    """A simulated point that was set up in watts can't answer a central system that asks in amperes."""
+    with Serving(program, SITE, 3) as serving, tempfile.NamedTemporaryFile("w", suffix=".json") as site:
+        site.write(SITE.replace('"A"', '"W"'))
+        site.flush()
+        expect("the audit", operator(serving, "--audit", "1", "60")[0], 0)
+        words = ["point", "--url", f"ws://127.0.0.1:{serving.port}", "--site", site.name, "--id", "P1"]
+        expect("the point's end", run(program, words, BEATS)[0], 0)
+        expect("it is asked", operator(serving, "--status")[1].decode(), f'{status_of("Rejected", 0, 0, "status")}\n')
+        expect("the totals", serving.totals(), (0, 0))
+
+
+def simulated_after_a_remote_start(program):
+    """A simulated point that was asked to start with a profile has it, as the central system has."""
+    with Serving(program, SITE, 4) as serving, tempfile.NamedTemporaryFile("w", suffix=".json") as files:
+        files.write(TX_PROFILE)
+        files.flush()
+        expect("the remote start", operator(serving, "--remote-start", "1", "T1", files.name)[0], 0)
+        with tempfile.NamedTemporaryFile("w", suffix=".json") as site:
+            site.write(SITE)
+            site.flush()
+            words = ["point", "--url", f"ws://127.0.0.1:{serving.port}", "--site", site.name, "--id", "P1"]
+            with subprocess.Popen([program, *words], stdin=subprocess.PIPE, stdout=subprocess.PIPE, env=ENVIRONMENT) as process:
+                process.stdin.write(BEATS)
+                process.stdin.flush()
+                while b"StartTransaction" not in process.stdout.readline():
+                    pass
+                while b'"transactionId":1' not in process.stdout.readline():
+                    pass
+                expect("the audit", operator(serving, "--audit", "1", "60")[0], 0)
+                out, _ = process.communicate(BEATS, timeout=PATIENCE)
+                expect("the profile in its reply", b'{"startPeriod":0,"limit":6.0}' in out, True)
+        expect("it is asked", operator(serving, "--status")[1].decode(), f'{status_of("Agrees", 1, 0, "status")}\n')
+        expect("the totals", serving.totals(), (1, 0))
+
+
 def verdicts(program):
     """What each kind of reply comes to."""
     with Serving(program, SITE, 2) as serving:
@@ -133,6 +170,10 @@ def every_verdict(desk):
     desk.judged(lambda number: schedule_reply(number, [(0, 16.0)], duration=10), "Agrees")
     desk.judged(lambda number: schedule_reply(number, [(0, 16.0), (10, 1.0)], duration=10), "Unsettled")
     desk.judged(lambda number: schedule_reply(number, [(0, 16.0)], chargingRateUnit="W"), "Unsettled")
+    # As many periods as an answer may have, and one more; the last one is within the audit's time.
+    for count, last, outcome in ((4_096, 16.0, "Agrees"), (4_096, 15.9, "Differs"), (4_097, 16.0, "Unsettled")):
+        periods = [*((begin, 16.0) for begin in range(count - 1)), (count - 1, last)]
+        desk.judged(lambda number, said=periods, count=count: schedule_reply(number, said, duration=count), outcome, duration=count)
     desk.judged(lambda number: result(str(number), {"status": "Rejected"}), "Rejected")
     desk.judged(lambda number: result(str(number), {"status": "accepted"}), "Rejected")
     desk.judged(lambda number: error(str(number), "NotSupported"), "Rejected")
@@ -199,6 +240,8 @@ def another_connection(program):
 def tests():
     yield "a simulated point in step", simulated_in_step
     yield "a simulated point that forgot", simulated_that_forgot
+    yield "a simulated point of another unit", simulated_of_another_unit
+    yield "a simulated point after a remote start", simulated_after_a_remote_start
     yield "what replies come to", verdicts
     yield "one audit at a time", one_at_a_time
     yield "changes between an audit and its reply", changes_between

@@ -1,15 +1,13 @@
-//! Tests of `site_journal` by its public names alone: its lines, its first line, and books that are
-//! restored from journals.
+//! Tests of `site_journal` by its public names alone: texts that are lines of a journal or aren't,
+//! and books that are restored from journals, of one by hand and of random days.
 #![tactic(auto)]
 
 #[cfg(test)]
-mod headers;
+mod journal_lines;
 #[cfg(test)]
 mod journal_texts;
 #[cfg(test)]
-mod lines;
-#[cfg(test)]
-mod noted_histories;
+mod random_days;
 #[cfg(test)]
 mod restored_books;
 #[cfg(test)]

@@ -1,12 +1,11 @@
-//! Books that are restored from journals.
+//! Books that are restored from a journal by hand, cut after each line and changed in each.
 
 ghost use Rattle.std.specs.Prelude.{◌≡◌};
 
 use crate::journal_texts::{CHANGED, JOURNAL, SITE, STATES};
-use crate::same::{same, same_text};
-use messages::AuditOutcome;
+use crate::same::{holds, same_text};
 use site_core::PointId;
-use site_journal::{Line, Noted, RestoreFault, UNREAD_REPLY, lose_links, push_line, restore};
+use site_journal::{Line, Noted, UNREAD_REPLY, lose_links, push_line, restore};
 use site_rules::read_site;
 use std::alloc::Global;
 use std::marker::Brand;
@@ -18,110 +17,94 @@ use version_store::{Book, Pass};
 /// How many lines the journal has after its first one.
 const LINES: usize = 20;
 
-/// A book with the pass that restores it.
-#[derive(Drop)]
-struct Desk<C: Ledger, A: Ledger> {
+// ---- what comes of a journal
+
+/// What is said of a journal that is restored.
+fn said_of<C: Ledger, A: Ledger>(
+    rt: &impl Abort,
     alloc: Global,
-    book: Book<C, A>,
-    pass: Pass<C, A>,
+    book: &mut Book<C, A>,
+    pass: &mut Pass<C, A>,
+    journal: &str,
+) -> String {
+    let said = match restore(alloc, book, pass, journal.as_bytes()) {
+        Ok(restored) => format!(in alloc; "{} lines", restored.lines),
+        Err(unrestored) => format!(in alloc; "{unrestored}"),
+    };
+    said.expect(rt, "error")
 }
 
-/// What is done with a new book.
-#[derive(Clone, Copy)]
-enum Story {
-    /// So many lines of the journal are restored.
-    Cut(usize),
-    /// The journal is restored with the changed line of this index.
-    Changed(usize),
-    /// The journal is restored, and all links are lost.
-    LostLinks,
-    /// The reply to the audit was judged short of memory.
-    ShortVerdict,
-    /// A message has line breaks.
-    Breaks,
-    /// So many links came and went.
-    Links(u64),
+/// What CP1 has, as `STATES` has it.
+fn state_of<C: Ledger, A: Ledger>(rt: &impl Abort, alloc: Global, book: &Book<C, A>) -> String {
+    let (version, waiting) = (book.version(), book.outbox_len("CP1"));
+    let link = book.link_of("CP1").unwrap_or(0);
+    let sending = book.link_to_send("CP1").unwrap_or(0);
+    format!(in alloc; "{version} {waiting} {link} {sending}").expect(rt, "error")
 }
 
-impl<C: Ledger, A: Ledger> Desk<C, A> {
-    /// Restores a journal, and returns what is said of it.
-    fn restore(&mut self, rt: &impl Abort, journal: &str) -> String {
-        match restore(
-            self.alloc,
-            &mut self.book,
-            &mut self.pass,
-            journal.as_bytes(),
-        ) {
-            Ok(restored) => said_of_restored(rt, self.alloc, restored.lines),
-            Err(unrestored) if unrestored.fault == RestoreFault::OutOfMemory => rt.panic("error"),
-            Err(unrestored) => format!(in self.alloc; "{unrestored}").expect(rt, "error"),
-        }
-    }
-
-    /// What CP1 has, as `STATES` has it.
-    fn state(&self, rt: &impl Abort) -> String {
-        let book = &self.book;
-        let (version, waiting) = (book.version(), book.outbox_len("CP1"));
-        let link = book.link_of("CP1").unwrap_or(0);
-        let sending = book.link_to_send("CP1").unwrap_or(0);
-        format!(in self.alloc; "{version} {waiting} {link} {sending}").expect(rt, "error")
-    }
-
-    /// The audit of CP1 came to this.
-    fn has_audited(&mut self, rt: &impl Abort, wanted: AuditOutcome) {
-        let point = PointId::copied(self.alloc, "CP1").expect(rt, "error");
-        let status = self
-            .book
-            .status(&mut self.pass, point)
-            .ok()
-            .expect(rt, "no status");
-        same_text(rt, status.audit.name(), wanted.name(), "the audit");
-    }
+/// How many changes the book and the pass count, and what the audit of CP1 came to.
+fn counts_of<C: Ledger, A: Ledger>(
+    rt: &impl Abort,
+    alloc: Global,
+    book: &mut Book<C, A>,
+    pass: &mut Pass<C, A>,
+) -> String {
+    let point = PointId::copied(alloc, "CP1").expect(rt, "error");
+    let status = book.status(pass, point).ok().expect(rt, "no status");
+    let (all, own) = (book.totals().changes, pass.totals().changes);
+    format!(in alloc; "{all} {own} {}", status.audit.name()).expect(rt, "error")
 }
 
-fn said_of_restored(rt: &impl Abort, alloc: Global, lines: u64) -> String {
-    format!(in alloc; "{lines} lines").expect(rt, "error")
+/// What is noted where all links are lost at a minute past midnight.
+fn losses_of<C: Ledger, A: Ledger>(
+    rt: &impl Abort,
+    alloc: Global,
+    book: &mut Book<C, A>,
+) -> String {
+    let mut text = String::new(alloc);
+    let moment = instant_at(60).expect(rt, "no instant");
+    lose_links(alloc, book, moment, &mut text)
+        .ok()
+        .expect(rt, "error");
+    text
 }
 
-fn desk_of<C: Ledger, A: Ledger>(
+/// What comes of a journal in a new book: what is said of it, the state, what is noted where all
+/// links are then lost, and the state and the counts after that.
+fn play<C: Ledger, A: Ledger>(
     rt: &impl Abort,
     alloc: Global,
     changes: Blank,
     answers: Blank,
-) -> Desk<C, A>
+    journal: &str,
+) -> String
     requires changes { (changes.name ≡ C.name) × (changes.parts ≡ C.parts) × (changes.parts ≡ 1) }
     requires answers { (answers.name ≡ A.name) × (answers.parts ≡ A.parts) × (answers.parts ≡ 1) }
 {
     let site = read_site(alloc, SITE.as_bytes()).expect(rt, "no site");
-    let (book, mut passes): (Book<C, A>, _) = Book::make(alloc, changes, answers, site, 1).expect(
-        rt, "error",
-    );
-    Desk {
-        alloc,
-        book,
-        pass: passes.pop().expect(rt, "no pass"),
-    }
+    let (mut book, mut passes): (Book<C, A>, _) = Book::make(
+        alloc, changes, answers, site, 1,
+    ).expect(rt, "error");
+    let mut pass = passes.pop().expect(rt, "no pass");
+    let said = said_of(rt, alloc, &mut book, &mut pass, journal);
+    let state = state_of(rt, alloc, &book);
+    let losses = losses_of(rt, alloc, &mut book);
+    let after = state_of(rt, alloc, &book);
+    let counts = counts_of(rt, alloc, &mut book, &mut pass);
+    format!(in alloc; "{said}\n{state}\n{losses}{after} {counts}").expect(rt, "error")
 }
 
-fn play<C: Ledger, A: Ledger, R: Abort>(
-    rt: &R,
-    alloc: Global,
-    changes: Blank,
-    answers: Blank,
-    story: Story,
-)
-    requires changes { (changes.name ≡ C.name) × (changes.parts ≡ C.parts) × (changes.parts ≡ 1) }
-    requires answers { (answers.name ≡ A.name) × (answers.parts ≡ A.parts) × (answers.parts ≡ 1) }
-{
-    let mut desk: Desk<C, A> = desk_of(rt, alloc, changes, answers);
-    match story {
-        Story::Cut(lines) => cut_after(rt, &mut desk, lines),
-        Story::Changed(index) => changed(rt, &mut desk, index),
-        Story::LostLinks => links_lost(rt, &mut desk),
-        Story::ShortVerdict => short_verdict(rt, &mut desk),
-        Story::Breaks => breaks(rt, &mut desk),
-        Story::Links(links) => links_came_and_went(rt, &mut desk, links),
-    }
+/// The same, of a book that nobody else has.
+fn told(rt: &impl Abort, alloc: Global, journal: &str) -> String {
+    let (changes, answers) = (Blank::new(1), Blank::new(1));
+    play::<Brand, Brand>(rt, alloc, changes, answers, journal)
+}
+
+/// What comes of a journal is, or begins with, the text wanted.
+fn is_told(rt: &impl Abort, alloc: Global, journal: &str, wanted: &str) {
+    let told = told(rt, alloc, journal);
+    let begins = told.as_str().get(..wanted.len()).unwrap_or(told.as_str());
+    same_text(rt, begins, wanted, journal);
 }
 
 // ---- journals
@@ -137,103 +120,110 @@ fn journal_of(rt: &impl Abort, alloc: Global, lines: usize, changed: usize, line
     journal
 }
 
+/// What comes of the first lines of the journal, but for the counts.
+fn wanted_behind(rt: &impl Abort, alloc: Global, lines: usize) -> String {
+    let state = STATES.split(',').nth(lines).expect(rt, "no state");
+    let (version, rest) = state.split_once(' ').expect(rt, state);
+    let waiting = rest.split(' ').next().expect(rt, state);
+    let losses = match rest.split(' ').nth(1).expect(rt, state) {
+        "0" => String::new(alloc),
+        link => format!(in alloc; "2025-01-01T00:01:00Z lost CP1 {link}\n").expect(rt, "error"),
+    };
+    let count = lines.saturating_add(1);
+    format!(in alloc; "{count} lines\n{state}\n{losses}{version} {waiting} 0 0 ").expect(
+        rt, "error",
+    )
+}
+
 /// So many lines are restored, also where the next one is torn.
-fn cut_after<C: Ledger, A: Ledger>(rt: &impl Abort, desk: &mut Desk<C, A>, lines: usize) {
-    let mut journal = journal_of(rt, desk.alloc, lines, 0, "");
-    journal
-        .push_str("2025-01-01T00:00:20Z lost CP1")
-        .expect(rt, "error");
-    let said = desk.restore(rt, journal.as_str());
-    let wanted = said_of_restored(rt, desk.alloc, (lines as u64).saturating_add(1));
-    same_text(rt, said.as_str(), wanted.as_str(), "a journal that is cut");
-    let wanted = STATES.split(',').nth(lines).expect(rt, "no state");
-    let state = desk.state(rt);
-    same_text(rt, state.as_str(), wanted, journal.as_str());
-    if lines == LINES {
-        desk.has_audited(rt, AuditOutcome::Agrees);
-        same(rt, desk.book.totals().changes, 4, "changes");
-        same(rt, desk.pass.totals().changes, 4, "changes of the pass");
+fn cut_after(rt: &impl Abort, alloc: Global, lines: usize) {
+    let mut journal = journal_of(rt, alloc, lines, 0, "");
+    let torn = "2025-01-01T00:00:20Z lost CP1";
+    journal.push_str(torn).expect(rt, "error");
+    let wanted = wanted_behind(rt, alloc, lines);
+    is_told(rt, alloc, journal.as_str(), wanted.as_str());
+}
+
+#[test]
+fn a_journal_is_restored_after_each_line(rt: HostRuntime) {
+    for lines in 0..LINES {
+        cut_after(&rt, rt.alloc(), lines);
     }
 }
 
-/// A journal with a changed line is named by its first line that doesn't fit.
-fn changed<C: Ledger, A: Ledger>(rt: &impl Abort, desk: &mut Desk<C, A>, index: usize) {
-    let (number, line, wanted) = *CHANGED.get(index).expect(rt, "no line");
-    let journal = journal_of(rt, desk.alloc, LINES, number, line);
-    let said = desk.restore(rt, journal.as_str());
-    same_text(rt, said.as_str(), wanted, line);
-}
+/// What comes of all its lines.
+const WHOLE: &str = "21 lines
+4 1 2 2
+2025-01-01T00:01:00Z lost CP1 2
+2025-01-01T00:01:00Z lost CP2 3
+4 1 0 0 4 4 Agrees";
 
-/// What is noted where the links of the whole journal are lost.
+/// The same links, lost in the journal.
 const LOST: &str = "2025-01-01T00:01:00Z lost CP1 2
 2025-01-01T00:01:00Z lost CP2 3
 ";
 
-/// After the journal two points have a link. They lose it, and the journal with these lines leads
-/// there.
-fn links_lost<C: Ledger, A: Ledger>(rt: &impl Abort, desk: &mut Desk<C, A>) {
-    let said = desk.restore(rt, JOURNAL);
-    same_text(rt, said.as_str(), "21 lines", "the journal");
-    let mut text = String::new(desk.alloc);
-    let moment = instant_at(60).expect(rt, "no instant");
-    lose_links(desk.alloc, &mut desk.book, moment, &mut text)
-        .ok()
-        .expect(rt, "error");
-    same_text(rt, text.as_str(), LOST, "lost links");
-    let state = desk.state(rt);
-    same_text(rt, state.as_str(), "4 1 0 0", "without a link");
-    let said = desk.restore(rt, LOST);
-    same_text(
-        rt,
-        said.as_str(),
-        "line 2: its step is refused: Superseded",
-        "lost twice",
+#[test]
+fn a_whole_journal_is_restored(rt: HostRuntime) {
+    let alloc = rt.alloc();
+    is_told(&rt, alloc, JOURNAL, WHOLE);
+    let mut journal = journal_of(&rt, alloc, LINES, 0, "");
+    journal.push_str(LOST).expect(&rt, "error");
+    is_told(
+        &rt,
+        alloc,
+        journal.as_str(),
+        "23 lines\n4 1 0 0\n4 1 0 0 4 4 Agrees",
+    );
+    // A verdict that was short of memory is Unsettled again.
+    let short = format!(in alloc; "2025-01-01T00:00:09Z verdict CP1 2 {UNREAD_REPLY}");
+    let journal = journal_of(&rt, alloc, LINES, 11, short.expect(&rt, "error").as_str());
+    let told = told(&rt, alloc, journal.as_str());
+    holds(
+        &rt,
+        told.as_str().starts_with("21 lines\n4 1 2 2\n"),
+        told.as_str(),
+    );
+    holds(
+        &rt,
+        told.as_str().ends_with("\n4 1 0 0 4 4 Unsettled"),
+        told.as_str(),
     );
 }
 
-/// A verdict that was short of memory is Unsettled again.
-fn short_verdict<C: Ledger, A: Ledger>(rt: &impl Abort, desk: &mut Desk<C, A>) {
-    let line = format!(in desk.alloc; "2025-01-01T00:00:09Z verdict CP1 2 {UNREAD_REPLY}");
-    let line = line.expect(rt, "error");
-    let journal = journal_of(rt, desk.alloc, LINES, 11, line.as_str());
-    let said = desk.restore(rt, journal.as_str());
-    same_text(rt, said.as_str(), "21 lines", "a short verdict");
-    desk.has_audited(rt, AuditOutcome::Unsettled);
+/// A journal with a changed line is named by its first line that doesn't fit.
+fn changed(rt: &impl Abort, alloc: Global, row: &str) {
+    let (number, row) = row.split_once('|').expect(rt, row);
+    let (line, wanted) = row.split_once('|').expect(rt, row);
+    let number = number.parse::<usize>().expect(rt, number);
+    let journal = journal_of(rt, alloc, LINES, number, line);
+    is_told(rt, alloc, journal.as_str(), wanted);
 }
 
-/// A reply with line breaks confirms its call as it did.
-fn breaks<C: Ledger, A: Ledger>(rt: &impl Abort, desk: &mut Desk<C, A>) {
-    let mut journal = journal_of(rt, desk.alloc, 2, 0, "");
+#[test]
+fn a_changed_line_is_named(rt: HostRuntime) {
+    for row in CHANGED.lines() {
+        changed(&rt, rt.alloc(), row);
+    }
+}
+
+/// A reply with line breaks is on one line, and confirms its call as it did.
+#[test]
+fn a_message_with_line_breaks_is_restored(rt: HostRuntime) {
+    let alloc = rt.alloc();
+    let mut journal = journal_of(&rt, alloc, 2, 0, "");
     let line = Line {
-        moment: instant_at(2).expect(rt, "no instant"),
+        moment: instant_at(2).expect(&rt, "no instant"),
         point: "CP1",
         noted: Noted::Reply {
             link: 1,
             frame: "[3,\r\n\"0\",{\n\"status\":\r\"Unknown\"}]\n",
         },
     };
-    push_line(&mut journal, &line).expect(rt, "error");
-    let said = desk.restore(rt, journal.as_str());
-    same_text(rt, said.as_str(), "4 lines", "a message with line breaks");
-    let state = desk.state(rt);
-    same_text(rt, state.as_str(), "0 0 1 0", "a confirmed call");
-}
-
-/// A book whose history is folded on the way goes on with the next link.
-fn links_came_and_went<C: Ledger, A: Ledger>(rt: &impl Abort, desk: &mut Desk<C, A>, links: u64) {
-    let mut journal = String::new(desk.alloc);
-    for link in 1..=links {
-        push_links(rt, desk.alloc, &mut journal, link);
-    }
-    let said = desk.restore(rt, journal.as_str());
-    let wanted = said_of_restored(rt, desk.alloc, links.saturating_mul(2).saturating_add(1));
-    same_text(rt, said.as_str(), wanted.as_str(), "many links");
-    let next = format!(in desk.alloc;
-        "2025-01-01T00:00:00Z attached CP2 {}\n",
-        links.saturating_add(1)
-    );
-    let said = desk.restore(rt, next.expect(rt, "error").as_str());
-    same_text(rt, said.as_str(), "2 lines", "one link more");
+    push_line(&mut journal, &line).expect(&rt, "error");
+    let end = "\n2025-01-01T00:00:02Z reply CP1 1 [3,\t\t\"0\",{\t\"status\":\t\"Unknown\"}]\t\n";
+    holds(&rt, journal.as_str().ends_with(end), journal.as_str());
+    is_told(&rt, alloc, journal.as_str(), "4 lines\n0 0 1 0\n");
 }
 
 /// A link of CP1 comes and goes.
@@ -246,43 +236,20 @@ fn push_links(rt: &impl Abort, alloc: Global, journal: &mut String, link: u64) {
         .expect(rt, "error");
 }
 
-#[test]
-fn a_journal_is_restored_after_each_line(rt: HostRuntime) {
-    for lines in 0..LINES + 1 {
-        let (changes, answers) = (Blank::new(1), Blank::new(1));
-        play::<Brand, Brand, HostRuntime>(&rt, rt.alloc(), changes, answers, Story::Cut(lines));
-    }
-}
-
-#[test]
-fn a_changed_line_is_named(rt: HostRuntime) {
-    for index in 0..CHANGED.len() {
-        let (changes, answers) = (Blank::new(1), Blank::new(1));
-        let story = Story::Changed(index);
-        play::<Brand, Brand, HostRuntime>(&rt, rt.alloc(), changes, answers, story);
-    }
-}
-
-#[test]
-fn links_are_lost_after_a_restore(rt: HostRuntime) {
-    let (changes, answers) = (Blank::new(1), Blank::new(1));
-    play::<Brand, Brand, HostRuntime>(&rt, rt.alloc(), changes, answers, Story::LostLinks);
-}
-
-#[test]
-fn a_short_verdict_is_unsettled(rt: HostRuntime) {
-    let (changes, answers) = (Blank::new(1), Blank::new(1));
-    play::<Brand, Brand, HostRuntime>(&rt, rt.alloc(), changes, answers, Story::ShortVerdict);
-}
-
-#[test]
-fn a_message_with_line_breaks_is_restored(rt: HostRuntime) {
-    let (changes, answers) = (Blank::new(1), Blank::new(1));
-    play::<Brand, Brand, HostRuntime>(&rt, rt.alloc(), changes, answers, Story::Breaks);
-}
-
+/// A book whose history is folded on the way goes on with the next link.
 #[test]
 fn a_long_journal_is_restored(rt: HostRuntime) {
-    let (changes, answers) = (Blank::new(1), Blank::new(1));
-    play::<Brand, Brand, HostRuntime>(&rt, rt.alloc(), changes, answers, Story::Links(2_000));
+    let mut journal = String::new(rt.alloc());
+    for link in 1..=2_000u64 {
+        push_links(&rt, rt.alloc(), &mut journal, link);
+    }
+    journal
+        .push_str("2025-01-01T00:00:00Z attached CP1 2001\n")
+        .expect(&rt, "error");
+    is_told(
+        &rt,
+        rt.alloc(),
+        journal.as_str(),
+        "4002 lines\n0 1 2001 2001\n",
+    );
 }

@@ -3,10 +3,6 @@
 
 use std::process::Abort;
 
-pub(crate) fn same(rt: &impl Abort, found: u64, wanted: u64, case: &str) {
-    assert!(rt; found == wanted, "{case}: {found}, wanted {wanted}");
-}
-
 pub(crate) fn same_text(rt: &impl Abort, found: &str, wanted: &str, case: &str) {
     assert!(rt; found == wanted, "{case}: {found}, wanted {wanted}");
 }

@@ -144,12 +144,6 @@ fn sends<R: Abort + Wait>(rt: &R, alloc: Global, point: SimPoint, central: &str,
     are_texts(rt, alloc, output.as_slice(), wanted);
 }
 
-#[test]
-fn a_day_at_a_socket(rt: HostRuntime) {
-    let alloc = rt.alloc();
-    sends(&rt, alloc, simulated(&rt, alloc), CENTRAL, POINT);
-}
-
 /// A start is asked for while the last step's call is in flight.
 const REMOTE_START: &str = r#"[2,"a","RemoteStartTransaction",{"connectorId":1,"idTag":"b"}]
 [3,"0",{"currentTime":"2025-01-01T00:00:00Z"}]
@@ -160,15 +154,11 @@ const STARTED: &str = r#"[2,"0","Heartbeat",{}]
 [2,"1","StartTransaction",{"connectorId":1,"idTag":"b","meterStart":0,"timestamp":"2025-01-01T00:00:00Z"}]"#;
 
 #[test]
-fn a_start_that_is_asked_for_is_a_step(rt: HostRuntime) {
+fn days_at_a_socket(rt: HostRuntime) {
     let alloc = rt.alloc();
-    sends(
-        &rt,
-        alloc,
-        point_with(&rt, alloc, "heartbeat"),
-        REMOTE_START,
-        STARTED,
-    );
+    sends(&rt, alloc, simulated(&rt, alloc), CENTRAL, POINT);
+    let one_step = point_with(&rt, alloc, "heartbeat");
+    sends(&rt, alloc, one_step, REMOTE_START, STARTED);
 }
 
 /// How a point ends at these bytes, with a device that fails at the call of a number.

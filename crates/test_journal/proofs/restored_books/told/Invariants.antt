@@ -1,5 +1,5 @@
--- The ledgers are those of the two blanks.
-use Rattle.test_journal.proofs.restored_books.a_changed_line_is_named.Given as goal
+-- The ledgers are those of the blanks.
+use Rattle.test_journal.proofs.restored_books.told.Given as goal
 
 abbrev pub ghosts-play-C-Ledger : goal.ghosts-play-C-Ledger
 ghosts-play-C-Ledger g a = record { name = a.changes.name; parts = a.changes.parts }

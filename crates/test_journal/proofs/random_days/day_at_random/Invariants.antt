@@ -1,5 +1,5 @@
 -- The ledgers are those of the blanks.
-use Rattle.test_journal.proofs.noted_histories.days_are_restored_as_they_were.Given as goal
+use Rattle.test_journal.proofs.random_days.day_at_random.Given as goal
 
 abbrev pub ghosts-day_of-C-Ledger : goal.ghosts-day_of-C-Ledger
 ghosts-day_of-C-Ledger g a = record { name = a.changes.name; parts = a.changes.parts }
