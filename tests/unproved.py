@@ -25,7 +25,7 @@ LONGEST = "1200"
 # Tests that would take an hour without a proof: of its 10,000 books it makes these.
 BOOKS = ("test_books/books_at_random.rt", "for seed in 0..10_000u32", "for seed in 0..100u32")
 # The longest first, so that no lane is left with one at the end.
-LONG = ("run_crowds", "runs", "run_kills", "run_histories", "run_deadlines", "crowds", "replays")
+LONG = ("run_histories", "crowds", "runs", "run_kills", "run_deadlines", "run_crowds", "replays")
 SUBJECT = re.compile(r'^    "(\w+)": \w+,$', re.MULTILINE)
 TOTALS = re.compile(r"^(\d+) passed, (\d+) failed$|^test result: \w+\. (\d+) passed; (\d+) failed;", re.MULTILINE)
 
