@@ -5,8 +5,9 @@ It plays each case of examples/ and tests/cases/ (tests/case_folders.py has thei
 output, standard error and the exit status. Then it tries command lines, site files, devices that fail, how memory grows
 and allocations that fail. With `cases` it stops behind the cases.
 
-Where the environment has UNPROVED, the program is one of which nothing is proved. It is slower and has checks of memory: a script
-and the frames of a memory are shorter then, and no allocation fails.
+Where the environment has UNPROVED, the program is one of which nothing is proved. It is slower and has checks of memory. Then a
+script of the limit is one long line, or a file of a megabyte; two frames of the limit come, and 200 in one memory. A site file of
+the limit is no text, and one that is full of something has 64 kilobytes. No allocation fails.
 """
 import itertools
 import json
@@ -79,6 +80,8 @@ def fault_cases(folder):
 
     good = site("good", SITE)
     for number, (content, fault) in enumerate(site_files()):
+        if UNPROVED and len(content) == MAX_SITE_BYTES:
+            content, fault = b"\xff" * MAX_SITE_BYTES, "NotUtf8"  # it isn't too large
         arguments = site(f"site-{number}", content)
         if fault is None:
             yield f"site file {number}", arguments, b"x\n", b"! 1 BadLine\n", b"", 2
@@ -120,9 +123,7 @@ def limit_cases(good):
     """Scripts, lines and frames at their bounds; good are the arguments that name a site file without a fault."""
     yield "an empty script", good, b"", b"", b"", 0
     if UNPROVED:
-        lines = (b"x" * 1_048_575 + b"\n") * 16
-        printed = b"".join(b"! %d BadLine\n" % number for number in range(1, 17))
-        yield "a script of the limit", good, lines, printed, b"", 2
+        yield "a script of the limit", good, b"x" * 16_777_216, b"! 1 TooLong\n", b"", 2
     else:
         yield "a script of the limit", good, b"\n" * 16_777_216, b"", b"", 0
     yield "a script past the limit", good, b"x\n" * 8_388_608 + b"x", b"", b"central: script: ScriptTooLong\n", 2
@@ -136,8 +137,9 @@ def limit_cases(good):
     room = 1_048_576 - len(prefix) - len(end)
     yield "a frame on a line of the limit", good, prefix + b"x" * room + end + b"\n", answer + call, b"", 0
     yield "a frame on a line past the limit", good, prefix + b"x" * (room + 1) + end + b"\n", b"! 1 TooLong\n", b"", 2
-    frames = (prefix + b"x" * (room - 1) + end + b"\n") * 16
-    yield "a script of frames of the limit", good, frames, answer + call + answer * 15, b"", 0
+    count = 2 if UNPROVED else 16
+    frames = (prefix + b"x" * (room - 1) + end + b"\n") * count
+    yield "a script of frames of the limit", good, frames, answer + call + answer * (count - 1), b"", 0
 
 
 def file_limit_cases(good):
@@ -145,11 +147,12 @@ def file_limit_cases(good):
     site = good[-1]
     kept, longer, none = (os.path.join(os.path.dirname(site), name) for name in ("script-of-the-limit", "script-past-it", "no-script"))
     line = b"x" * 1_048_575 + b"\n"
-    for path, content in ((kept, line * 16), (longer, line * 16 + b"x")):
+    count = 1 if UNPROVED else 16
+    for path, content in ((kept, line * count), (longer, line * 16 + b"x")):
         with open(path, "wb") as file:
             file.write(content)
-    printed = b"".join(b"! %d BadLine\n" % number for number in range(1, 17))
-    yield "a script of the limit in a file", [*good, "--script", kept], b"", printed, b"", 2
+    printed = b"".join(b"! %d BadLine\n" % number for number in range(1, count + 1))
+    yield f"a script of {count} megabytes in a file", [*good, "--script", kept], b"", printed, b"", 2
     too_long, read = b"central: script: ScriptTooLong\n", b"central: device: read\n"
     missing, folder = b"No such file or directory (os error 2)", b"Is a directory (os error 21)"
     for command in (["replay"], ["explain", *DAY], ["show"]):
@@ -461,6 +464,8 @@ def filled(size, before, items, after):
 
 # What `check` finds takes memory, too: it lists at most 2,000 faults and remarks in points.
 FOUND_BYTES = 3 << 20
+# What a program with checks of memory keeps, however small the site file is: 13 million bytes were the most for 16 to 512 kilobytes.
+CHECKED_BYTES = 16 << 20
 
 HEAD = b'{"unit":"A","points":['
 POINT = b'{"id":"CP1","ceiling":63.0,"connectors":[32.0]}'
@@ -503,12 +508,13 @@ def full_sites(size):
 def site_growth_problems(program, folder):
     """Full site files: a replay or a check takes at most ten bytes for each of their bytes, whatever fills them."""
     least, _ = peak_memory(program, folder, b"")
-    for name, site, replayed, checked in full_sites(1 << 19 if UNPROVED else MAX_SITE_BYTES):
+    kept = CHECKED_BYTES if UNPROVED else 0
+    for name, site, replayed, checked in full_sites(1 << 16 if UNPROVED else MAX_SITE_BYTES):
         for command, wanted, found in (("replay", replayed, 0), ("check", checked, FOUND_BYTES)):
             if wanted is None:
                 continue
             peak, status = peak_memory(program, folder, b"", site, command)
-            ok = status == wanted and (peak - least) * 1024 <= 10 * len(site) + found
+            ok = status == wanted and (peak - least) * 1024 <= 10 * len(site) + found + kept
             yield f"{command} of a site file full of {name}", [] if ok else [f"{len(site)} bytes, {peak - least} KB, status {status}"]
 
 

@@ -1,9 +1,10 @@
 #!/usr/bin/env python3
 """unproved.py: every test and case without a proof. `tests/run --unproved` calls it.
 
-It builds the program without a proof, and runs on it what the gate runs on the proved one, beside the tests of the crates. Two
-things run at a time. Not run are the proofs, the mutants, the package and allocations that fail. The last line is
-'N passed, M failed', and the one before it says that nothing was proved.
+It builds the program without a proof, and runs on it what the gate runs on the proved one, beside the tests of the crates, which
+are compiled as one (tests/one_crate.py), and programs of tests, each of which has to print its file `stdout`. Two things run at a
+time. Not run are the proofs, the mutants, the package and allocations that fail. The last line is 'N passed, M failed', and the one
+before it says that nothing was proved.
 """
 import os
 import re
@@ -14,15 +15,18 @@ import tempfile
 import threading
 import time
 
+import one_crate
+
 TOP = os.path.dirname(os.path.dirname(os.path.realpath(__file__)))
 PROGRAM = os.path.join(TOP, "packaging", "out", "central")
 LANES = 2
-# A test that would take an hour without a proof: of its 10,000 books it makes these.
-BOOKS = ("crates/test_books/src/books_at_random.rt", "for seed in 0..10_000u32", "for seed in 0..100u32")
+# Seconds that one test of the crates may take where all processors are busy.
+LONGEST = "1200"
+# Tests that would take an hour without a proof: of its 10,000 books it makes these.
+BOOKS = ("test_books/books_at_random.rt", "for seed in 0..10_000u32", "for seed in 0..100u32")
 # The longest first, so that no lane is left with one at the end.
-LONG = ("test_books", "test_core")
-# Has the program of tables write what its file says.
-PLAYED = "rt try --seconds 600 < stdin | head -c $(wc -c < stdout) | cmp - stdout && echo 1 passed, 0 failed || echo 0 passed, 1 failed"
+LONG = ("run_histories", "crowds", "runs", "run_kills", "run_deadlines", "run_crowds", "replays")
+SUBJECT = re.compile(r'^    "(\w+)": \w+,$', re.MULTILINE)
 TOTALS = re.compile(r"^(\d+) passed, (\d+) failed$|^test result: \w+\. (\d+) passed; (\d+) failed;", re.MULTILINE)
 
 
@@ -34,42 +38,68 @@ class Task:
 
     def run(self):
         """How many passed and failed, and what was printed."""
-        done = subprocess.run(
-            self.words, cwd=self.folder, env={**os.environ, "UNPROVED": "1"}, stdin=subprocess.DEVNULL,
-            stdout=subprocess.PIPE, stderr=subprocess.STDOUT, text=True, errors="replace", check=False,
-        )
-        found = TOTALS.findall(done.stdout)
+        done = self.done(subprocess.STDOUT)
+        printed = done.stdout.decode(errors="replace")
+        found = TOTALS.findall(printed)
         passed, failed = (int(found[-1][place] or found[-1][place + 2]) for place in (0, 1)) if found else (0, 0)
         if done.returncode and not failed:
             failed = 1
-        return passed, failed, done.stdout
+        return passed, failed, printed
+
+    def done(self, errors, given=os.devnull):
+        with open(given, "rb") as file:
+            return subprocess.run(
+                self.words, cwd=self.folder, env={**os.environ, "UNPROVED": "1"}, stdin=file, stdout=subprocess.PIPE,
+                stderr=errors, check=False,
+            )
 
 
-def copied_sources(folder):
-    """The sources in a folder of their own, with fewer books at random."""
-    for name in ("crates.txt", "HANDLES"):
-        shutil.copy(os.path.join(TOP, name), folder)
-    shutil.copytree(os.path.join(TOP, "crates"), os.path.join(folder, "crates"), ignore=shutil.ignore_patterns("out"))
-    path = os.path.join(folder, BOOKS[0])
-    with open(path, encoding="utf-8") as file:
-        text = file.read()
+class Played(Task):
+    """A program of tests: what it prints of its file `stdin` stands in its file `stdout`."""
+
+    def run(self):
+        done = self.done(subprocess.PIPE, os.path.join(self.folder, "stdin"))
+        with open(os.path.join(self.folder, "stdout"), "rb") as file:
+            wanted = file.read()
+        if done.stdout == wanted and not done.returncode:
+            return 1, 0, ""
+        lines = zip(done.stdout.split(b"\n") + [b"(end)"], wanted.split(b"\n") + [b"(end)"])
+        differs = next((f"{line!r}, wanted {other!r}" for line, other in lines if line != other), "")
+        return 0, 1, f"status {done.returncode}, {differs}\n{done.stderr.decode(errors='replace')}"
+
+
+def with_fewer_books(folder):
+    path = os.path.join(folder, "crates", one_crate.NAME, "src", BOOKS[0])
+    text = one_crate.read(path)
     if text.count(BOOKS[1]) != 1:
         sys.exit(f"tests/unproved.py: {BOOKS[0]} has no line '{BOOKS[1]}'")
-    with open(path, "w", encoding="utf-8") as file:
-        file.write(text.replace(*BOOKS[1:]))
+    one_crate.write(path, text.replace(*BOOKS[1:]))
+
+
+def subjects():
+    """Those of the sockets, the longest first."""
+    names = SUBJECT.findall(one_crate.read(os.path.join(TOP, "tests", "sockets", "suite.py")))
+    return sorted(names, key=lambda name: LONG.index(name) if name in LONG else len(LONG))
+
+
+def programs_of_tests(folder):
+    """Each crate that is a program beside `central`."""
+    crates = os.path.join(folder, "crates")
+    named = one_crate.LINES.findall(one_crate.read(os.path.join(folder, "crates.txt")))
+    return [name for name, _ in named if name != "central" and os.path.isfile(os.path.join(crates, name, "src", "main.rt"))]
 
 
 def tasks_over(folder):
     """All tasks, in the order in which they are begun where they can be."""
-    with open(os.path.join(TOP, "crates.txt"), encoding="utf-8") as file:
-        crates = re.findall(r"^(test_\w+):", file.read(), re.MULTILINE)
-    crates.sort(key=lambda name: (LONG.index(name) if name in LONG else len(LONG), name))
+    crates = os.path.join(folder, "crates")
+    tests = ["rt", "try", "--test", "--seconds", LONGEST]
+    played = ["rt", "try", "--seconds", LONGEST]
     return [
         Task("packaging/build", ["packaging/build"]),
+        Task("tests of the crates", tests, os.path.join(crates, one_crate.NAME)),
+        *(Played(name, played, os.path.join(crates, name)) for name in programs_of_tests(folder)),
         Task("tests/program.py", ["tests/program.py", PROGRAM], needs_program=True),
-        Task("tests/sockets/run", ["tests/sockets/run", PROGRAM], needs_program=True),
-        *(Task(name, ["rt", "try", "--test", "--seconds", "600"], os.path.join(folder, "crates", name)) for name in crates),
-        Task("play_steps", ["sh", "-c", PLAYED], os.path.join(folder, "crates", "play_steps")),
+        *(Task(f"sockets: {name}", ["tests/sockets/run", PROGRAM, name], needs_program=True) for name in subjects()),
         Task("tests/pages.py", ["tests/pages.py", PROGRAM], needs_program=True),
         Task("tests/documents.py", ["tests/documents.py"]),
     ]
@@ -123,7 +153,8 @@ def main():
     print("tests/run --unproved: nothing is proved by it; it takes up to 20 minutes on 2 processors", flush=True)
     began = time.monotonic()
     with tempfile.TemporaryDirectory(prefix="central-unproved-") as folder:
-        copied_sources(folder)
+        one_crate.copied_sources(TOP, folder)
+        with_fewer_books(folder)
         lanes = Lanes(tasks_over(folder))
         threads = [threading.Thread(target=lanes.work, daemon=True) for _ in range(LANES)]
         for thread in threads:

@@ -7,6 +7,7 @@ import threading
 
 from python_client import PythonClient
 from raw_client import TEXT, RawClient, frame_bytes
+from run_data import size
 from serving import Serving, expect
 from texts import (
     CALL_0, accepted, ask, call, clear, error, heartbeat, install, install_call, plain_site, profile, start, without_moment,
@@ -22,6 +23,8 @@ ROUNDS = 12
 # within one: some 15,000 bytes.
 LONG_PROFILE = profile(1, [6 + number % 2 * 4 for number in range(200)], kind="Recurring", step=432, recurrencyKind="Daily")
 LONG_ASK = 172_800
+# So many of these answers are more than a socket takes in: some fifteen megabytes, or half of it where nothing is proved.
+LONG_ASKS = size(1_000, 500, 1_000)
 
 
 def periods_of(answer):
@@ -123,24 +126,24 @@ def longest_texts_at_once(program):
 
 
 def one_that_reads_nothing(program):
-    """A client that sends a thousand texts and reads nothing keeps nobody waiting; later it reads all answers, in order.
+    """A client that sends many texts and reads nothing keeps nobody waiting; later it reads all answers, in order.
 
-    Its answers are some fifteen megabytes, more than a socket takes in: its session waits, and reads no more texts.
+    Its answers are more than a socket takes in: its session waits, and reads no more texts.
     """
     with Serving(program, plain_site(2), 4) as serving, greedy_operator(serving) as greedy:
-        asks = b"".join(frame_bytes(TEXT, ask(str(number), 1, LONG_ASK).encode()) for number in range(1_000))
+        asks = b"".join(frame_bytes(TEXT, ask(str(number), 1, LONG_ASK).encode()) for number in range(LONG_ASKS))
         sender = threading.Thread(target=greedy.send_bytes, args=(asks,))
         sender.start()
         serving.until_idle()
         others_are_answered(serving, 1)
-        for number in range(1_000):
+        for number in range(LONG_ASKS):
             answer = greedy.read_text()
             expect("the id of an answer", json.loads(answer)[1], str(number))
             periods = len(periods_of(answer))
             expect(f"{periods} periods are 400, or one more", periods in (400, 401), True)
         sender.join()
         greedy.close()
-        expect("the totals", serving.totals(), (2, 1_001))
+        expect("the totals", serving.totals(), (2, LONG_ASKS + 1))
 
 
 def others_are_answered(serving, periods):
@@ -165,10 +168,10 @@ def with_tenths(fields):
 
 
 def one_that_leaves_all(program):
-    """A client that sends a thousand texts, reads nothing and leaves: its session ends, the program too, and no call is lost."""
+    """A client that sends many texts, reads nothing and leaves: its session ends, the program too, and no call is lost."""
     with Serving(program, plain_site(2), 5) as serving:
         with greedy_operator(serving) as greedy:
-            asks = b"".join(frame_bytes(TEXT, ask(str(number), 1, LONG_ASK).encode()) for number in range(1_000))
+            asks = b"".join(frame_bytes(TEXT, ask(str(number), 1, LONG_ASK).encode()) for number in range(LONG_ASKS))
             greedy.send_bytes(asks)
             serving.until_idle()
             others_are_answered(serving, 1)
@@ -178,7 +181,7 @@ def one_that_leaves_all(program):
             point.close()
         changes, answers = serving.totals()
         expect("the changes", changes, 2)
-        expect(f"{answers} answers are at most 1,001, one at least", 1 <= answers <= 1_001, True)
+        expect(f"{answers} answers are at most {LONG_ASKS + 1}, one at least", 1 <= answers <= LONG_ASKS + 1, True)
 
 
 def a_point_that_reads_late(program):

@@ -26,6 +26,19 @@ def seconds_of(text):
     return calendar.timegm(time.strptime(text, "%Y-%m-%dT%H:%M:%SZ"))
 
 
+def is_answered_late(text, brought):
+    """Whether it is an ask whose answer comes behind that to the ping, as of one that takes long: without a proof one of a month does."""
+    return "UNPROVED" in os.environ and not brought and '"GetCompositeSchedule"' in text
+
+
+async def brought_by(client, text):
+    """What a text brings."""
+    brought = await client.texts_of(text)
+    while is_answered_late(text, brought):
+        brought = await client.texts_now()
+    return brought
+
+
 class Told:
     """A text that was sent, by whom for which point, when at the latest, and what it brought."""
 
@@ -68,7 +81,7 @@ class Day:
 
     async def tell(self, sender, client, text):
         began = time.time()
-        told = Told(sender, self.name, text, await client.texts_of(text), began)
+        told = Told(sender, self.name, text, await brought_by(client, text), began)
         self.told.append(told)
         return told
 
@@ -238,7 +251,7 @@ async def three_operators_at_one_point(program):
         for text, brought in sent:
             expect(f"the answer to {text}", brought, [accepted(json.loads(text)[1])])
         calls = await asyncio.to_thread(calls_of_point, serving, len(sent) + 1)
-        last = Told("operator", "P1", ask("last", 1, 2_678_400), await operators[0].texts_of(ask("last", 1, 2_678_400)), 0)
+        last = Told("operator", "P1", ask("last", 1, 2_678_400), await brought_by(operators[0], ask("last", 1, 2_678_400)), 0)
         for client in operators:
             await client.close()
         expect("the totals", serving.totals(), (len(sent), 1))

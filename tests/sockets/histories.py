@@ -3,7 +3,7 @@ import json
 import random
 import time
 
-from days import HOURS, Told
+from days import HOURS, Told, is_answered_late
 from raw_client import RawClient
 from run_data import stop
 from texts import MIDNIGHT, accepted, ask, call, clear, error, heartbeat, install, profile, result, start
@@ -41,6 +41,8 @@ class Point:
         """Sends a text. What came of it, but for calls that came before."""
         began = time.time()
         brought = self.clients[sender].texts_of(text)
+        while is_answered_late(text, brought):
+            brought = self.clients[sender].texts_now()
         new = [text for text in brought if not text.startswith("[2,") or self._is_new(text)]
         told = Told(sender, self.name, text, new, began)
         if told.started():

@@ -17,6 +17,9 @@ from texts import CALL_0, OCPP, accepted, call, heartbeat, install, install_call
 IDLE_MEMORY, GROWTH = 80 * 1024, 20 * 1024
 HOSTILE_MEMORY = size(400 * 1024, 1024 * 1024, 400 * 1024)
 
+# A program that isn't proved serves so many at once that none waits a second for its handshake, which would be cut off then.
+POINTS, PROBE_PAUSE, LATE_CALLS = size((120, 0.01, False), (40, 0.1, True), (120, 0.01, False))
+
 # As the package's unit has it.
 GIVES_BACK = {"MALLOC_TRIM_THRESHOLD_": "131072"}
 
@@ -87,7 +90,11 @@ class ComingBack:
         if way < 0.3:
             before.socket.setsockopt(socket.SOL_SOCKET, socket.SO_LINGER, struct.pack("ii", 1, 0))
         elif way < 0.6:
-            expect("what the older connection reads", before.read_frame(), None)
+            frame = before.read_frame()
+            # Where a program is so slow that the point said nothing for ten seconds, its call came before the newer connection.
+            while LATE_CALLS and frame is not None and frame.payload.decode() == CALL_0:
+                frame = before.read_frame()
+            expect("what the older connection reads", frame, None)
         before.socket.close()
 
 
@@ -106,8 +113,8 @@ class Crowd:
             return self.left >= 0
 
     def probe(self):
-        """A TCP connection each 10 ms that says nothing."""
-        while not self.is_over.wait(0.01):
+        """A TCP connection each 10 ms that says nothing: each 100 ms where nothing is proved."""
+        while not self.is_over.wait(PROBE_PAUSE):
             socket.create_connection(("127.0.0.1", self.running.port), PATIENCE).close()
             self.probes += 1
 
@@ -133,7 +140,7 @@ class Crowd:
 
 def points_that_come_back(program):
     """120 points reconnect back to back beside a probe of the port; in the end each one is connected and gets its calls."""
-    connections, count, began = size(6_000, 700, 100_000), 120, time.monotonic()
+    connections, count, began = size(6_000, 400, 100_000), POINTS, time.monotonic()
     with Data() as data, Running(program, plain_site(count), data.path) as running:
         crowd = Crowd(running, count, connections)
         before, after = crowd.run()
@@ -167,6 +174,7 @@ def threads_of_handshakes(program):
     """A handshake has a thread that ends with it; where none can be made, its seat's."""
     request = request_bytes("/P1", [f"Sec-WebSocket-Protocol: {OCPP}"])
     with Data() as data, Running(program, SITE, data.path) as running:
+        running.until_idle()  # each of its threads has begun, and taken the addresses that it wants
         count, addresses = running.threads(), memory(running, "VmSize") * 1024
         for more, limit in ((0, addresses + size(1 << 20, 4 << 20, 1 << 20)), (1, resource.RLIM_INFINITY)):
             resource.prlimit(running.process.pid, resource.RLIMIT_AS, (limit, resource.RLIM_INFINITY))

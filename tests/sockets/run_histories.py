@@ -20,7 +20,7 @@ SITE = plain_site(len(POINTS))
 
 def histories_at_random(program):
     """What was told over restarts is what a replay of all texts tells, and readers of the journal say what readers of those texts do."""
-    for seed, steps in size(((1, 6_000), (2, 6_000)), ((1, 2_400),), tuple((seed, 25_000) for seed in range(3, 7))):
+    for seed, steps in size(((1, 6_000), (2, 6_000)), ((1, 1_200),), tuple((seed, 25_000) for seed in range(3, 7))):
         try:
             history_at_random(program, seed, steps)
         except Unexpected as fault:

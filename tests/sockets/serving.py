@@ -130,12 +130,21 @@ class Serving:
         with open(f"/proc/{self.process.pid}/stat", encoding="ascii") as file:
             return sum(map(int, file.read().rpartition(")")[2].split()[11:13]))
 
+    def wants_a_processor(self):
+        """Whether one of its threads runs, or would where the machine weren't busy."""
+        for thread in os.listdir(f"/proc/{self.process.pid}/task"):
+            with contextlib.suppress(OSError):  # it may just have ended
+                with open(f"/proc/{self.process.pid}/task/{thread}/stat", encoding="ascii") as file:
+                    if file.read().rpartition(")")[2].split()[0] in "RD":
+                        return True
+        return False
+
     def until_idle(self):
         """Waits until it does nothing: because all is done, or because it waits for a client that doesn't read."""
         used, since = self.processor_time(), time.monotonic()
         while time.monotonic() < since + 1:
             time.sleep(0.05)
-            if self.processor_time() != used:
+            if self.processor_time() != used or self.wants_a_processor():
                 used, since = self.processor_time(), time.monotonic()
 
     def fault(self):
