@@ -7,11 +7,10 @@ use crate::streams::Stream;
 use crate::texts::SITE;
 use compile_pool::Jobs;
 use crossbeam_channel::{Sender, bounded};
+use journal_writer::NoJournal;
 use ocpp_scalars::{Instant, Moments};
 use profile::Unit;
-use session::{
-    Context, Ended, Heard, NoJournal, SessionCore, WatchedSocket, serve_next, serve_session,
-};
+use session::{Context, Ended, Heard, SessionCore, WatchedSocket, serve_next, serve_session};
 use site_core::PointId;
 use site_rules::read_site;
 use std::alloc::Global;
