@@ -164,9 +164,13 @@ def place_of(top, crate):
     return os.path.join(top, "crates", crate, "edits", "REFUSED")
 
 
+def has_record(top, crate):
+    return os.path.isfile(place_of(top, crate))
+
+
 def why_left(top, crate):
     """Why a crate's mutants have to be tried, or None where its record fits."""
-    if not os.path.isfile(place_of(top, crate)):
+    if not has_record(top, crate):
         return "its mutants were never all refused"
     found = RECORD.fullmatch(read(place_of(top, crate)))
     if not found or found[1] != crate:

@@ -305,11 +305,11 @@ fn replay<C: Ledger, A: Ledger>(rt: &impl Abort, sides: &mut Sides<C, A>) {
     holds(rt, sides.is_one(), "replayed");
 }
 
-/// 24,000 steps, then the calls that still wait, then the end, and then all once more.
+/// 60,000 steps, then the calls that still wait, then the end, and then all once more.
 fn run_sides<C: Ledger, A: Ledger>(rt: &impl Abort, sides: &mut Sides<C, A>, course: &mut Course) {
     // From the first take on there is something to bring.
     made(rt, sides, course, "CP1 take 1 0 60");
-    for _ in 0..24_000u32 {
+    for _ in 0..60_000u32 {
         random_step(rt, sides, course);
     }
     for _ in 0..600u32 {
