@@ -4,8 +4,10 @@ ghost use Rattle.std.specs.Prelude.{◌≡◌};
 ghost use Rattle.site_core.specs.Step.{HasAskedConnector};
 
 use crate::said::{Said, said_of, said_of_answer};
+use meaning::Ask;
 use messages::Call;
 use ocpp_scalars::Refusal;
+use point_book::PointBook;
 use site_core::{Machine, Refused, Reply, Step};
 use site_rules::Site;
 use std::alloc::{AllocError, Global};
@@ -97,9 +99,7 @@ impl<C: Ledger, A: Ledger> Sides<C, A> {
         match reply {
             Reply::Taken { number, book, ask } => {
                 let book = book.into_arc();
-                if let Ok(same) = Arc::try_clone(&book) {
-                    self.spare = Some(Compiled::unmade(same, ask));
-                }
+                self.spare = unmade(&book, &ask);
                 let compiled = Compiled::make(self.alloc, book, ask);
                 self.put_back(number, compiled);
                 ("Taken", Some(number))
@@ -211,6 +211,12 @@ impl<C: Ledger, A: Ledger> Sides<C, A> {
             && self.machine.link_of(point) == self.book.link_of(point)
             && self.machine.link_to_send(point) == self.book.link_to_send(point)
     }
+}
+
+/// An answer without a schedule, where there is memory for a share of the book.
+fn unmade(book: &Arc<PointBook>, ask: &Ask) -> Option<Compiled> {
+    let share = Arc::try_clone(book).ok()?;
+    Some(Compiled::unmade(share, *ask))
 }
 
 /// Whether what came of a step is what was foreseen: an event, an answer alone, or a refusal.
