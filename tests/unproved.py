@@ -150,7 +150,7 @@ def main():
         sys.exit(__doc__)
     if not shutil.which("rt"):
         sys.exit("tests/run --unproved: there is no rt here; docs/WORKING.md says which kit it belongs to")
-    print("tests/run --unproved: nothing is proved by it; it takes up to 20 minutes on 2 processors", flush=True)
+    print("tests/run --unproved: nothing is proved by it; it takes up to half an hour on 2 processors", flush=True)
     began = time.monotonic()
     with tempfile.TemporaryDirectory(prefix="central-unproved-") as folder:
         one_crate.copied_sources(TOP, folder)
