@@ -94,7 +94,7 @@ FIRST_LINES = {
     "BadUnit": r"the file: unit: ",
     "BadPoints": r"(the file: points|points\[\d+\]): (?!warning|remark)",
     "BadId": r"points\[\d+\][^:]*: id: (?!points\[)",
-    "SameId": r"points\[\d+\] \(CP1\): id: points\[0\] has it too",
+    "SameId": r"points\[\d+\] \(\w+\): id: points\[0\] has it too",
     "BadCeiling": r"points\[\d+\] \([^:]*\): ceiling: ",
     "BadConnectors": r"points\[\d+\] \([^:]*\): connectors(\[\d+\])?: ",
 }
