@@ -25,9 +25,9 @@ fn said_of<C: Ledger, A: Ledger>(
     alloc: Global,
     book: &mut Book<C, A>,
     pass: &mut Pass<C, A>,
-    journal: &str,
+    journal: &[u8],
 ) -> String {
-    let said = match restore(alloc, book, pass, journal.as_bytes()) {
+    let said = match restore(alloc, book, pass, journal) {
         Ok(restored) => format!(in alloc; "{} lines", restored.lines),
         Err(unrestored) => format!(in alloc; "{unrestored}"),
     };
@@ -76,7 +76,7 @@ fn play<C: Ledger, A: Ledger>(
     alloc: Global,
     changes: Blank,
     answers: Blank,
-    journal: &str,
+    journal: &[u8],
 ) -> String
     requires changes { (changes.name ≡ C.name) × (changes.parts ≡ C.parts) × (changes.parts ≡ 1) }
     requires answers { (answers.name ≡ A.name) × (answers.parts ≡ A.parts) × (answers.parts ≡ 1) }
@@ -97,7 +97,7 @@ fn play<C: Ledger, A: Ledger>(
 /// The same, of a book that nobody else has.
 fn told(rt: &impl Abort, alloc: Global, journal: &str) -> String {
     let (changes, answers) = (Blank::new(1), Blank::new(1));
-    play::<Brand, Brand>(rt, alloc, changes, answers, journal)
+    play::<Brand, Brand>(rt, alloc, changes, answers, journal.as_bytes())
 }
 
 /// What comes of a journal is, or begins with, the text wanted.
