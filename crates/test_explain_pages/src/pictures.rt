@@ -1,6 +1,6 @@
 //! Pictures and pages of the largest sizes.
 
-use crate::samples::{expect, interval, point_with, profile};
+use crate::samples::{expect, explain, interval, point_with, profile};
 use explain_pages::{write_page, write_picture};
 use meaning::Cause;
 use profile::Purpose;
@@ -27,7 +27,7 @@ fn a_hundred_profiles(rt: HostRuntime) {
     let point = point_with(&rt, alloc, hundred_rows(&rt, alloc).as_str(), "none");
     let cause = Cause::Profile(profile(99, Purpose::TxDefaultProfile, 99));
     let intervals = [interval(alloc, (0, 604_800), 60, cause)];
-    let explained = point.explained(&rt, (1, 604_800), &intervals, &[]);
+    let explained = explain(&rt, point.view(), (1, 604_800), &intervals, &[]);
     let picture = write_picture(alloc, &explained).expect(&rt, "error");
     assert!(rt; picture.len() < 4_000_000);
     assert!(rt; !picture.as_str().contains("too many steps"));
@@ -46,7 +46,7 @@ fn too_many_intervals(rt: HostRuntime) {
         intervals.push(next).ok().expect(&rt, "error");
     }
     let point = point_with(&rt, alloc, "", "none");
-    let explained = point.explained(&rt, (1, 20_001), intervals.as_slice(), &[]);
+    let explained = explain(&rt, point.view(), (1, 20_001), intervals.as_slice(), &[]);
     let page = write_page(alloc, &explained).expect(&rt, "error");
     let wanted = "the limit, drawn up to 2025-01-01 05:33:20 alone\n<p> Further intervals: 1.</p>";
     expect(&rt, page.as_str(), wanted);

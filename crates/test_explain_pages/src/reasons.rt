@@ -1,6 +1,6 @@
 //! Why profiles have no part, against reasons found by hand, and the sentences for it.
 
-use crate::samples::{expect, interval, point_with, profile, same};
+use crate::samples::{expect, explain, interval, point_with, profile, same};
 use explain_pages::{
     ExplainedAsk, NoPart, NotCounted, is_named, not_counted, sentence, write_json, write_page,
     write_table,
@@ -67,7 +67,7 @@ fn uncounted(
         interval(alloc, (0, 43_200), 320, Cause::ConnectorCeiling),
         interval(alloc, (43_200, 86_400), 310, Cause::PointCeiling),
     ];
-    let explained = point.explained(rt, (connector, 86_400), &intervals, &[]);
+    let explained = explain(rt, point.view(), (connector, 86_400), &intervals, &[]);
     let rest = not_counted(alloc, &point.view(), &explained.ask, &intervals).expect(rt, rows);
     let explained = ExplainedAsk {
         not_counted: rest.as_slice(),
@@ -132,7 +132,7 @@ fn expect_everywhere(rt: &impl Abort, alloc: Global, reason: NoPart) {
     }];
     let explained = ExplainedAsk {
         point: "\"\\<é&>",
-        ..point.explained(rt, (1, 60), &intervals, &not_counted)
+        ..explain(rt, point.view(), (1, 60), &intervals, &not_counted)
     };
     let text = sentence(reason);
     let table = write_table(alloc, &explained, None, None).expect(rt, text);

@@ -19,20 +19,29 @@ pub(crate) struct Point {
 /// A point with the rows of lines, and with a transaction since midnight at `none` of the connectors, the `first`,
 /// the `second` or `both`.
 pub(crate) fn point_with(rt: &impl Abort, alloc: Global, lines: &str, active: &str) -> Point {
-    let midnight = instant_at(0).ok();
+    let midnight = instant_at(0).expect(rt, "error");
+    Point {
+        rows: rows_of(rt, alloc, lines),
+        starts: starts_of(midnight, active),
+    }
+}
+
+fn rows_of(rt: &impl Abort, alloc: Global, lines: &str) -> Vec<Row> {
     let mut rows = Vec::new(alloc);
     for line in lines.lines() {
-        rows.push(row_of(alloc, line).expect(rt, line))
-            .ok()
-            .expect(rt, line);
+        let row = row_of(alloc, line).expect(rt, line);
+        rows.push(row).ok().expect(rt, line);
     }
-    let starts = match active {
-        "first" => [midnight, None],
-        "second" => [None, midnight],
-        "both" => [midnight, midnight],
+    rows
+}
+
+fn starts_of(start: Instant, active: &str) -> [Option<Instant>; 2] {
+    match active {
+        "first" => [Some(start), None],
+        "second" => [None, Some(start)],
+        "both" => [Some(start), Some(start)],
         _ => [None, None],
-    };
-    Point { rows, starts }
+    }
 }
 
 impl Point {
@@ -45,24 +54,24 @@ impl Point {
             rows: self.rows.as_slice(),
         }
     }
+}
 
-    /// What was explained of a connector of it for a number of seconds from midnight on.
-    pub(crate) fn explained<'a>(
-        &'a self,
-        rt: &impl Abort,
-        (connector, duration): (u32, u32),
-        intervals: &'a [Interval],
-        not_counted: &'a [NotCounted],
-    ) -> ExplainedAsk<'a> {
-        let start = instant_at(0).expect(rt, "error");
-        ExplainedAsk {
-            point: "CP1",
-            unit: Unit::A,
-            ask: Ask::try_new(connector, start, duration).expect(rt, "error"),
-            view: self.view(),
-            intervals,
-            not_counted,
-        }
+/// What was explained of a connector of a point for a number of seconds from midnight on.
+pub(crate) fn explain<'a>(
+    rt: &impl Abort,
+    view: View<'a>,
+    (connector, duration): (u32, u32),
+    intervals: &'a [Interval],
+    not_counted: &'a [NotCounted],
+) -> ExplainedAsk<'a> {
+    let start = instant_at(0).expect(rt, "error");
+    ExplainedAsk {
+        point: "CP1",
+        unit: Unit::A,
+        ask: Ask::try_new(connector, start, duration).expect(rt, "error"),
+        view,
+        intervals,
+        not_counted,
     }
 }
 

@@ -1,6 +1,6 @@
 //! Tables for people, against those made by hand, by how many columns there are.
 
-use crate::samples::{interval, point_with, profile, same};
+use crate::samples::{explain, interval, point_with, profile, same};
 use explain_pages::{NoPart, NotCounted, write_table};
 use meaning::{Cause, WhyNot};
 use profile::Purpose;
@@ -95,7 +95,7 @@ fn tables_fit_the_terminal(rt: HostRuntime) {
         reason: NoPart::NotPrevailing(WhyNot::NoTransaction),
     }];
     let point = point_with(&rt, alloc, "", "none");
-    let explained = point.explained(&rt, (1, 172_800), &intervals, &never);
+    let explained = explain(&rt, point.view(), (1, 172_800), &intervals, &never);
     for (columns, wanted) in [
         (None, PLAIN),
         (Some(40), OF_40),
