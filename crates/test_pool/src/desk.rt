@@ -14,17 +14,17 @@ use version_store::{Job, Pass, Shared};
 
 /// What sessions have at hand.
 #[derive(Drop)]
-pub(crate) struct Desk<'a, C: Ledger, A: Ledger> {
+pub(crate) struct Desk<'a, 'j, 'g, C: Ledger, A: Ledger> {
     pub(crate) alloc: Global,
     pub(crate) shared: &'a Shared<C, A>,
-    pub(crate) jobs: Jobs<'a>,
-    pub(crate) gate: &'a HoldingGate,
+    pub(crate) jobs: Jobs<'j>,
+    pub(crate) gate: &'g HoldingGate,
 }
 
 /// A session that has played its lines: its pass, and which came otherwise.
 pub(crate) type Played<C, A> = (Pass<C, A>, String);
 
-impl<C: Ledger, A: Ledger> Desk<'_, C, A> {
+impl<C: Ledger, A: Ledger> Desk<'_, '_, '_, C, A> {
     /// Goes on with these lines, such as `3* ask 0 1 60 = #`: so many times, with the number of the time
     /// for `#`.
     pub(crate) fn play(&self, rt: &impl Wait, played: Played<C, A>, lines: &str) -> Played<C, A> {

@@ -94,8 +94,8 @@ fn keep<C: Ledger, A: Ledger>(rt: &impl Abort, passes: &mut Vec<Pass<C, A>>, pla
 fn beside_workers<'a, C: Ledger + Send + Sync, A: Ledger + Send + Sync, R: Threads + Wait + Sync>(
     rt: &R,
     alloc: Global,
-    shared: &'a Shared<C, A>,
-    gate: &'a HoldingGate,
+    shared: &Shared<C, A>,
+    gate: &HoldingGate,
     story: &Story,
     sessions: Sessions<C, A>,
 ) -> Option<Sessions<C, A>> {
@@ -142,7 +142,7 @@ fn beside_workers<'a, C: Ledger + Send + Sync, A: Ledger + Send + Sync, R: Threa
 /// Plays the first session beside the two others. In the end nothing is held up.
 fn beside<C: Ledger + Send + Sync, A: Ledger + Send + Sync, R: Threads + Wait + Sync>(
     rt: &R,
-    desk: &Desk<'_, C, A>,
+    desk: &Desk<'_, '_, '_, C, A>,
     story: &Story,
     sessions: Sessions<C, A>,
 ) -> Option<Sessions<C, A>> {
