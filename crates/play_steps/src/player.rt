@@ -20,6 +20,7 @@ use sweep_compiler::AuditJob;
 use test_books::{MIDNIGHT, Words};
 
 const UNREAD: Said = ("unread words", None);
+const DIFFERENT: Said = ("the sides differ", None);
 
 /// The sides of a table, and what the audit asked that was read last.
 #[derive(Drop)]
@@ -78,14 +79,22 @@ impl<C: Ledger, A: Ledger> Player<C, A> {
         let call = words.long().unwrap_or(0);
         let of_machine = self.sides.machine.audit_job(point, call);
         match (of_machine, self.sides.book.audit_job(point, call)) {
-            (Ok(Some(job)), Ok(Some(other))) if job.same(&other) => {
-                let seconds = u64::from(job.duration());
-                self.job = Some(job);
-                ("job", Some(seconds))
-            }
-            (Ok(None), Ok(None)) => ("none", None),
-            _ => ("the sides differ", None),
+            (Ok(job), Ok(other)) => self.keep_job(job, other),
+            _ => DIFFERENT,
         }
+    }
+
+    /// Keeps what both sides say that an audit asked, if that is one thing.
+    fn keep_job(&mut self, job: Option<AuditJob>, other: Option<AuditJob>) -> Said {
+        if !is_one_job(&job, &other) {
+            return DIFFERENT;
+        }
+        let Some(job) = job else {
+            return ("none", None);
+        };
+        let seconds = u64::from(job.duration());
+        self.job = Some(job);
+        ("job", Some(seconds))
     }
 
     fn judged(&mut self, line: &str) -> Said {
@@ -119,6 +128,14 @@ impl<C: Ledger, A: Ledger> Player<C, A> {
             "rows" => number(rows_of(machine, point).len() as u64),
             name => told_of_row(rows_of(machine, point).get(words.number()? as usize)?, name),
         }
+    }
+}
+
+fn is_one_job(job: &Option<AuditJob>, other: &Option<AuditJob>) -> bool {
+    match (job, other) {
+        (Some(job), Some(other)) => job.same(other),
+        (None, None) => true,
+        _ => false,
     }
 }
 

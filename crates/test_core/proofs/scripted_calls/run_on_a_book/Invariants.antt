@@ -1,8 +1,0 @@
--- The ledgers are those of the two blanks.
-use Rattle.test_core.proofs.scripted_calls.run_on_a_book.Given as goal
-
-abbrev pub ghosts-run_at-C-Ledger : goal.ghosts-run_at-C-Ledger
-ghosts-run_at-C-Ledger g a = record { name = a.changes.name; parts = a.changes.parts }
-
-abbrev pub ghosts-run_at-A-Ledger : goal.ghosts-run_at-A-Ledger
-ghosts-run_at-A-Ledger g a = record { name = a.answers.name; parts = a.answers.parts }
