@@ -91,11 +91,11 @@ fn keep<C: Ledger, A: Ledger>(rt: &impl Abort, passes: &mut Vec<Pass<C, A>>, pla
 }
 
 /// Plays a story's sessions beside its workers. None where there isn't a thread for each.
-fn beside_workers<C: Ledger + Send + Sync, A: Ledger + Send + Sync, R: Threads + Wait + Sync>(
+fn beside_workers<'a, C: Ledger + Send + Sync, A: Ledger + Send + Sync, R: Threads + Wait + Sync>(
     rt: &R,
     alloc: Global,
-    shared: &Shared<C, A>,
-    gate: &HoldingGate,
+    shared: &'a Shared<C, A>,
+    gate: &'a HoldingGate,
     story: &Story,
     sessions: Sessions<C, A>,
 ) -> Option<Sessions<C, A>> {
