@@ -94,8 +94,8 @@ fn keep<C: Ledger, A: Ledger>(rt: &impl Abort, passes: &mut Vec<Pass<C, A>>, pla
 fn beside_workers<'a, C: Ledger + Send + Sync, A: Ledger + Send + Sync, R: Threads + Wait + Sync>(
     rt: &R,
     alloc: Global,
-    shared: &Shared<C, A>,
-    gate: &HoldingGate,
+    shared: &'a Shared<C, A>,
+    gate: &'a HoldingGate,
     story: &Story,
     sessions: Sessions<C, A>,
 ) -> Option<Sessions<C, A>> {

@@ -1,6 +1,6 @@
 //! What a client sends, all of it from the beginning, and what it reads in the end.
 
-use crate::texts::{name_of, text_of};
+use crate::named_texts::{name_of, text_of};
 use std::alloc::Global;
 use std::process::Abort;
 use tungstenite::{Duplex, MaskKeys, Message, Role, WebSocket};

@@ -4,7 +4,7 @@ ghost use Rattle.std.specs.Prelude.{◌≡◌};
 
 use crate::clients::{client_bytes, heard};
 use crate::streams::Stream;
-use crate::texts::SITE;
+use crate::named_texts::SITE;
 use compile_pool::Jobs;
 use crossbeam_channel::{Sender, bounded};
 use journal_writer::NoJournal;
@@ -44,17 +44,16 @@ type Desk<'a, C, A, R> = Context<'a, C, A, R, Fixed, NoJournal, NoName>;
 pub(crate) fn play<C: Ledger, A: Ledger, R: Abort + Wait + Clock>(
     rt: &R,
     alloc: Global,
-    blanks: (Blank, Blank),
+    changes: Blank,
+    answers: Blank,
     story: &str,
     enough: &str,
 ) -> String
-    requires changes { (blanks.0.name ≡ C.name) × (blanks.0.parts ≡ C.parts)
-        × (blanks.0.parts ≡ 1) }
-    requires answers { (blanks.1.name ≡ A.name) × (blanks.1.parts ≡ A.parts)
-        × (blanks.1.parts ≡ 1) }
+    requires changes { (changes.name ≡ C.name) × (changes.parts ≡ C.parts) × (changes.parts ≡ 1) }
+    requires answers { (answers.name ≡ A.name) × (answers.parts ≡ A.parts) × (answers.parts ≡ 1) }
 {
     let site = read_site(alloc, SITE.as_bytes()).expect(rt, "error");
-    let made: Result<(Shared<C, A>, _), _> = Shared::make(alloc, blanks.0, blanks.1, site, 1);
+    let made: Result<(Shared<C, A>, _), _> = Shared::make(alloc, changes, answers, site, 1);
     let (shared, mut passes) = made.expect(rt, "error");
     let mut pass = passes.pop().expect(rt, "no pass");
     let (jobs, queue) = bounded(alloc, 1).expect(rt, "error");

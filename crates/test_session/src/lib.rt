@@ -6,8 +6,8 @@ mod clients;
 #[cfg(test)]
 mod desk;
 #[cfg(test)]
+mod named_texts;
+#[cfg(test)]
 mod sessions;
 #[cfg(test)]
 mod streams;
-#[cfg(test)]
-mod texts;
