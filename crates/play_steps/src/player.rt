@@ -20,6 +20,7 @@ use sweep_compiler::AuditJob;
 use test_books::{MIDNIGHT, Words};
 
 const UNREAD: Said = ("unread words", None);
+
 const DIFFERENT: Said = ("the sides differ", None);
 
 /// The sides of a table, and what the audit asked that was read last.
