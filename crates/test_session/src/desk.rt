@@ -3,8 +3,8 @@
 ghost use Rattle.std.specs.Prelude.{◌≡◌};
 
 use crate::clients::{client_bytes, heard};
-use crate::streams::Stream;
 use crate::named_texts::SITE;
+use crate::streams::Stream;
 use compile_pool::Jobs;
 use crossbeam_channel::{Sender, bounded};
 use journal_writer::NoJournal;
@@ -46,12 +46,13 @@ pub(crate) fn play<C: Ledger, A: Ledger, R: Abort + Wait + Clock>(
     alloc: Global,
     changes: Blank,
     answers: Blank,
-    story: &str,
-    enough: &str,
+    story: &[u8],
+    enough: &[u8],
 ) -> String
     requires changes { (changes.name ≡ C.name) × (changes.parts ≡ C.parts) × (changes.parts ≡ 1) }
     requires answers { (answers.name ≡ A.name) × (answers.parts ≡ A.parts) × (answers.parts ≡ 1) }
 {
+    let (story, enough) = (text_of(rt, story), text_of(rt, enough));
     let site = read_site(alloc, SITE.as_bytes()).expect(rt, "error");
     let made: Result<(Shared<C, A>, _), _> = Shared::make(alloc, changes, answers, site, 1);
     let (shared, mut passes) = made.expect(rt, "error");
@@ -89,6 +90,11 @@ pub(crate) fn play<C: Ledger, A: Ledger, R: Abort + Wait + Clock>(
     }
     drop(queue);
     found
+}
+
+/// A text by its bytes: the ledgers of a call that has a `str` can't be picked.
+fn text_of<'a>(rt: &impl Abort, bytes: &'a [u8]) -> &'a str {
+    str::from_utf8(bytes).ok().expect(rt, "not UTF-8")
 }
 
 fn play_line<C: Ledger, A: Ledger, R: Abort + Wait + Clock>(

@@ -11,7 +11,14 @@ use std::sync::ledger::Blank;
 
 /// What comes of a story.
 fn played<R: Abort + Wait + Clock>(rt: &R, alloc: Global, story: &str, enough: &str) -> String {
-    play::<Brand, Brand, R>(rt, alloc, Blank::new(1), Blank::new(1), story, enough)
+    play::<Brand, Brand, R>(
+        rt,
+        alloc,
+        Blank::new(1),
+        Blank::new(1),
+        story.as_bytes(),
+        enough.as_bytes(),
+    )
 }
 
 /// Nobody compiles a job. Where its client leaves, a request is kept no longer, and is counted; one that finds
