@@ -34,6 +34,13 @@ impl Moments for Fixed {
 
 type Desk<'a, C, A, R> = Context<'a, C, A, R, Fixed, NoJournal, NoName>;
 
+/// A story, and what is enough of it.
+#[derive(Clone, Copy)]
+pub(crate) struct Tale<'a> {
+    pub(crate) story: &'a str,
+    pub(crate) enough: &'a str,
+}
+
 /// Plays a story's lines, such as `operator 5 450 install ask close`: who is served; after how many calls the
 /// stream fails; behind how many of its client's bytes it ends; and what the client sends. A session that is
 /// `watched`, or compiles a `small` request itself, gets what is behind `|` once it looks at its stream. A
@@ -46,12 +53,12 @@ pub(crate) fn play<C: Ledger, A: Ledger, R: Abort + Wait + Clock>(
     alloc: Global,
     changes: Blank,
     answers: Blank,
-    story: &str,
-    enough: &str,
+    tale: &Tale<'_>,
 ) -> String
     requires changes { (changes.name ≡ C.name) × (changes.parts ≡ C.parts) × (changes.parts ≡ 1) }
     requires answers { (answers.name ≡ A.name) × (answers.parts ≡ A.parts) × (answers.parts ≡ 1) }
 {
+    let Tale { story, enough } = *tale;
     let site = read_site(alloc, SITE.as_bytes()).expect(rt, "error");
     let made: Result<(Shared<C, A>, _), _> = Shared::make(alloc, changes, answers, site, 1);
     let (shared, mut passes) = made.expect(rt, "error");
