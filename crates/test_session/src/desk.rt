@@ -3,8 +3,8 @@
 ghost use Rattle.std.specs.Prelude.{◌≡◌};
 
 use crate::clients::{client_bytes, heard};
-use crate::streams::Stream;
 use crate::named_texts::SITE;
+use crate::streams::Stream;
 use compile_pool::Jobs;
 use crossbeam_channel::{Sender, bounded};
 use journal_writer::NoJournal;
