@@ -34,6 +34,13 @@ impl Moments for Fixed {
 
 type Desk<'a, C, A, R> = Context<'a, C, A, R, Fixed, NoJournal, NoName>;
 
+/// A story, and what is enough of it.
+#[derive(Clone, Copy)]
+pub(crate) struct Tale<'a> {
+    pub(crate) story: &'a str,
+    pub(crate) enough: &'a str,
+}
+
 /// Plays a story's lines, such as `operator 5 450 install ask close`: who is served; after how many calls the
 /// stream fails; behind how many of its client's bytes it ends; and what the client sends. A session that is
 /// `watched`, or compiles a `small` request itself, gets what is behind `|` once it looks at its stream. A
@@ -46,13 +53,12 @@ pub(crate) fn play<C: Ledger, A: Ledger, R: Abort + Wait + Clock>(
     alloc: Global,
     changes: Blank,
     answers: Blank,
-    story: &[u8],
-    enough: &[u8],
+    tale: &Tale<'_>,
 ) -> String
     requires changes { (changes.name ≡ C.name) × (changes.parts ≡ C.parts) × (changes.parts ≡ 1) }
     requires answers { (answers.name ≡ A.name) × (answers.parts ≡ A.parts) × (answers.parts ≡ 1) }
 {
-    let (story, enough) = (text_of(rt, story), text_of(rt, enough));
+    let Tale { story, enough } = *tale;
     let site = read_site(alloc, SITE.as_bytes()).expect(rt, "error");
     let made: Result<(Shared<C, A>, _), _> = Shared::make(alloc, changes, answers, site, 1);
     let (shared, mut passes) = made.expect(rt, "error");
@@ -90,11 +96,6 @@ pub(crate) fn play<C: Ledger, A: Ledger, R: Abort + Wait + Clock>(
     }
     drop(queue);
     found
-}
-
-/// A text by its bytes: the ledgers of a call that has a `str` can't be picked.
-fn text_of<'a>(rt: &impl Abort, bytes: &'a [u8]) -> &'a str {
-    str::from_utf8(bytes).ok().expect(rt, "not UTF-8")
 }
 
 fn play_line<C: Ledger, A: Ledger, R: Abort + Wait + Clock>(

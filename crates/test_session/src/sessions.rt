@@ -1,7 +1,7 @@
 //! Stories of sessions, of which `play` has the form: sockets that fail or end anywhere, requests that are
 //! given up, and memory that is refused.
 
-use crate::desk::play;
+use crate::desk::{Tale, play};
 use std::alloc::Global;
 use std::marker::Brand;
 use std::process::Abort;
@@ -11,14 +11,8 @@ use std::sync::ledger::Blank;
 
 /// What comes of a story.
 fn played<R: Abort + Wait + Clock>(rt: &R, alloc: Global, story: &str, enough: &str) -> String {
-    play::<Brand, Brand, R>(
-        rt,
-        alloc,
-        Blank::new(1),
-        Blank::new(1),
-        story.as_bytes(),
-        enough.as_bytes(),
-    )
+    let tale = Tale { story, enough };
+    play::<Brand, Brand, R>(rt, alloc, Blank::new(1), Blank::new(1), &tale)
 }
 
 /// Nobody compiles a job. Where its client leaves, a request is kept no longer, and is counted; one that finds
