@@ -3,6 +3,7 @@
 
 use crate::played::{comes_to, opening, run, step};
 use crate::same::{holds, same, same_said, same_text};
+use meaning::Composite;
 use messages::CallBody;
 use ocpp_scalars::Refusal;
 use site_core::{Machine, Outcome, PointId, Reply, Step};
@@ -151,18 +152,18 @@ fn expect_minutes(
     let compiled = comes_to(machine, &Step::Compile(number));
     same_said(rt, compiled, ("Compiled", None), "a compiling");
     match machine.make(&Step::Answer(number)) {
-        Ok(
-            Reply::Answered {
-                answer: Ok(schedule),
-                ..
-            },
-        ) => {
-            same(rt, schedule.periods().len() as u64, 200, "periods");
-            for (period, limit) in schedule.periods().iter().zip(limits) {
-                same(rt, u64::from(period.limit), u64::from(limit), "a limit");
-            }
+        Ok(Reply::Answered { answer, .. }) => {
+            expect_periods(rt, &answer.ok().expect(rt, "no schedule"), limits);
         }
-        _ => rt.panic("no schedule"),
+        _ => rt.panic("no answer"),
+    }
+}
+
+/// A schedule has 200 periods, of which the first three have these limits.
+fn expect_periods(rt: &impl Abort, schedule: &Composite, limits: [u32; 3]) {
+    same(rt, schedule.periods().len() as u64, 200, "periods");
+    for (period, limit) in schedule.periods().iter().zip(limits) {
+        same(rt, u64::from(period.limit), u64::from(limit), "a limit");
     }
 }
 
