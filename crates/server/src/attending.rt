@@ -3,18 +3,15 @@
 ghost use Rattle.session.specs.Serving.{KeepsPass};
 
 use crate::incoming_stream::IncomingStream;
+use crate::seat_world::SeatWorld;
 use crate::session_watch::SessionWatch;
 use bytes::Bytes;
-use chronicle::ChronicleName;
-use journal_writer::Journal;
-use ocpp_scalars::Moments;
 use server_core::{
     LONGEST_SILENCE, Pace, SILENCE_BEFORE_CALL, SILENCE_BEFORE_PING, TICK, seconds_since,
 };
 use session::{Context, Ended, Heard, SentCall, SessionCore, WatchedSocket, send_call, serve_next};
 use std::rt::Clock;
 use std::sync::Wait;
-use std::sync::ledger::Ledger;
 use std::time::Instant;
 use tungstenite::{Message, NoMask, WebSocket};
 use version_store::Pass;
@@ -48,19 +45,12 @@ struct SentMoment {
 
 /// Serves messages until the socket is closed or fails, the client is silent for too long, or a call
 /// to it has no reply in time. Returns how it ended.
-pub(crate) fn attend_session<
-    C: Ledger,
-    A: Ledger,
-    R: Wait + Clock,
-    M: Moments,
-    J: Journal<N>,
-    N: ChronicleName,
->(
-    context: &Context<'_, C, A, R, M, J, N>,
-    watch: &SessionWatch<'_, C, A, R, M, J, N>,
-    socket: &mut WebSocket<IncomingStream<'_, R>, NoMask>,
+pub(crate) fn attend_session<W: SeatWorld>(
+    context: &Context<'_, W>,
+    watch: &SessionWatch<'_, W>,
+    socket: &mut WebSocket<IncomingStream<'_, W::Runtime>, NoMask>,
     core: &SessionCore,
-    pass: &mut Pass<C, A>,
+    pass: &mut Pass<W::Changes, W::Answers>,
 ) -> Ended
     ensures { KeepsPass pass.old pass.new }
 {
@@ -90,13 +80,13 @@ pub(crate) fn attend_session<
 }
 
 /// Serves the next message, or does what is due where none comes. An error ends the session.
-fn attend_next<C: Ledger, A: Ledger, R: Wait + Clock, M: Moments, J: Journal<N>, N: ChronicleName>(
-    context: &Context<'_, C, A, R, M, J, N>,
-    watch: &SessionWatch<'_, C, A, R, M, J, N>,
-    watched: &mut WatchedSocket<'_, IncomingStream<'_, R>, NoMask, R>,
+fn attend_next<W: SeatWorld>(
+    context: &Context<'_, W>,
+    watch: &SessionWatch<'_, W>,
+    watched: &mut WatchedSocket<'_, IncomingStream<'_, W::Runtime>, NoMask, W::Runtime>,
     core: &SessionCore,
     attention: &mut Attention,
-    pass: &mut Pass<C, A>,
+    pass: &mut Pass<W::Changes, W::Answers>,
 ) -> Result<(), Ended>
     ensures { KeepsPass pass.old pass.new }
 {
@@ -166,16 +156,9 @@ fn keep_alive<R: Wait + Clock>(
 
 /// Sends the call that waits for a point, which has nothing to say itself. Returns which. A
 /// point that has just connected is left the time for its BootNotification.
-fn send_to_silent<
-    C: Ledger,
-    A: Ledger,
-    R: Wait + Clock,
-    M: Moments,
-    J: Journal<N>,
-    N: ChronicleName,
->(
-    context: &Context<'_, C, A, R, M, J, N>,
-    socket: &mut WebSocket<IncomingStream<'_, R>, NoMask>,
+fn send_to_silent<W: SeatWorld>(
+    context: &Context<'_, W>,
+    socket: &mut WebSocket<IncomingStream<'_, W::Runtime>, NoMask>,
     core: &SessionCore,
     attention: &mut Attention,
 ) -> Result<Option<SentCall>, Ended> {
@@ -201,9 +184,9 @@ impl Attention {
     }
 
     /// The number of the last call, where it has no reply, though it was sent long enough ago.
-    fn overdue<C: Ledger, A: Ledger, R: Wait + Clock, M: Moments, J: Journal<N>, N: ChronicleName>(
+    fn overdue<W: SeatWorld>(
         &mut self,
-        context: &Context<'_, C, A, R, M, J, N>,
+        context: &Context<'_, W>,
         core: &SessionCore,
     ) -> Option<u64> {
         let call = self.sent?;

@@ -5,28 +5,20 @@ ghost use Rattle.session.specs.Serving.{KeepsPass};
 use crate::entry::Entry;
 use crate::handshake::{ClientRequest, shake_hands};
 use crate::path::{PathPeer, peer_of_path};
-use chronicle::ChronicleName;
-use journal_writer::Journal;
-use ocpp_scalars::Moments;
-use session::{Context, SessionCore, serve_session};
+use crate::world::World;
+use session::{Context, SessionCore, World, serve_session};
 use std::alloc::AllocError;
 use std::io::{Read, Write};
-use std::sync::Wait;
-use std::sync::ledger::Ledger;
 use tungstenite::{CloseCode, CloseFrame, NoMask, Utf8Bytes, WebSocket};
 use version_store::Pass;
 
 /// Serves a connection from its handshake until it ends. Gives back the pass, which counts no less
 /// than before.
-pub(crate) fn serve_connection<
-    S: Read + Write + Drop,
-    C: Ledger,
-    A: Ledger,
-    R: Wait,
-    M: Moments,
-    J: Journal<N>,
-    N: ChronicleName,
->(context: &Context<'_, C, A, R, M, J, N>, stream: S, pass: Pass<C, A>) -> Pass<C, A>
+pub(crate) fn serve_connection<W: World, S: Read + Write + Drop>(
+    context: &Context<'_, W>,
+    stream: S,
+    pass: Pass<W::Changes, W::Answers>,
+) -> Pass<W::Changes, W::Answers>
     ensures { KeepsPass pass result }
 {
     let Ok((socket, asked)) = shake_hands(context.alloc, Entry::Open, stream) else {
@@ -54,8 +46,8 @@ pub(crate) struct Admitted {
 }
 
 /// The session that a client asks for, if it speaks OCPP 1.6 and names a point of the site.
-pub(crate) fn admit<C: Ledger, A: Ledger, R: Wait, M: Moments, J: Journal<N>, N: ChronicleName>(
-    context: &Context<'_, C, A, R, M, J, N>,
+pub(crate) fn admit<W: World>(
+    context: &Context<'_, W>,
     asked: &ClientRequest,
 ) -> Result<Option<Admitted>, AllocError> {
     let peer = peer_of_path(asked.path.as_str());

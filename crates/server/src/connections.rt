@@ -3,14 +3,10 @@
 ghost use Rattle.std.specs.Prelude.{◌≡◌, ◌≤◌, IfOk, length, vec_len, vec_capacity};
 
 use crate::connection::serve_connection;
-use chronicle::ChronicleName;
-use journal_writer::Journal;
-use ocpp_scalars::Moments;
+use crate::seat_world::SharedWorld;
 use session::Context;
 use std::alloc::AllocError;
-use std::marker::{Send, Sync};
 use std::net::TcpListener;
-use std::sync::Wait;
 use std::sync::ledger::Ledger;
 use std::thread;
 use std::thread::{JoinHandle, Scope, Threads};
@@ -43,18 +39,11 @@ enum Session<C: Ledger, A: Ledger> {
 
 /// Accepts a connection for each pass, and serves it on a thread of its own, or on this one where
 /// no thread can be made. Ends when all have ended, and gives back all passes.
-pub(crate) fn serve_connections<
-    C: Ledger + Send + Sync,
-    A: Ledger + Send + Sync,
-    R: Threads + Wait + Sync,
-    M: Moments + Sync,
-    J: Journal<N> + Sync,
-    N: ChronicleName + Send + Sync,
->(
-    context: &Context<'_, C, A, R, M, J, N>,
+pub(crate) fn serve_connections<W: SharedWorld>(
+    context: &Context<'_, W>,
     listener: TcpListener,
-    passes: Vec<Pass<C, A>>,
-) -> Result<Served<C, A>, AllocError>
+    passes: Vec<Pass<W::Changes, W::Answers>>,
+) -> Result<Served<W::Changes, W::Answers>, AllocError>
     ensures { IfOk result (λ served. length served.passes.items ≡ length passes.items) }
 {
     let count = passes.len();
@@ -64,7 +53,7 @@ pub(crate) fn serve_connections<
     Ok(thread::scope(
         thread::scope_env(),
         context.rt,
-        |scope| -> Served<C, A>
+        |scope| -> Served<W::Changes, W::Answers>
             requires { (vec_len sessions ≡ 0) × (length passes.items ≤ vec_capacity sessions)
                 × (vec_len ended ≡ 0) × (length passes.items ≤ vec_capacity ended) }
             ensures { length result.passes.items ≡ length passes.items }
@@ -80,22 +69,13 @@ pub(crate) fn serve_connections<
 
 /// Begins a session for each pass, in room for them. Then the listener is closed: nobody is to wait
 /// for a connection that is never accepted.
-fn begin_all<
-    's,
-    E,
-    C: Ledger + Send + Sync,
-    A: Ledger + Send + Sync,
-    R: Wait + Sync,
-    M: Moments + Sync,
-    J: Journal<N> + Sync,
-    N: ChronicleName + Send + Sync,
->(
+fn begin_all<'s, W: SharedWorld, E>(
     scope: &Scope<'s, E>,
-    context: &'s Context<'_, C, A, R, M, J, N>,
+    context: &'s Context<'_, W>,
     listener: TcpListener,
-    passes: Vec<Pass<C, A>>,
-    room: Vec<Session<C, A>>,
-) -> Begun<C, A>
+    passes: Vec<Pass<W::Changes, W::Answers>>,
+    room: Vec<Session<W::Changes, W::Answers>>,
+) -> Begun<W::Changes, W::Answers>
     requires empty { vec_len room ≡ 0 }
     requires room { length passes.items ≤ vec_capacity room }
     ensures { length result.sessions.items ≡ length passes.items }
@@ -112,22 +92,13 @@ fn begin_all<
 }
 
 /// Begins the session of a pass with the next connection.
-fn begin<
-    's,
-    E,
-    C: Ledger + Send + Sync,
-    A: Ledger + Send + Sync,
-    R: Wait + Sync,
-    M: Moments + Sync,
-    J: Journal<N> + Sync,
-    N: ChronicleName + Send + Sync,
->(
+fn begin<'s, W: SharedWorld, E>(
     scope: &Scope<'s, E>,
-    context: &'s Context<'_, C, A, R, M, J, N>,
+    context: &'s Context<'_, W>,
     listener: &TcpListener,
-    pass: Pass<C, A>,
+    pass: Pass<W::Changes, W::Answers>,
     is_accepting: &mut bool,
-) -> Session<C, A> {
+) -> Session<W::Changes, W::Answers> {
     if !*is_accepting {
         return Session::Ended(pass);
     }

@@ -9,19 +9,16 @@ use crate::entry::Entry;
 use crate::handshake::{ClientRequest, Unshaken, shake_hands};
 use crate::incoming_stream::IncomingStream;
 use crate::seat_context::SeatContext;
+use crate::seat_world::SeatWorld;
 use crate::session_watch::SessionWatch;
-use chronicle::ChronicleName;
 use compile_pool::Jobs;
 use crossbeam_channel::Receiver;
-use journal_writer::Journal;
-use ocpp_scalars::Moments;
 use session::{Context, Peer, attach_session, end_session};
 use std::alloc::{AllocError, Global};
 use std::marker::Sync;
 use std::net::TcpStream;
 use std::rt::Clock;
 use std::sync::Wait;
-use std::sync::ledger::Ledger;
 use std::thread;
 use std::thread::Threads;
 use tungstenite::{NoMask, WebSocket, WebSocketConfig};
@@ -38,19 +35,12 @@ type SeatSocket<'a, R> = WebSocket<IncomingStream<'a, R>, NoMask>;
 
 /// Serves one connection after another, each with the seat's pass, until no more are sent. Gives
 /// back the pass, which counts no less than before.
-pub fn keep_seat<
-    C: Ledger,
-    A: Ledger,
-    R: Threads + Wait + Clock + Sync,
-    M: Moments,
-    J: Journal<N>,
-    N: ChronicleName,
->(
-    seats: &SeatContext<C, A, R, M, J, N>,
+pub fn keep_seat<W: SeatWorld>(
+    seats: &SeatContext<W>,
     jobs: Jobs<'_>,
     streams: &Receiver<TcpStream>,
-    pass: Pass<C, A>,
-) -> Pass<C, A>
+    pass: Pass<W::Changes, W::Answers>,
+) -> Pass<W::Changes, W::Answers>
     ensures { KeepsPass pass result }
 {
     let context = Context {
@@ -74,19 +64,12 @@ pub fn keep_seat<
 }
 
 /// Serves a connection from its handshake until it ends. Gives back the pass.
-fn serve_incoming<
-    C: Ledger,
-    A: Ledger,
-    R: Threads + Wait + Clock + Sync,
-    M: Moments,
-    J: Journal<N>,
-    N: ChronicleName,
->(
-    seats: &SeatContext<C, A, R, M, J, N>,
-    context: &Context<'_, C, A, R, M, J, N>,
+fn serve_incoming<W: SeatWorld>(
+    seats: &SeatContext<W>,
+    context: &Context<'_, W>,
     stream: TcpStream,
-    pass: Pass<C, A>,
-) -> Pass<C, A>
+    pass: Pass<W::Changes, W::Answers>,
+) -> Pass<W::Changes, W::Answers>
     ensures { KeepsPass pass result }
 {
     let from = stream.peer_addr().ok();
@@ -122,18 +105,10 @@ fn serve_incoming<
 }
 
 /// Shakes hands with a client. While that lasts, it may have to give way.
-fn shake_in_time<
-    'a,
-    C: Ledger,
-    A: Ledger,
-    R: Threads + Wait + Clock + Sync,
-    M,
-    J,
-    N: ChronicleName,
->(
-    seats: &SeatContext<C, A, R, M, J, N>,
-    stream: IncomingStream<'a, R>,
-) -> Result<(SeatSocket<'a, R>, ClientRequest), Unshaken> {
+fn shake_in_time<'a, W: SeatWorld>(
+    seats: &SeatContext<W>,
+    stream: IncomingStream<'a, W::Runtime>,
+) -> Result<(SeatSocket<'a, W::Runtime>, ClientRequest), Unshaken> {
     let entry = Entry::Guarded {
         keys: seats.options.keys.as_ref(),
         address: seats.options.address.as_str(),
@@ -172,20 +147,13 @@ fn limits() -> WebSocketConfig {
 
 /// Serves a session after its handshake. A point's older connection is shut once this one has its
 /// link, and this one is shut once a later one has. Gives back the pass.
-fn serve_admitted<
-    C: Ledger,
-    A: Ledger,
-    R: Wait + Clock,
-    M: Moments,
-    J: Journal<N>,
-    N: ChronicleName,
->(
-    seats: &SeatContext<C, A, R, M, J, N>,
-    context: &Context<'_, C, A, R, M, J, N>,
-    socket: SeatSocket<'_, R>,
+fn serve_admitted<W: SeatWorld>(
+    seats: &SeatContext<W>,
+    context: &Context<'_, W>,
+    socket: SeatSocket<'_, W::Runtime>,
     admitted: Admitted,
-    pass: Pass<C, A>,
-) -> Pass<C, A>
+    pass: Pass<W::Changes, W::Answers>,
+) -> Pass<W::Changes, W::Answers>
     ensures { KeepsPass pass result }
 {
     let Admitted { mut core, place } = admitted;

@@ -1,8 +1,7 @@
 //! What all seats of a site share.
 
-use chronicle::ChronicleName;
+use crate::seat_world::SeatWorld;
 use journal_writer::Journal;
-use ocpp_scalars::Moments;
 use server_core::{
     AheadClients, FreeSeats, LongMessages, Notices, PresentStreams, SiteWatch, UnfinishedHandshakes,
 };
@@ -10,9 +9,8 @@ use site_keys::Keys;
 use site_status::{Boot, RejectedCalls, resumed_boot};
 use std::alloc::{AllocError, Global};
 use std::rt::Clock;
-use std::sync::ledger::Ledger;
-use std::sync::{Arc, Mutex, Wait};
-use version_store::{NoName, Shared};
+use std::sync::{Arc, Mutex};
+use version_store::Shared;
 
 /// What whoever runs a site may choose.
 #[derive(Debug, Drop)]
@@ -28,12 +26,12 @@ pub struct SeatOptions {
 
 /// What all threads share that serve a site.
 #[derive(Drop)]
-pub struct SeatContext<C: Ledger, A: Ledger, R, M, J, N: ChronicleName = NoName> {
-    pub(crate) rt: R,
+pub struct SeatContext<W: SeatWorld> {
+    pub(crate) rt: W::Runtime,
     pub(crate) alloc: Global,
-    pub(crate) shared: Arc<Shared<C, A, N>, Global>,
-    pub(crate) clock: M,
-    pub(crate) journal: J,
+    pub(crate) shared: Arc<Shared<W::Changes, W::Answers, W::Name>, Global>,
+    pub(crate) clock: W::Clock,
+    pub(crate) journal: W::Journal,
     pub(crate) present: PresentStreams,
     pub(crate) free: FreeSeats,
     pub(crate) long_messages: LongMessages,
@@ -46,23 +44,16 @@ pub struct SeatContext<C: Ledger, A: Ledger, R, M, J, N: ChronicleName = NoName>
     pub(crate) reading: Mutex<()>,
 }
 
-impl<
-    C: Ledger,
-    A: Ledger,
-    R: Wait + Clock + Drop,
-    M: Moments + Drop,
-    J: Journal<N> + Drop,
-    N: ChronicleName,
-> SeatContext<C, A, R, M, J, N> {
+impl<W: SeatWorld> SeatContext<W> {
     /// What threads share that serve this book, by this clock and with this journal.
     pub fn make(
-        rt: R,
+        rt: W::Runtime,
         alloc: Global,
-        shared: Shared<C, A, N>,
-        clock: M,
-        journal: J,
+        shared: Shared<W::Changes, W::Answers, W::Name>,
+        clock: W::Clock,
+        journal: W::Journal,
         options: SeatOptions,
-    ) -> Result<SeatContext<C, A, R, M, J, N>, AllocError> {
+    ) -> Result<SeatContext<W>, AllocError> {
         let book = shared.lock(&rt);
         let copied = book.present().copy();
         drop(book);
@@ -116,7 +107,7 @@ impl<
     }
 
     /// The journal of what is served.
-    pub fn journal(&self) -> &J {
+    pub fn journal(&self) -> &W::Journal {
         &self.journal
     }
 }

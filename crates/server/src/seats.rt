@@ -5,22 +5,18 @@ ghost use Rattle.std.specs.Prelude.{◌≡◌, ◌≤◌, ◌+◌, true, IfOk, l
 use crate::accepting::accept_connections;
 use crate::seat::keep_seat;
 use crate::seat_context::SeatContext;
+use crate::seat_world::SeatWorld;
 use crate::serving::ServeFault;
 use crate::workers::{JobSenders, begin_workers};
 use chronicle::{ChronicleName, Unnamed};
 use crossbeam_channel::{Receiver, bounded};
-use journal_writer::Journal;
-use ocpp_scalars::Moments;
 use site_rules::Site;
 use std::alloc::{AllocError, Global};
-use std::marker::{Send, Sync};
 use std::net::{TcpListener, TcpStream};
-use std::rt::Clock;
+use std::sync::Arc;
 use std::sync::ledger::{Blank, Ledger};
-use std::sync::{Arc, Wait};
 use std::thread;
-use std::thread::Threads;
-use version_store::{NoName, Pass, Shared};
+use version_store::{Pass, Shared};
 
 /// The most connections at a time.
 pub const MAX_SEATS: u64 = 1_000;
@@ -30,7 +26,7 @@ const SEAT_STACK: usize = 2 * 1_048_576;
 
 /// The book of a site that is to be served by seats, and its passes.
 #[derive(Drop)]
-pub struct SeatedBook<C: Ledger, A: Ledger, N: ChronicleName = NoName> {
+pub struct SeatedBook<C: Ledger, A: Ledger, N: ChronicleName> {
     pub shared: Shared<C, A, N>,
     /// The pass of whoever restores the book before it is served.
     pub restoring: Pass<C, A>,
@@ -38,42 +34,10 @@ pub struct SeatedBook<C: Ledger, A: Ledger, N: ChronicleName = NoName> {
     pub seats: Vec<Pass<C, A>>,
 }
 
-impl<C: Ledger, A: Ledger> SeatedBook<C, A> {
-    /// The book of a site where nothing was done yet, with so many seats. The two ledgers are to
-    /// count its changes and its answers.
-    pub fn make(
-        alloc: Global,
-        blanks: (Blank, Blank),
-        site: Site,
-        seats: u64,
-    ) -> Result<SeatedBook<C, A>, AllocError>
-        requires changes { (blanks.0.name ≡ C.name) × (blanks.0.parts ≡ C.parts)
-            × (blanks.0.parts ≡ seats + 1) }
-        requires answers { (blanks.1.name ≡ A.name) × (blanks.1.parts ≡ A.parts)
-            × (blanks.1.parts ≡ seats + 1) }
-        ensures { IfOk result (λ book. length book.seats.items ≡ seats) }
-    {
-        let (changes, answers) = blanks;
-        // It never fails: each ledger has so many parts.
-        let Some(count) = seats.checked_add(1) else {
-            return Err(AllocError);
-        };
-        let (shared, passes) = Shared::make(alloc, changes, answers, site, count)?;
-        let mut passes = passes;
-        let Some(restoring) = passes.pop() else {
-            unreachable!()
-        };
-        Ok(SeatedBook {
-            shared,
-            restoring,
-            seats: passes,
-        })
-    }
-}
-
 impl<C: Ledger, A: Ledger, N: ChronicleName> SeatedBook<C, A, N> {
-    /// The same, whose states are recorded in a chronicle.
-    pub fn make_with(
+    /// The book of a site where nothing was done yet, with so many seats. The two ledgers are to
+    /// count its changes and its answers, and the chronicle records its states.
+    pub fn make(
         alloc: Global,
         blanks: (Blank, Blank),
         site: Site,
@@ -110,17 +74,10 @@ impl<C: Ledger, A: Ledger, N: ChronicleName> SeatedBook<C, A, N> {
 /// and serves one connection after another. Workers on other threads compile. It goes on when this
 /// returns, for as long as the program runs. Returns how many seats there are: fewer where a thread
 /// couldn't be made, and one at least.
-pub fn run_seats<
-    C: Ledger + Send + Sync + Drop + 'static,
-    A: Ledger + Send + Sync + Drop + 'static,
-    R: Threads + Wait + Clock + Eprint + Copy + Send + Sync + Drop + 'static,
-    M: Moments + Send + Sync + Drop + 'static,
-    J: Journal<N> + Send + Sync + Drop + 'static,
-    N: ChronicleName + Send + Sync + Drop + 'static,
->(
-    context: &Arc<SeatContext<C, A, R, M, J, N>, Global>,
+pub fn run_seats<W: SeatWorld>(
+    context: &Arc<SeatContext<W>, Global>,
     listener: TcpListener,
-    passes: Vec<Pass<C, A>>,
+    passes: Vec<Pass<W::Changes, W::Answers>>,
     workers: usize,
 ) -> Result<usize, ServeFault>
     requires workers { 1 ≤ workers }
@@ -152,14 +109,7 @@ pub fn run_seats<
 }
 
 /// Begins the thread that writes lines for people to standard error.
-fn begin_writer<
-    C: Ledger + Send + Sync + Drop + 'static,
-    A: Ledger + Send + Sync + Drop + 'static,
-    R: Wait + Threads + Eprint + Send + Sync + Drop + 'static,
-    M: Send + Sync + Drop + 'static,
-    J: Send + Sync + Drop + 'static,
-    N: ChronicleName + Send + Sync + Drop + 'static,
->(context: &Arc<SeatContext<C, A, R, M, J, N>, Global>) -> Result<(), ServeFault> {
+fn begin_writer<W: SeatWorld>(context: &Arc<SeatContext<W>, Global>) -> Result<(), ServeFault> {
     let own = Arc::try_clone(context)?;
     let writer = thread::Builder::new().spawn(&context.rt, move || own.notices.write_all(&own.rt));
     match writer {
@@ -169,18 +119,11 @@ fn begin_writer<
 }
 
 /// Begins a seat for each pass. Returns how many threads could be made for them.
-fn begin_seats<
-    C: Ledger + Send + Sync + Drop + 'static,
-    A: Ledger + Send + Sync + Drop + 'static,
-    R: Threads + Wait + Clock + Copy + Send + Sync + Drop + 'static,
-    M: Moments + Send + Sync + Drop + 'static,
-    J: Journal<N> + Send + Sync + Drop + 'static,
-    N: ChronicleName + Send + Sync + Drop + 'static,
->(
-    context: &Arc<SeatContext<C, A, R, M, J, N>, Global>,
+fn begin_seats<W: SeatWorld>(
+    context: &Arc<SeatContext<W>, Global>,
     jobs: &JobSenders,
     queue: &Receiver<TcpStream>,
-    passes: Vec<Pass<C, A>>,
+    passes: Vec<Pass<W::Changes, W::Answers>>,
 ) -> Result<usize, ServeFault>
     ensures { IfOk result (λ seats. seats ≤ length passes.items) }
 {
@@ -196,18 +139,11 @@ fn begin_seats<
 }
 
 /// Begins a seat. False where no thread can be made for it.
-fn begin_seat<
-    C: Ledger + Send + Sync + Drop + 'static,
-    A: Ledger + Send + Sync + Drop + 'static,
-    R: Threads + Wait + Clock + Copy + Send + Sync + Drop + 'static,
-    M: Moments + Send + Sync + Drop + 'static,
-    J: Journal<N> + Send + Sync + Drop + 'static,
-    N: ChronicleName + Send + Sync + Drop + 'static,
->(
-    context: &Arc<SeatContext<C, A, R, M, J, N>, Global>,
+fn begin_seat<W: SeatWorld>(
+    context: &Arc<SeatContext<W>, Global>,
     jobs: &JobSenders,
     queue: &Receiver<TcpStream>,
-    pass: Pass<C, A>,
+    pass: Pass<W::Changes, W::Answers>,
 ) -> Result<bool, ServeFault> {
     let own = Arc::try_clone(context)?;
     let (jobs, queue) = (jobs.share()?, queue.clone()?);

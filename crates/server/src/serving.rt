@@ -3,11 +3,11 @@
 ghost use Rattle.std.specs.Prelude.{◌≡◌, ◌≤◌, IfOk, length};
 
 use crate::connections::{Served, serve_connections};
-use compile_pool::{Jobs, MAX_JOBS, Open, run_pool};
+use compile_pool::{MAX_JOBS, Open, run_pool};
 use crossbeam_channel::bounded;
 use journal_writer::NoJournal;
 use ocpp_scalars::Moments;
-use session::Context;
+use session::{Context, Unrecorded};
 use site_rules::Site;
 use std::alloc::{AllocError, Global};
 use std::marker::{Brand, Send, Sync};
@@ -157,16 +157,10 @@ fn serve_beside_workers<
                 { run_pool(rt, alloc, workers, &queue, shared, &Open) },
             );
             drop(pool);
-            let reading = Mutex::new(());
-            let context = Context {
-                rt,
-                alloc,
-                shared,
-                jobs: Jobs::one(&jobs),
-                clock,
-                journal: &NoJournal,
-                reading: &reading,
-            };
+            let (journal, reading) = (NoJournal, Mutex::new(()));
+            let context: Context<'_, Unrecorded<C, A, R, M>> = Context::unrecorded(
+                rt, alloc, shared, &jobs, clock, &journal, &reading,
+            );
             let served = serve_connections(&context, listener, passes);
             shared.lock(rt).finish();
             shared.wake();

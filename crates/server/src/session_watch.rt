@@ -1,36 +1,25 @@
 //! What a session is seen to do: for the status of its site, and as lines for people.
 
 use crate::seat_context::SeatContext;
-use chronicle::ChronicleName;
-use journal_writer::Journal;
+use crate::seat_world::SeatWorld;
 use messages::ActionKind;
-use ocpp_scalars::{Instant, Moments};
+use ocpp_scalars::Instant;
 use server_core::{Rejected, Reply};
 use session::{Breach, Ended, SentCall, SessionCore, Told};
 use site_status::{Boot, CallNumbers, SentMoment, Sighting};
 use std::alloc::{AllocError, Global};
-use std::rt::Clock;
-use std::sync::Wait;
-use std::sync::ledger::Ledger;
 
 /// Whoever watches a session of a point or of an operator.
 #[derive(Drop)]
-pub(crate) struct SessionWatch<'a, C: Ledger, A: Ledger, R, M, J, N: ChronicleName> {
-    pub(crate) seats: &'a SeatContext<C, A, R, M, J, N>,
+pub(crate) struct SessionWatch<'a, W: SeatWorld> {
+    pub(crate) seats: &'a SeatContext<W>,
     /// The place of its point in the site.
     pub(crate) place: usize,
     /// The link of a point. An operator has none.
     pub(crate) link: Option<u64>,
 }
 
-impl<
-    C: Ledger,
-    A: Ledger,
-    R: Wait + Clock,
-    M: Moments,
-    J: Journal<N>,
-    N: ChronicleName,
-> SessionWatch<'_, C, A, R, M, J, N> {
+impl<W: SeatWorld> SessionWatch<'_, W> {
     /// It has begun.
     pub(crate) fn begin(&self, core: &SessionCore) {
         let seats = self.seats;

@@ -1,22 +1,15 @@
 //! The status port of a site: read-only, over HTTP/1.1, with a few threads of its own.
 
 use crate::seat_context::SeatContext;
+use crate::seat_world::SeatWorld;
 use crate::serving::ServeFault;
 use crate::status_service::StatusService;
-use chronicle::ChronicleName;
 use http_server::{Config, Connection, serve};
-use ocpp_scalars::Moments;
 use server_core::{LONGEST_STATUS, StatusStream};
-use site_status::WatchedJournal;
 use std::alloc::{AllocError, Global};
 use std::hash::RandomState;
-use std::marker::{Send, Sync};
 use std::net::{TcpListener, TcpStream};
-use std::random::RandomSource;
-use std::rt::Clock;
-use std::sync::ledger::Ledger;
-use std::sync::{Arc, Mutex, Wait};
-use std::thread::Threads;
+use std::sync::{Arc, Mutex};
 use std::time::{Duration, Instant};
 use std::{io, thread};
 
@@ -34,30 +27,23 @@ const LONGEST_BODY: usize = 0;
 
 /// What the threads of a status port share.
 #[derive(Drop)]
-pub struct StatusPort<C: Ledger, A: Ledger, R, M, J, N: ChronicleName> {
-    pub(crate) rt: R,
+pub struct StatusPort<W: SeatWorld> {
+    pub(crate) rt: W::Runtime,
     pub(crate) alloc: Global,
     /// The address that is listened at, as it was given, where only requests for this machine are
     /// answered. None where it is open to others, who may have any name for it.
     pub(crate) address: Option<String>,
     /// What is watched. None while the site is being restored.
-    pub(crate) seats: Mutex<Option<SharedSeats<C, A, R, M, J, N>>>,
+    pub(crate) seats: Mutex<Option<SharedSeats<W>>>,
 }
 
 /// What the seats of a site share.
-pub(crate) type SharedSeats<C, A, R, M, J, N> = Arc<SeatContext<C, A, R, M, J, N>, Global>;
+pub(crate) type SharedSeats<W> = Arc<SeatContext<W>, Global>;
 
-impl<C: Ledger, A: Ledger, R: Wait + Drop, M: Drop, J: Drop, N: ChronicleName> StatusPort<
-    C,
-    A,
-    R,
-    M,
-    J,
-    N,
-> {
+impl<W: SeatWorld> StatusPort<W> {
     /// The port of a site that is being restored, at this address if it answers only requests for this
     /// machine.
-    pub fn new(rt: R, alloc: Global, address: Option<String>) -> StatusPort<C, A, R, M, J, N> {
+    pub fn new(rt: W::Runtime, alloc: Global, address: Option<String>) -> StatusPort<W> {
         StatusPort {
             rt,
             alloc,
@@ -67,17 +53,14 @@ impl<C: Ledger, A: Ledger, R: Wait + Drop, M: Drop, J: Drop, N: ChronicleName> S
     }
 
     /// The site is restored: from now on this is watched.
-    pub fn watch(
-        &self,
-        seats: &Arc<SeatContext<C, A, R, M, J, N>, Global>,
-    ) -> Result<(), AllocError> {
+    pub fn watch(&self, seats: &SharedSeats<W>) -> Result<(), AllocError> {
         let seats = Arc::try_clone(seats)?;
         *self.seats.lock(&self.rt) = Some(seats);
         Ok(())
     }
 
     /// What is watched, if the site is restored.
-    pub(crate) fn seats(&self) -> Result<Option<SharedSeats<C, A, R, M, J, N>>, AllocError> {
+    pub(crate) fn seats(&self) -> Result<Option<SharedSeats<W>>, AllocError> {
         let seats = self.seats.lock(&self.rt);
         match &*seats {
             Some(seats) => Ok(Some(Arc::try_clone(seats)?)),
@@ -87,15 +70,8 @@ impl<C: Ledger, A: Ledger, R: Wait + Drop, M: Drop, J: Drop, N: ChronicleName> S
 }
 
 /// Begins to answer at a status port. It goes on when this returns, for as long as the program runs.
-pub fn begin_status<
-    C: Ledger + Send + Sync + Drop + 'static,
-    A: Ledger + Send + Sync + Drop + 'static,
-    R: Threads + Wait + Clock + RandomSource + Copy + Send + Sync + Drop + 'static,
-    M: Moments + Send + Sync + Drop + 'static,
-    J: WatchedJournal + Send + Sync + Drop + 'static,
-    N: ChronicleName + Send + Sync + Drop + 'static,
->(
-    port: &Arc<StatusPort<C, A, R, M, J, N>, Global>,
+pub fn begin_status<W: SeatWorld>(
+    port: &Arc<StatusPort<W>, Global>,
     listener: TcpListener,
 ) -> Result<(), ServeFault> {
     let Ok(listener) = Arc::new(port.alloc, listener) else {
@@ -114,14 +90,7 @@ pub fn begin_status<
 }
 
 /// Answers one connection after another.
-fn answer_all<
-    C: Ledger,
-    A: Ledger,
-    R: Wait + Clock + RandomSource + Drop,
-    M: Moments + Drop,
-    J: WatchedJournal + Drop,
-    N: ChronicleName,
->(port: &StatusPort<C, A, R, M, J, N>, listener: &TcpListener) {
+fn answer_all<W: SeatWorld>(port: &StatusPort<W>, listener: &TcpListener) {
     for _connection in port.rt.forever() {
         match listener.accept() {
             Ok((stream, _)) => {
@@ -134,14 +103,7 @@ fn answer_all<
 }
 
 /// Answers the request of a connection, within the deadline.
-fn answer_connection<
-    C: Ledger,
-    A: Ledger,
-    R: Wait + Clock + RandomSource + Drop,
-    M: Moments + Drop,
-    J: WatchedJournal + Drop,
-    N: ChronicleName,
->(port: &StatusPort<C, A, R, M, J, N>, stream: &TcpStream) -> io::Result<()> {
+fn answer_connection<W: SeatWorld>(port: &StatusPort<W>, stream: &TcpStream) -> io::Result<()> {
     let now = Instant::now(&port.rt)?;
     let Some(deadline) = now.checked_add(Duration::from_secs(LONGEST_STATUS)) else {
         return Ok(());

@@ -2,35 +2,25 @@
 
 use crate::own_host::is_for_this_machine;
 use crate::seat_context::SeatContext;
+use crate::seat_world::SeatWorld;
 use crate::status_port::StatusPort;
 use bytes::Bytes;
-use chronicle::ChronicleName;
 use http::{HeaderName, HeaderValue, Method, Request, StatusCode};
 use http_server::{Response, Service};
-use ocpp_scalars::Moments;
 use server_core::Seen;
 use site_status::{
-    Health, JournalReport, SiteCounts, SiteReport, StatusAnswer, StatusPath, WatchedJournal,
-    answer_of, health_answer, nothing_there, status_path,
+    Health, JournalReport, SiteCounts, SiteReport, StatusAnswer, StatusPath, answer_of,
+    health_answer, nothing_there, status_path,
 };
 use std::alloc::{AllocError, Global};
-use std::sync::Wait;
-use std::sync::ledger::Ledger;
 
 /// Answers the requests of a status port.
 #[derive(Drop)]
-pub(crate) struct StatusService<'a, C: Ledger, A: Ledger, R, M, J, N: ChronicleName> {
-    pub(crate) port: &'a StatusPort<C, A, R, M, J, N>,
+pub(crate) struct StatusService<'a, W: SeatWorld> {
+    pub(crate) port: &'a StatusPort<W>,
 }
 
-impl<
-    C: Ledger,
-    A: Ledger,
-    R: Wait + Drop,
-    M: Moments + Drop,
-    J: WatchedJournal + Drop,
-    N: ChronicleName,
-> Service for StatusService<'_, C, A, R, M, J, N> {
+impl<W: SeatWorld> Service for StatusService<'_, W> {
     ghost answers = { λ _ _ _ _. Unit {0} };
 
     fn call(
@@ -67,14 +57,7 @@ impl<
     }
 }
 
-impl<
-    C: Ledger,
-    A: Ledger,
-    R: Wait + Drop,
-    M: Moments + Drop,
-    J: WatchedJournal + Drop,
-    N: ChronicleName,
-> StatusService<'_, C, A, R, M, J, N> {
+impl<W: SeatWorld> StatusService<'_, W> {
     /// Whether a request is for this machine, where that is wanted.
     fn is_for_us(&self, request: &Request<Bytes>) -> bool {
         match &self.port.address {
@@ -102,8 +85,8 @@ impl<
 }
 
 /// What is answered at a path that wants to know what the site has.
-fn answer_by<C: Ledger, A: Ledger, R: Wait, M: Moments, J, N: ChronicleName>(
-    seats: &SeatContext<C, A, R, M, J, N>,
+fn answer_by<W: SeatWorld>(
+    seats: &SeatContext<W>,
     journal: JournalReport,
     path: StatusPath<'_>,
 ) -> Result<StatusAnswer, AllocError> {

@@ -1,25 +1,52 @@
 //! What all sessions have at hand.
 
-use chronicle::ChronicleName;
+use crate::world::{Unrecorded, World};
 use compile_pool::Jobs;
-use journal_writer::Journal;
+use crossbeam_channel::Sender;
+use journal_writer::NoJournal;
 use ocpp_scalars::Moments;
 use std::alloc::Global;
 use std::sync::ledger::Ledger;
 use std::sync::{Mutex, Wait};
-use version_store::Shared;
+use version_store::{Job, Shared};
 
 /// What all sessions have at hand, and lend to whatever serves one.
 #[derive(Drop)]
-pub struct Context<'a, C: Ledger, A: Ledger, R: Wait, M: Moments, J: Journal<N>, N: ChronicleName> {
-    pub rt: &'a R,
+pub struct Context<'a, W: World> {
+    pub rt: &'a W::Runtime,
     pub alloc: Global,
     /// The book that they share.
-    pub shared: &'a Shared<C, A, N>,
+    pub shared: &'a Shared<W::Changes, W::Answers, W::Name>,
     /// The ways to those who compile.
     pub jobs: Jobs<'a>,
-    pub clock: &'a M,
-    pub journal: &'a J,
+    pub clock: &'a W::Clock,
+    pub journal: &'a W::Journal,
     /// Whoever reads a long message has this.
     pub reading: &'a Mutex<()>,
+}
+
+impl<'a, C: Ledger + 'a, A: Ledger + 'a, R: Wait + 'a, M: Moments + 'a> Context<
+    'a,
+    Unrecorded<C, A, R, M>,
+> {
+    /// What sessions have at hand whose changes aren't noted.
+    pub fn unrecorded(
+        rt: &'a R,
+        alloc: Global,
+        shared: &'a Shared<C, A>,
+        jobs: &'a Sender<Job>,
+        clock: &'a M,
+        journal: &'a NoJournal,
+        reading: &'a Mutex<()>,
+    ) -> Context<'a, Unrecorded<C, A, R, M>> {
+        Context {
+            rt,
+            alloc,
+            shared,
+            jobs: Jobs::one(jobs),
+            clock,
+            journal,
+            reading,
+        }
+    }
 }

@@ -17,14 +17,13 @@ mod watched_socket;
 
 use crate::context::Context;
 use crate::session_core::SessionCore;
+use crate::world::{Unrecorded, World};
 use calls::lose;
 pub use calls::{attach_session, send_call};
-use chronicle::ChronicleName;
-use compile_pool::Jobs;
 use crossbeam_channel::Sender;
 pub use ended::{Breach, Ended};
 pub use heard::{Heard, SentCall, Told};
-use journal_writer::{Journal, NoJournal};
+use journal_writer::NoJournal;
 use ocpp_scalars::Moments;
 pub use served_text::{Served, serve_next, serve_sent_text};
 use std::alloc::Global;
@@ -59,64 +58,21 @@ pub fn serve_socket<
 ) -> (Ended, Pass<C, A>)
     ensures { KeepsPass pass result.1 }
 {
-    serve_noted_socket(
-        rt, alloc, socket, shared, jobs, core, pass, clock, &NoJournal,
-    )
-}
-
-/// Does what `serve_socket` does, and notes each step that changes something, as it is made. No
-/// message leaves before all is kept that was noted by then.
-pub fn serve_noted_socket<
-    S: Read + Write + Drop,
-    K: MaskKeys + Drop,
-    C: Ledger,
-    A: Ledger,
-    R: Wait,
-    M: Moments,
-    J: Journal<N>,
-    N: ChronicleName,
->(
-    rt: &R,
-    alloc: Global,
-    socket: WebSocket<S, K>,
-    shared: &Shared<C, A, N>,
-    jobs: &Sender<Job>,
-    core: SessionCore,
-    pass: Pass<C, A>,
-    clock: &M,
-    journal: &J,
-) -> (Ended, Pass<C, A>)
-    ensures { KeepsPass pass result.1 }
-{
-    let reading = Mutex::new(());
-    let context = Context {
-        rt,
-        alloc,
-        shared,
-        jobs: Jobs::one(jobs),
-        clock,
-        journal,
-        reading: &reading,
-    };
+    let (journal, reading) = (NoJournal, Mutex::new(()));
+    let context: Context<'_, Unrecorded<C, A, R, M>> = Context::unrecorded(
+        rt, alloc, shared, jobs, clock, &journal, &reading,
+    );
     serve_session(&context, socket, core, pass)
 }
 
-/// Does what `serve_noted_socket` does, with what all sessions have at hand.
-pub fn serve_session<
-    S: Read + Write + Drop,
-    K: MaskKeys + Drop,
-    C: Ledger,
-    A: Ledger,
-    R: Wait,
-    M: Moments,
-    J: Journal<N>,
-    N: ChronicleName,
->(
-    context: &Context<'_, C, A, R, M, J, N>,
+/// Does what `serve_socket` does, in any world: each step that changes something is noted in its
+/// journal, as it is made, and no message leaves before all is kept that was noted by then.
+pub fn serve_session<W: World, S: Read + Write + Drop, K: MaskKeys + Drop>(
+    context: &Context<'_, W>,
     socket: WebSocket<S, K>,
     core: SessionCore,
-    pass: Pass<C, A>,
-) -> (Ended, Pass<C, A>)
+    pass: Pass<W::Changes, W::Answers>,
+) -> (Ended, Pass<W::Changes, W::Answers>)
     ensures { KeepsPass pass result.1 }
 {
     let (mut socket, mut core, mut pass) = (socket, core, pass);
@@ -130,30 +86,18 @@ pub fn serve_session<
 }
 
 /// Ends a session that has its link: a point's link is lost, and noted so.
-pub fn end_session<C: Ledger, A: Ledger, R: Wait, M: Moments, J: Journal<N>, N: ChronicleName>(
-    context: &Context<'_, C, A, R, M, J, N>,
-    core: SessionCore,
-) {
+pub fn end_session<W: World>(context: &Context<'_, W>, core: SessionCore) {
     lose(context, core);
     // What couldn't be kept now is kept before the next message that leaves, or none leaves.
     let _ = context.journal.write_out();
 }
 
 /// Serves messages until the socket is closed or fails.
-fn serve_texts<
-    S: Read + Write + Drop,
-    K: MaskKeys + Drop,
-    C: Ledger,
-    A: Ledger,
-    R: Wait,
-    M: Moments,
-    J: Journal<N>,
-    N: ChronicleName,
->(
-    context: &Context<'_, C, A, R, M, J, N>,
+fn serve_texts<W: World, S: Read + Write + Drop, K: MaskKeys + Drop>(
+    context: &Context<'_, W>,
     socket: &mut WebSocket<S, K>,
     core: &SessionCore,
-    pass: &mut Pass<C, A>,
+    pass: &mut Pass<W::Changes, W::Answers>,
 ) -> Ended
     ensures { KeepsPass pass.old pass.new }
 {

@@ -5,12 +5,13 @@ ghost use Rattle.std.specs.Prelude.{◌≡◌};
 use crate::clients::{client_bytes, heard};
 use crate::named_texts::SITE;
 use crate::streams::Stream;
-use compile_pool::Jobs;
 use crossbeam_channel::{Sender, bounded};
 use journal_writer::NoJournal;
 use ocpp_scalars::{Instant, Moments};
 use profile::Unit;
-use session::{Context, Ended, Heard, SessionCore, WatchedSocket, serve_next, serve_session};
+use session::{
+    Context, Ended, Heard, SessionCore, Unrecorded, WatchedSocket, serve_next, serve_session,
+};
 use site_core::PointId;
 use site_rules::read_site;
 use std::alloc::Global;
@@ -20,7 +21,7 @@ use std::sync::ledger::{Blank, Ledger};
 use std::sync::{Mutex, Wait};
 use test_books::{Words, instant_at};
 use tungstenite::{NoMask, Role, WebSocket};
-use version_store::{Job, NoName, Pass, Shared};
+use version_store::{Job, Pass, Shared};
 
 /// A clock that tells one moment, or none.
 #[derive(Clone, Copy, Debug)]
@@ -32,7 +33,7 @@ impl Moments for Fixed {
     }
 }
 
-type Desk<'a, C, A, R> = Context<'a, C, A, R, Fixed, NoJournal, NoName>;
+type Desk<'a, C, A, R> = Context<'a, Unrecorded<C, A, R, Fixed>>;
 
 /// A story, and what is enough of it.
 #[derive(Clone, Copy)]
@@ -76,16 +77,10 @@ pub(crate) fn play<C: Ledger, A: Ledger, R: Abort + Wait + Clock>(
     } else {
         Some(moment)
     });
-    let reading = Mutex::new(());
-    let desk: Desk<'_, C, A, R> = Context {
-        rt,
-        alloc,
-        shared: &shared,
-        jobs: Jobs::one(&jobs),
-        clock: &clock,
-        journal: &NoJournal,
-        reading: &reading,
-    };
+    let (journal, reading) = (NoJournal, Mutex::new(()));
+    let desk: Desk<'_, C, A, R> = Context::unrecorded(
+        rt, alloc, &shared, &jobs, &clock, &journal, &reading,
+    );
     let mut found = String::with_capacity(alloc, 1_000).expect(rt, "error");
     for line in story.split("; ") {
         pass = play_line(&desk, line, pass, &mut found);

@@ -11,15 +11,13 @@ use crate::outcome::{Outcome, Performed};
 use crate::serving::ended::{Ended, ended_unsaved};
 use crate::serving::noting::note_made;
 use crate::serving::reading::read_reply;
+use crate::world::World;
 use chronicle::ChronicleName;
-use journal_writer::Journal;
 use meaning::Said;
-use ocpp_scalars::Moments;
 use site_core::{PointId, Reply, Step, equal_books_are_one};
 use site_journal::{Noted, UNREAD_REPLY, noted_steps_are_restored};
 use std::alloc::{AllocError, Global};
 use std::marker::Model;
-use std::sync::Wait;
 use std::sync::ledger::Ledger;
 use sweep_compiler::{AuditJob, Judged, verdicts_are_computed};
 use texts::SentText;
@@ -89,15 +87,8 @@ pub(crate) fn audit_to_judge(performed: &Performed, audit: Option<OpenAudit>) ->
 /// line for the reply, where its call is confirmed, and one for the verdict, where that is kept. The
 /// latter has a reply that isn't read where memory ran out for this one: a restore comes to the same
 /// verdict then. Where the verdict couldn't be noted the audit has none, and the session ends.
-pub(crate) fn judge_reply<
-    C: Ledger,
-    A: Ledger,
-    R: Wait,
-    M: Moments,
-    J: Journal<N>,
-    N: ChronicleName,
->(
-    context: &Context<'_, C, A, R, M, J, N>,
+pub(crate) fn judge_reply<W: World>(
+    context: &Context<'_, W>,
     sent: &SentText<'_>,
     audit: OpenAudit,
 ) -> Result<(), Ended>
@@ -122,7 +113,7 @@ pub(crate) fn judge_reply<
     let before = book.recorded();
     let is_kept = bring_verdict(&mut book, point, call, judged);
     if let (true, Some(entry)) = (is_kept, entry) {
-        note_made(context.journal, &book, before, entry, call);
+        note_made(context, &book, before, entry, call);
     }
     Ok(())
 }
@@ -155,8 +146,8 @@ fn bring_verdict<C: Ledger, A: Ledger, N: ChronicleName>(
 
 /// The verdict on what a message says, and whether memory ran out for it. What can't be read for
 /// lack of memory is judged as unread.
-fn judged_by<C: Ledger, A: Ledger, R: Wait, M: Moments, J: Journal<N>, N: ChronicleName>(
-    context: &Context<'_, C, A, R, M, J, N>,
+fn judged_by<W: World>(
+    context: &Context<'_, W>,
     sent: &SentText<'_>,
     job: AuditJob,
 ) -> (Judged, bool)

@@ -11,24 +11,21 @@ use crate::serving::heard::SentCall;
 use crate::serving::noting::{note_made, prepare_link};
 use crate::serving::sockets::{clear_to_leave, send_text};
 use crate::session_core::{Peer, SessionCore};
-use chronicle::ChronicleName;
-use journal_writer::Journal;
+use crate::world::World;
 use messages::{Call, push_call};
-use ocpp_scalars::{Instant, Moments, Refusal};
+use ocpp_scalars::{Instant, Refusal};
 use site_core::PointId;
 use site_journal::{Noted, noted_steps_are_restored};
 use std::alloc::{AllocError, Global};
 use std::io::{Read, Write};
-use std::sync::Wait;
-use std::sync::ledger::Ledger;
 use tungstenite::{MaskKeys, WebSocket};
 use version_store::{Pass, RecordedStates};
 
 /// Gives a point's session its link, before its first message, and notes it. Without one it ends.
-pub fn attach_session<C: Ledger, A: Ledger, R: Wait, M: Moments, J: Journal<N>, N: ChronicleName>(
-    context: &Context<'_, C, A, R, M, J, N>,
+pub fn attach_session<W: World>(
+    context: &Context<'_, W>,
     core: &mut SessionCore,
-    pass: &mut Pass<C, A>,
+    pass: &mut Pass<W::Changes, W::Answers>,
 ) -> Result<(), Ended>
     ensures { KeepsPass pass.old pass.new }
 {
@@ -49,7 +46,7 @@ pub fn attach_session<C: Ledger, A: Ledger, R: Wait, M: Moments, J: Journal<N>, 
     let before = book.recorded();
     let attached = book.attach(pass, point);
     if let (Ok(link), Some(entry)) = (&attached, entry) {
-        note_made(context.journal, &book, before, entry, *link);
+        note_made(context, &book, before, entry, *link);
     }
     drop(book);
     match attached {
@@ -64,17 +61,8 @@ pub fn attach_session<C: Ledger, A: Ledger, R: Wait, M: Moments, J: Journal<N>, 
 
 /// Sends the call that waits for a point over its link, if one does and none is in flight. Returns
 /// which.
-pub fn send_call<
-    S: Read + Write + Drop,
-    K: MaskKeys + Drop,
-    C: Ledger,
-    A: Ledger,
-    R: Wait,
-    M: Moments,
-    J: Journal<N>,
-    N: ChronicleName,
->(
-    context: &Context<'_, C, A, R, M, J, N>,
+pub fn send_call<W: World, S: Read + Write + Drop, K: MaskKeys + Drop>(
+    context: &Context<'_, W>,
     socket: &mut WebSocket<S, K>,
     core: &SessionCore,
     moment: Instant,
@@ -106,14 +94,14 @@ pub fn send_call<
 
 /// The first call that waits for a point, which is in flight from then on, and noted so, and what was
 /// recorded of the book by that. None where the point has a later link by now.
-fn next_call<C: Ledger, A: Ledger, R: Wait, M: Moments, J: Journal<N>, N: ChronicleName>(
-    context: &Context<'_, C, A, R, M, J, N>,
+fn next_call<W: World>(
+    context: &Context<'_, W>,
     point: &PointId,
     link: u64,
     moment: Instant,
-) -> Result<Option<(Call, RecordedStates<N>)>, Ended>
+) -> Result<Option<(Call, RecordedStates<W::Name>)>, Ended>
     ensures { IfOk result (λ next. IfSome next
-        (λ sent. IsSentCall N.is_recorded point.now link sent.0 sent.1)) }
+        (λ sent. IsSentCall W.Name.is_recorded point.now link sent.0 sent.1)) }
 {
     let noted = Noted::Sent { link, call: 0 };
     let entry = match context.journal.prepare(moment, point.as_str(), noted) {
@@ -129,7 +117,7 @@ fn next_call<C: Ledger, A: Ledger, R: Wait, M: Moments, J: Journal<N>, N: Chroni
     let before = book.recorded();
     let call = book.send(point, link);
     if let (Ok(Some(call)), Some(entry)) = (&call, entry) {
-        note_made(context.journal, &book, before, entry, call.number);
+        note_made(context, &book, before, entry, call.number);
     }
     let seen = book.recorded();
     drop(book);
@@ -153,10 +141,7 @@ fn text_of_call(alloc: Global, call: &Call) -> Result<String, AllocError>
 /// The link of a point's session is lost, and noted so: a call that was in flight over it waits
 /// again. What the book refuses is dropped: the point has a later link. Where it can't be noted the
 /// point keeps the link, until it has a later one.
-pub(crate) fn lose<C: Ledger, A: Ledger, R: Wait, M: Moments, J: Journal<N>, N: ChronicleName>(
-    context: &Context<'_, C, A, R, M, J, N>,
-    core: SessionCore,
-) {
+pub(crate) fn lose<W: World>(context: &Context<'_, W>, core: SessionCore) {
     let Peer::Point { link: Some(link) } = core.peer() else {
         return;
     };
@@ -170,6 +155,6 @@ pub(crate) fn lose<C: Ledger, A: Ledger, R: Wait, M: Moments, J: Journal<N>, N: 
     let before = book.recorded();
     let lost = book.lost(core.into_point_id(), link);
     if let (Ok(()), Some(entry)) = (lost, entry) {
-        note_made(context.journal, &book, before, entry, 0);
+        note_made(context, &book, before, entry, 0);
     }
 }

@@ -10,27 +10,18 @@ ghost use Rattle.session.specs.Noting.{AsksFor, IsEntryAt, IsEntryFor, IsNotable
 
 use crate::context::Context;
 use crate::outcome::{Outcome, Performed};
-use chronicle::ChronicleName;
-use journal_writer::{Journal, JournalFault};
+use crate::world::World;
+use journal_writer::JournalFault;
 use ocpp_scalars::{Instant, Moments};
 use site_core::{Reply, Step};
 use site_journal::{Entry, Noted, noted_by, noted_steps_are_restored, number_drawn};
-use std::sync::Wait;
-use std::sync::ledger::Ledger;
 use texts::SentText;
 use version_store::{Book, RecordedStates};
 
 /// Makes the entry of a message whose step may change something, or none. A request for a schedule
 /// or for a status changes nothing.
-pub(crate) fn prepare_message<
-    C: Ledger,
-    A: Ledger,
-    R: Wait,
-    M: Moments,
-    J: Journal<N>,
-    N: ChronicleName,
->(
-    context: &Context<'_, C, A, R, M, J, N>,
+pub(crate) fn prepare_message<W: World>(
+    context: &Context<'_, W>,
     sent: &SentText<'_>,
     step: &Option<Step>,
 ) -> Result<Option<Entry>, JournalFault>
@@ -47,15 +38,8 @@ pub(crate) fn prepare_message<
 }
 
 /// Makes the entry of what becomes of a point's link.
-pub(crate) fn prepare_link<
-    C: Ledger,
-    A: Ledger,
-    R: Wait,
-    M: Moments,
-    J: Journal<N>,
-    N: ChronicleName,
->(
-    context: &Context<'_, C, A, R, M, J, N>,
+pub(crate) fn prepare_link<W: World>(
+    context: &Context<'_, W>,
     point: &str,
     noted: Noted<'_>,
 ) -> Result<Option<Entry>, JournalFault>
@@ -70,16 +54,16 @@ pub(crate) fn prepare_link<
 
 /// Notes the step of a message, if it was made and changed something. Nobody else has had the book
 /// since before it.
-pub(crate) fn note_performed<C: Ledger, A: Ledger, J: Journal<N>, N: ChronicleName>(
-    journal: &J,
-    book: &Book<C, A, N>,
-    before: RecordedStates<N>,
+pub(crate) fn note_performed<W: World>(
+    context: &Context<'_, W>,
+    book: &Book<W::Changes, W::Answers, W::Name>,
+    before: RecordedStates<W::Name>,
     entry: Option<Entry>,
     confirms: bool,
     performed: &Performed,
 )
     requires { IfSome entry
-        (λ e. IsNotable e confirms performed.now (IsAt N.is_recorded before) book.now) }
+        (λ e. IsNotable e confirms performed.now (IsAt W.Name.is_recorded before) book.now) }
 {
     // A law: nothing runs.
     noted_steps_are_restored();
@@ -87,23 +71,25 @@ pub(crate) fn note_performed<C: Ledger, A: Ledger, J: Journal<N>, N: ChronicleNa
         return;
     };
     if confirms {
-        note_made(journal, book, before, entry, 0);
+        note_made(context, book, before, entry, 0);
     } else if let Some(number) = number_drawn(reply, book.version()) {
-        note_made(journal, book, before, entry, number);
+        note_made(context, book, before, entry, number);
     }
 }
 
 /// Notes a step that led from a state, before which this was recorded, to the present one.
-pub(crate) fn note_made<C: Ledger, A: Ledger, J: Journal<N>, N: ChronicleName>(
-    journal: &J,
-    book: &Book<C, A, N>,
-    before: RecordedStates<N>,
+pub(crate) fn note_made<W: World>(
+    context: &Context<'_, W>,
+    book: &Book<W::Changes, W::Answers, W::Name>,
+    before: RecordedStates<W::Name>,
     entry: Entry,
     number: u64,
 )
-    requires { IsOfMadeStep entry number (IsAt N.is_recorded before) (IsPresent book.now) }
+    requires { IsOfMadeStep entry number (IsAt W.Name.is_recorded before) (IsPresent book.now) }
 {
-    journal.note(entry, number, &before, &book.recorded());
+    context
+        .journal
+        .note(entry, number, &before, &book.recorded());
 }
 
 /// The reply of a step that was made.

@@ -7,14 +7,11 @@ ghost use Rattle.texts.specs.Said.{said_of};
 use crate::context::Context;
 use crate::session_core::SessionCore;
 use crate::todo::Todo;
-use chronicle::ChronicleName;
-use journal_writer::Journal;
+use crate::world::World;
 use meaning::Said;
-use ocpp_scalars::{Instant, Moments, Refusal};
+use ocpp_scalars::{Instant, Refusal};
 use ocppj_frame::ReadingMemory;
 use std::alloc::AllocError;
-use std::sync::Wait;
-use std::sync::ledger::Ledger;
 use texts::{SentText, said_of};
 
 /// While a message of more bytes is read, no other such one is: that takes up to 150 times as much.
@@ -26,15 +23,8 @@ pub(crate) fn is_long(frame: &str) -> bool {
 }
 
 /// What a message asks for. What reading it takes is given back at once.
-pub(crate) fn read_message<
-    C: Ledger,
-    A: Ledger,
-    R: Wait,
-    M: Moments,
-    J: Journal<N>,
-    N: ChronicleName,
->(
-    context: &Context<'_, C, A, R, M, J, N>,
+pub(crate) fn read_message<W: World>(
+    context: &Context<'_, W>,
     core: &SessionCore,
     moment: Instant,
     frame: &str,
@@ -52,14 +42,10 @@ pub(crate) fn read_message<
 }
 
 /// What a message says in reply to an audit, read in the same way.
-pub(crate) fn read_reply<
-    C: Ledger,
-    A: Ledger,
-    R: Wait,
-    M: Moments,
-    J: Journal<N>,
-    N: ChronicleName,
->(context: &Context<'_, C, A, R, M, J, N>, sent: &SentText<'_>) -> Result<Said, AllocError>
+pub(crate) fn read_reply<W: World>(
+    context: &Context<'_, W>,
+    sent: &SentText<'_>,
+) -> Result<Said, AllocError>
     ensures { IfOk result (λ said. said ≡ said_of sent.now) }
 {
     if !is_long(sent.frame()) {

@@ -23,38 +23,25 @@ use crate::serving::waiting::{Sending, Waiting};
 use crate::session_core::SessionCore;
 use crate::step::perform;
 use crate::todo::Todo;
+use crate::world::World;
 use chronicle::ChronicleName;
 use compile_pool::{answer_job, answer_unmade, wait_answer};
-use journal_writer::{Journal, JournalFault};
+use journal_writer::JournalFault;
 use meaning::Ask;
-use ocpp_scalars::{Instant, Moments, Refusal};
+use ocpp_scalars::{Instant, Refusal};
 use site_core::Step;
 use site_journal::Entry;
-use std::io::{Read, Write};
-use std::sync::Wait;
-use std::sync::ledger::Ledger;
 use texts::SentText;
-use tungstenite::MaskKeys;
 use version_store::{Job, Pass, RecordedStates};
 
 /// Waits for the next WebSocket message, and serves it if it is a text message. Where nothing comes
 /// for as long as the stream lets a read wait, says so. An error ends the session. The client of a
 /// socket that is looked at meanwhile may be gone before the answer is there: then none is sent.
-pub fn serve_next<
-    S: Read + Write + Drop,
-    K: MaskKeys + Drop,
-    W: SessionSocket<S, K>,
-    C: Ledger,
-    A: Ledger,
-    R: Wait,
-    M: Moments,
-    J: Journal<N>,
-    N: ChronicleName,
->(
-    context: &Context<'_, C, A, R, M, J, N>,
-    socket: &mut W,
+pub fn serve_next<W: World, S: SessionSocket>(
+    context: &Context<'_, W>,
+    socket: &mut S,
     core: &SessionCore,
-    pass: &mut Pass<C, A>,
+    pass: &mut Pass<W::Changes, W::Answers>,
 ) -> Result<Heard, Ended>
     ensures { KeepsPass pass.old pass.new }
 {
@@ -97,25 +84,17 @@ pub struct Served<N: ChronicleName> {
 /// point had when this very request was taken, and for what was asked. The answer to another request
 /// is never handed on: it ends the session. A step that couldn't be noted isn't made: the message is
 /// answered as one that memory ran out for.
-pub fn serve_sent_text<
-    C: Ledger,
-    A: Ledger,
-    R: Wait,
-    M: Moments,
-    J: Journal<N>,
-    W: Waiting,
-    N: ChronicleName,
->(
-    context: &Context<'_, C, A, R, M, J, N>,
-    waiting: &mut W,
+pub fn serve_sent_text<W: World, Q: Waiting>(
+    context: &Context<'_, W>,
+    waiting: &mut Q,
     core: &SessionCore,
-    pass: &mut Pass<C, A>,
+    pass: &mut Pass<W::Changes, W::Answers>,
     moment: Instant,
     frame: &str,
-) -> Result<Served<N>, Ended>
+) -> Result<Served<W::Name>, Ended>
     ensures pass { KeepsPass pass.old pass.new }
     ensures served { IfOk result (λ served. IsServed core.now pass.old
-        (seen_at N.is_recorded served.seen)
+        (seen_at W.Name.is_recorded served.seen)
         (sent_by core.now moment frame.now) (option_map string_bytes served.answer)) }
 {
     let Ok(mut todo) = read_message(context, core, moment, frame) else {
@@ -165,26 +144,18 @@ fn served_unmade<N: ChronicleName>(
 }
 
 /// The outcome of the step of a message, if it has one, and what was recorded of the book by it.
-fn outcome_of<
-    C: Ledger,
-    A: Ledger,
-    R: Wait,
-    M: Moments,
-    J: Journal<N>,
-    W: Waiting,
-    N: ChronicleName,
->(
-    context: &Context<'_, C, A, R, M, J, N>,
-    waiting: &mut W,
-    pass: &mut Pass<C, A>,
+fn outcome_of<W: World, Q: Waiting>(
+    context: &Context<'_, W>,
+    waiting: &mut Q,
+    pass: &mut Pass<W::Changes, W::Answers>,
     sent: &SentText<'_>,
     step: Option<Step>,
     entry: Option<Entry>,
-) -> Result<(Option<Outcome>, Option<RecordedStates<N>>), Ended>
+) -> Result<(Option<Outcome>, Option<RecordedStates<W::Name>>), Ended>
     requires of_text { IfSome step IsOfText }
     requires entry { IsEntryFor step entry }
     ensures pass { KeepsPass pass.old pass.new }
-    ensures outcome { IfOk result (λ made. HasOutcome pass.old (seen_at N.is_recorded made.1)
+    ensures outcome { IfOk result (λ made. HasOutcome pass.old (seen_at W.Name.is_recorded made.1)
         sent.now step made.0) }
 {
     match step {
@@ -198,27 +169,19 @@ fn outcome_of<
 
 /// Makes the step of a message. A request for a schedule is compiled, and its answer collected. A
 /// reply to the point's audit is judged, once its call is confirmed.
-fn outcome_of_step<
-    C: Ledger,
-    A: Ledger,
-    R: Wait,
-    M: Moments,
-    J: Journal<N>,
-    W: Waiting,
-    N: ChronicleName,
->(
-    context: &Context<'_, C, A, R, M, J, N>,
-    waiting: &mut W,
-    pass: &mut Pass<C, A>,
+fn outcome_of_step<W: World, Q: Waiting>(
+    context: &Context<'_, W>,
+    waiting: &mut Q,
+    pass: &mut Pass<W::Changes, W::Answers>,
     sent: &SentText<'_>,
     step: Step,
     entry: Option<Entry>,
-) -> Result<(Outcome, RecordedStates<N>), Ended>
+) -> Result<(Outcome, RecordedStates<W::Name>), Ended>
     requires of_text { IsOfText step }
     requires entry { IfSome entry (IsEntryToNote step) }
     ensures pass { KeepsPass pass.old pass.new }
     ensures outcome { IfOk result (λ made.
-        IsOutcomeOf pass.old (IsAt N.is_recorded made.1) sent.now step made.0) }
+        IsOutcomeOf pass.old (IsAt W.Name.is_recorded made.1) sent.now step made.0) }
 {
     let (performed, audit, seen) = perform_noted(context, pass, step, entry)?;
     if let Some(audit) = audit_to_judge(&performed, audit) {
@@ -237,17 +200,17 @@ fn outcome_of_step<
 /// that, if it changed something. In a reply to the point's audit, what that asked is read before:
 /// nobody else has the book in between, so it is the audit whose call is confirmed. If there is no
 /// memory for it, the call isn't confirmed, nothing is noted, and the session ends.
-fn perform_noted<C: Ledger, A: Ledger, R: Wait, M: Moments, J: Journal<N>, N: ChronicleName>(
-    context: &Context<'_, C, A, R, M, J, N>,
-    pass: &mut Pass<C, A>,
+fn perform_noted<W: World>(
+    context: &Context<'_, W>,
+    pass: &mut Pass<W::Changes, W::Answers>,
     step: Step,
     entry: Option<Entry>,
-) -> Result<(Performed, Option<OpenAudit>, RecordedStates<N>), Ended>
+) -> Result<(Performed, Option<OpenAudit>, RecordedStates<W::Name>), Ended>
     requires of_text { IsOfText step }
     requires entry { IfSome entry (IsEntryToNote step) }
     ensures pass { KeepsPass pass.old pass.new }
     ensures performed { IfOk result (λ performed. IsPerformed pass.old
-        (IsAt N.is_recorded performed.2) step performed.0 performed.1) }
+        (IsAt W.Name.is_recorded performed.2) step performed.0 performed.1) }
 {
     let confirms = is_confirm(&step);
     let mut book = context.shared.lock(context.rt);
@@ -256,7 +219,7 @@ fn perform_noted<C: Ledger, A: Ledger, R: Wait, M: Moments, J: Journal<N>, N: Ch
     };
     let before = book.recorded();
     let performed = perform(&mut book, pass, step);
-    note_performed(context.journal, &book, before, entry, confirms, &performed);
+    note_performed(context, &book, before, entry, confirms, &performed);
     let seen = book.recorded();
     drop(book);
     Ok((performed, audit, seen))
@@ -271,18 +234,10 @@ fn is_confirm(step: &Step) -> bool
 /// The answer to a request that is kept, which a worker compiles, or the session itself. No lock
 /// tells that what is handed out in the end is for the book and the `Ask` of this request, so they
 /// are compared.
-fn answer_of<
-    C: Ledger,
-    A: Ledger,
-    R: Wait,
-    M: Moments,
-    J: Journal<N>,
-    W: Waiting,
-    N: ChronicleName,
->(
-    context: &Context<'_, C, A, R, M, J, N>,
-    waiting: &mut W,
-    pass: &mut Pass<C, A>,
+fn answer_of<W: World, Q: Waiting>(
+    context: &Context<'_, W>,
+    waiting: &mut Q,
+    pass: &mut Pass<W::Changes, W::Answers>,
     job: Job,
 ) -> Result<Outcome, Ended>
     ensures pass { KeepsPass pass.old pass.new }
@@ -306,15 +261,7 @@ fn answer_of<
 
 /// Has a job compiled by a worker, or compiles it. Where too many wait, or the client is gone before
 /// its request has an answer, the request is answered unmade: it isn't begun any more.
-fn compile_or_leave<
-    C: Ledger,
-    A: Ledger,
-    R: Wait,
-    M: Moments,
-    J: Journal<N>,
-    W: Waiting,
-    N: ChronicleName,
->(context: &Context<'_, C, A, R, M, J, N>, waiting: &mut W, job: Job) {
+fn compile_or_leave<W: World, Q: Waiting>(context: &Context<'_, W>, waiting: &mut Q, job: Job) {
     let (rt, shared) = (context.rt, context.shared);
     let (number, book, ask) = (job.number(), job.share_book(), *job.ask());
     match waiting.send_job(rt, context.jobs, job) {

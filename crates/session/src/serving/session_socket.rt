@@ -12,10 +12,14 @@ use std::sync::ledger::Ledger;
 use tungstenite::{MaskKeys, WebSocket};
 use version_store::{Job, Shared};
 
-/// The socket of a session, over a stream of this type and with these masking keys.
-pub trait SessionSocket<S, K>: Waiting {
+/// The socket of a session.
+pub trait SessionSocket: Waiting {
+    type Stream: Read + Write + Drop;
+    /// Masks the frames that a client sends.
+    type Keys: MaskKeys + Drop;
+
     /// What messages leave through.
-    fn websocket(&mut self) -> &mut WebSocket<S, K>;
+    fn websocket(&mut self) -> &mut WebSocket<Self::Stream, Self::Keys>;
 
     /// What comes next.
     fn next(&mut self) -> Result<Incoming, Ended>;
@@ -24,7 +28,11 @@ pub trait SessionSocket<S, K>: Waiting {
     fn still_there(&self) -> Result<(), Ended>;
 }
 
-impl<S: Read + Write + Drop, K: MaskKeys + Drop> SessionSocket<S, K> for WebSocket<S, K> {
+impl<S: Read + Write + Drop, K: MaskKeys + Drop> SessionSocket for WebSocket<S, K> {
+    type Stream = S;
+
+    type Keys = K;
+
     fn websocket(&mut self) -> &mut WebSocket<S, K> {
         self
     }

@@ -146,8 +146,12 @@ impl<'s, S: Read + Write + Watched + Drop, K: MaskKeys + Drop, R> WatchedSocket<
     }
 }
 
-impl<S: Read + Write + Watched + Drop, K: MaskKeys + Drop, R: Wait + Clock> SessionSocket<S, K>
+impl<S: Read + Write + Watched + Drop, K: MaskKeys + Drop, R: Wait + Clock> SessionSocket
     for WatchedSocket<'_, S, K, R> {
+    type Stream = S;
+
+    type Keys = K;
+
     fn websocket(&mut self) -> &mut WebSocket<S, K> {
         self.socket
     }
