@@ -195,6 +195,8 @@ def replies_that_accept_nothing(program):
                 expect(f"the rejection by {reply}", (now["rejections"], now["rejected"]["reason"]), (count, reason))
                 expect(f"what it may have forgotten behind {reply}", now["mayHaveForgotten"], True)
             expect("in the figures", metrics(running)['central_calls_rejected_total{point="P1"}'], len(replies))
+            # A reply has no answer, which would wait for the disk. This message has.
+            point.texts_of(heartbeat("last"))
         # They stand in the journal: a restart tells the same of them.
         running.kill()
         with Running(program, SITE, data.path, has_status=True) as again:

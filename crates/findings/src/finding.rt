@@ -40,8 +40,6 @@ pub enum Location {
 #[derive(Clone, Copy, Debug, PartialEq, Eq)]
 pub enum FaultName {
     Site(SiteFault),
-    /// The script has more than 16,777,216 bytes.
-    ScriptTooLong,
     Line(LineFault),
     /// The CALL is answered by a CALLERROR.
     Call(CallFault),

@@ -50,7 +50,7 @@ pub use fuse_check::{check_fuse, check_raise, check_unlimited, fuse_limit};
 pub use never::{NeverRated, never_rated};
 pub use printed_check::check_printed;
 pub use refused_answer::answer_sentence;
-pub use script_check::{ScriptCheck, check_script};
+pub use script_check::ScriptCheck;
 pub use sent_check::{SentCheck, check_sent, json_break};
 pub use sentences::{call_sentence, line_sentence, never_sentence, sentence, site_sentence};
 pub use site_check::check_site;

@@ -4,7 +4,7 @@ use crate::audit_check::JudgedAudit;
 use crate::finding::FaultName;
 use messages::{CallFault, Response, Side};
 use ocpp_scalars::{Instant, Refusal};
-use replay::{PlayedLine, PrintedLine};
+use replay::{PlayedLine, PointChange, PrintedLine};
 use site_rules::Site;
 use texts::SentText;
 
@@ -42,6 +42,8 @@ pub(crate) struct LineText<'a> {
     pub line: &'a str,
     /// What the line prints.
     pub printed: &'a [PrintedLine],
+    /// Whether the message confirmed the call in flight.
+    pub confirms_call: bool,
     /// The point's audit, where the message confirmed a call.
     pub audit: Option<JudgedAudit>,
     /// Whether the message confirmed a call that asks for a start.
@@ -79,6 +81,7 @@ impl<'a> LineText<'a> {
             frame: sent.frame(),
             line: utf8_of(played.line).0,
             printed: played.outcome.printed.as_slice(),
+            confirms_call: played.outcome.change == PointChange::Confirmed,
             audit: None,
             replies_to_start: false,
         }

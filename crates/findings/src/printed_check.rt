@@ -22,7 +22,7 @@ pub(crate) fn depends_on_state(refusal: Refusal) -> bool {
     )
 }
 
-/// What is wrong by what a replay prints at the line of this number, besides what `check_script`
+/// What is wrong by what a replay prints at the line of this number, besides what `ScriptCheck`
 /// finds in the line itself. These are the refusals that depend on the point's state, and clears
 /// that match nothing.
 pub fn check_printed(

@@ -1,7 +1,7 @@
 //! What is wrong with a script, as far as each of its messages says it.
 
 use crate::audit_check::judged_audit;
-use crate::finding::{FaultName, Finding, Location};
+use crate::finding::{FaultName, Finding};
 use crate::line_hints::mistake_message;
 use crate::line_text::LineText;
 use crate::remote_start_check::check_ended_start;
@@ -10,31 +10,13 @@ use crate::sentences::line_sentence;
 use crate::starts::Starts;
 use crate::text_check::check_text;
 use ocppj_frame::ReadingMemory;
-use replay::{Held, LineFault, MAX_SCRIPT_BYTES, PlayedLine, Playing, PrintedLine, ScriptLine};
-use site_rules::Site;
+use replay::{Held, LineFault, PlayedLine, Playing, PrintedLine, ScriptLine};
 use std::alloc::{AllocError, Global};
 
-/// What is wrong with a script on a site, line by line: faults of lines, messages that are refused,
+/// What is found in a script, line by line as it is played: faults of lines, messages that are refused,
 /// and warnings. A message gets a warning if it does something else than it says. A refusal that
 /// depends on what the point has by then (`NoTransaction`, `OtherTransaction`, `TooManyProfiles`,
 /// `OutboxFull`, `AuditOpen`, `ResultTooLong`) isn't found.
-pub fn check_script(alloc: Global, site: Site, script: &[u8]) -> Result<Vec<Finding>, AllocError> {
-    if script.len() > MAX_SCRIPT_BYTES {
-        return too_long(alloc, script.len());
-    }
-    let mut check = ScriptCheck::new(alloc);
-    let mut playing = Playing::new(alloc, script, site)?;
-    // Each line has a byte at least.
-    for _ in 0..script.len() {
-        match playing.skim_next()? {
-            Some(played) => check.take_in(&playing, &played)?,
-            None => break,
-        }
-    }
-    check.finish(playing.held())
-}
-
-/// What is found in a script, line by line as it is played.
 #[derive(Drop)]
 pub struct ScriptCheck {
     report: Report,
@@ -142,15 +124,6 @@ impl ScriptCheck {
         }
         Ok(())
     }
-}
-
-fn too_long(alloc: Global, count: usize) -> Result<Vec<Finding>, AllocError> {
-    let message = format!(in alloc;
-        "{count} bytes; at most {MAX_SCRIPT_BYTES} are wanted, and nothing of a longer script is played"
-    )?;
-    let mut findings = Vec::new(alloc);
-    findings.push(Finding::fault(Location::File, FaultName::ScriptTooLong, message))?;
-    Ok(findings)
 }
 
 /// That no line holds a request of this number.

@@ -116,7 +116,8 @@ fn status_of_start<'memory>(payload: Node<'_, 'memory>) -> Option<&'memory str> 
     }
 }
 
-/// A point that doesn't accept a call or isn't in step, and an operator that replies.
+/// A point that doesn't accept the call in flight or isn't in step, and an operator that replies. A
+/// reply that confirms no call is ignored.
 fn check_reply(
     report: &mut Report,
     text: &LineText<'_>,
@@ -134,7 +135,7 @@ fn check_reply(
             return check_verdict(report, audit);
         }
     }
-    let Some(status) = status else {
+    let (true, Some(status)) = (text.confirms_call, status) else {
         return Ok(());
     };
     if text.replies_to_start {
@@ -143,7 +144,7 @@ fn check_reply(
     let id = excerpt(alloc, id)?;
     let status = excerpt(alloc, status)?;
     let message = format!(in alloc;
-        "the point answers call \"{id}\" with {status}: the central system keeps what the call is of, so its schedules say more than the point does"
+        "the point answers call \"{id}\" with {status}: the central system keeps what the call is of, so its schedules aren't what the point has"
     )?;
     report.warn(message)
 }
