@@ -2,7 +2,7 @@
 
 use std::io;
 
-#[derive(Clone, Copy, Debug)]
+#[derive(Clone, Copy)]
 pub enum LogFault {
     /// There is no room. It may be tried again, and goes on where it stopped.
     Full(io::Error),

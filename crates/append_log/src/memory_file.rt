@@ -28,7 +28,7 @@ const CUT_FAILED: u64 = 7;
 const IN_MEMORY: u64 = 8;
 
 /// What a call comes to.
-#[derive(Clone, Copy, Debug)]
+#[derive(Clone, Copy)]
 pub enum Answer {
     /// All is made.
     Made,

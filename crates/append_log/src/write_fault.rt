@@ -2,7 +2,7 @@
 
 use std::io;
 
-#[derive(Clone, Copy, Debug)]
+#[derive(Clone, Copy)]
 pub enum WriteFault {
     /// There is no room. The write took nothing.
     Full(io::Error),

@@ -6,7 +6,7 @@ use std::alloc::{AllocError, Global};
 use std::str::FromStr;
 
 /// What a line tells a simulated point to do.
-#[derive(Debug, Drop)]
+#[derive(Drop)]
 pub enum PointLine {
     /// To make a call of its own.
     Step(SimStep),

@@ -8,7 +8,7 @@ use std::rt::Files;
 use std::{fs, io};
 
 /// What is known of standard output.
-#[derive(Clone, Copy, Debug)]
+#[derive(Clone, Copy)]
 pub struct Screen {
     /// Whether it is a terminal.
     pub is_terminal: bool,

@@ -10,7 +10,7 @@ pub trait Gate {
 }
 
 /// Holds nobody up.
-#[derive(Clone, Copy, Debug, Default)]
+#[derive(Clone, Copy, Default)]
 pub struct Open;
 
 impl Gate for Open {

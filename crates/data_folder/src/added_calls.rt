@@ -5,7 +5,7 @@ use site_core::Outbox;
 use std::alloc::{AllocError, Global};
 
 /// A call that was added to an outbox.
-#[derive(Clone, Copy, Debug)]
+#[derive(Clone, Copy)]
 struct AddedCall {
     number: u64,
     moment: Instant,

@@ -181,7 +181,7 @@ fn say_followed<C: Ledger, A: Ledger, R: Eprint + AllocGlobal>(
 }
 
 /// How far a journal is followed, and which changes are counted.
-#[derive(Clone, Copy, Debug)]
+#[derive(Clone, Copy)]
 struct Wanted<'a> {
     end: ScriptEnd,
     point: &'a str,

@@ -38,7 +38,7 @@ pub struct JournalLines {
 }
 
 /// Part of a journal's lines: each of them is whole, and notes a step.
-#[derive(Clone, Copy, Debug)]
+#[derive(Clone, Copy)]
 pub struct Lines<'a> {
     /// The number of the first one, counted from 1 with all lines of the journal.
     pub first: u64,

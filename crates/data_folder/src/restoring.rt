@@ -27,7 +27,7 @@ use version_store::{Book, Pass, Shared};
 const FIRST_OF_PART: u64 = 2;
 
 /// What a site has when it is run.
-#[derive(Debug, Drop)]
+#[derive(Drop)]
 pub struct Resumed {
     pub points: u64,
     pub profiles: u64,

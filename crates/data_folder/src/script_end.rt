@@ -3,7 +3,7 @@
 use ocpp_scalars::{Instant, read_instant};
 
 /// How far a script or a journal is played.
-#[derive(Clone, Copy, Debug, PartialEq, Eq)]
+#[derive(Clone, Copy, PartialEq, Eq)]
 pub enum ScriptEnd {
     /// All of it.
     Whole,

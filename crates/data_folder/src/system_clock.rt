@@ -6,7 +6,7 @@ use std::time::{SystemTime, UNIX_EPOCH};
 
 /// The system's clock, in whole seconds. Before 1970 it tells the first instant, and past the last
 /// one that.
-#[derive(Clone, Copy, Debug)]
+#[derive(Clone, Copy)]
 pub struct SystemClock<R> {
     pub rt: R,
 }

@@ -23,14 +23,14 @@ pub struct ExplainedAsk<'a> {
 }
 
 /// A profile that never sets the limit, with its reason.
-#[derive(Clone, Copy, Debug, PartialEq, Eq)]
+#[derive(Clone, Copy, PartialEq, Eq)]
 pub struct NotCounted {
     pub profile: PrevailingProfile,
     pub reason: NoPart,
 }
 
 /// Why a profile never sets the limit.
-#[derive(Clone, Copy, Debug, PartialEq, Eq)]
+#[derive(Clone, Copy, PartialEq, Eq)]
 pub enum NoPart {
     /// It doesn't prevail, for one reason at every second.
     NotPrevailing(WhyNot),

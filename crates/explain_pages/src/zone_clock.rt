@@ -5,7 +5,7 @@ use ocpp_scalars::push_integer;
 use std::alloc::AllocError;
 
 /// How far a clock is ahead of UTC from a moment on.
-#[derive(Clone, Copy, Debug, PartialEq, Eq)]
+#[derive(Clone, Copy, PartialEq, Eq)]
 pub struct ClockShift {
     /// The moment, in seconds since 1970.
     pub from: u64,
@@ -14,7 +14,7 @@ pub struct ClockShift {
 }
 
 /// The clock of a time zone in the time that is explained.
-#[derive(Clone, Copy, Debug)]
+#[derive(Clone, Copy)]
 pub struct ZoneClock<'a> {
     /// The name of the zone, such as `Europe/Berlin`.
     pub name: &'a str,

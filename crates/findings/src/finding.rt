@@ -11,7 +11,7 @@ use std::alloc::AllocError;
 use std::fmt;
 
 /// How much a finding matters.
-#[derive(Clone, Copy, Debug, PartialEq, Eq)]
+#[derive(Clone, Copy, PartialEq, Eq)]
 pub enum Severity {
     /// It is refused: the file isn't accepted, the line isn't played, or its message is refused.
     Fault,
@@ -22,7 +22,7 @@ pub enum Severity {
 }
 
 /// Where a finding stands.
-#[derive(Debug, PartialEq, Eq, Drop)]
+#[derive(PartialEq, Eq, Drop)]
 pub enum Location {
     /// The whole file.
     File,
@@ -37,7 +37,7 @@ pub enum Location {
 }
 
 /// What names a fault elsewhere: in the output of a replay, in an answer, or as the program stops.
-#[derive(Clone, Copy, Debug, PartialEq, Eq)]
+#[derive(Clone, Copy, PartialEq, Eq)]
 pub enum FaultName {
     Site(SiteFault),
     Line(LineFault),
@@ -48,7 +48,7 @@ pub enum FaultName {
 }
 
 /// One thing that is wrong, or worth a look.
-#[derive(Debug, Drop)]
+#[derive(Drop)]
 pub struct Finding {
     pub severity: Severity,
     pub place: Location,

@@ -4,7 +4,7 @@ use std::alloc::{AllocError, Global};
 use std::fmt;
 
 /// What is wanted where a JSON text breaks.
-#[derive(Clone, Copy, Debug, PartialEq, Eq)]
+#[derive(Clone, Copy, PartialEq, Eq)]
 pub(crate) enum Wanted {
     Value,
     /// A value, behind a comma.
@@ -35,7 +35,7 @@ pub(crate) enum Wanted {
 }
 
 /// The first character that can't stand where it stands.
-#[derive(Clone, Copy, Debug, PartialEq, Eq)]
+#[derive(Clone, Copy, PartialEq, Eq)]
 pub(crate) struct JsonFault {
     /// Its offset, in bytes.
     pub offset: usize,

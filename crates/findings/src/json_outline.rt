@@ -4,14 +4,14 @@ use json::{Reader, Scratch, Token};
 use std::alloc::{AllocError, Global};
 
 /// A span of a text, in bytes: its first, and the one behind its last.
-#[derive(Clone, Copy, Debug, PartialEq, Eq)]
+#[derive(Clone, Copy, PartialEq, Eq)]
 pub(crate) struct Span {
     pub start: usize,
     pub end: usize,
 }
 
 /// What a part is of the object or list that it stands in.
-#[derive(Clone, Copy, Debug, PartialEq, Eq)]
+#[derive(Clone, Copy, PartialEq, Eq)]
 pub(crate) enum Label {
     /// The whole text.
     Root,
@@ -23,7 +23,7 @@ pub(crate) enum Label {
 }
 
 /// The whole text, a member of an object, or an object or a list in a list.
-#[derive(Clone, Copy, Debug)]
+#[derive(Clone, Copy)]
 pub(crate) struct Part {
     /// The index among the parts of the object or list that it stands in.
     pub parent: Option<usize>,

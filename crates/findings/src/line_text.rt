@@ -9,7 +9,7 @@ use site_rules::Site;
 use texts::SentText;
 
 /// The second word of a line that brings a message.
-#[derive(Clone, Copy, Debug, PartialEq, Eq)]
+#[derive(Clone, Copy, PartialEq, Eq)]
 pub(crate) enum Sender {
     /// `operator`
     Operator,

@@ -6,7 +6,7 @@ ghost use Rattle.findings.specs.NeverRated.{IsNeverRated, HasNoPeriodBefore, why
 use profile::{Kind, Period, Profile};
 
 /// Why a profile has a rate at no second, whatever it counts its seconds from.
-#[derive(Clone, Copy, Debug, PartialEq, Eq)]
+#[derive(Clone, Copy, PartialEq, Eq)]
 pub enum NeverRated {
     /// validTo isn't after validFrom.
     EmptyValidity,

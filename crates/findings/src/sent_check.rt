@@ -23,7 +23,7 @@ use profile::Criteria;
 use std::alloc::{AllocError, Global};
 
 /// What is said of an operator's message before it is sent.
-#[derive(Debug, Drop)]
+#[derive(Drop)]
 pub struct SentCheck {
     /// Why it is no CALL, where it isn't one.
     pub no_call: Option<String>,

@@ -1,7 +1,7 @@
 //! What a command line asks for.
 
 /// What a command line asks for.
-#[derive(Clone, Copy, Debug)]
+#[derive(Clone, Copy)]
 pub enum Job<'a> {
     /// To play a script on the site of a file.
     Replay(Replaying<'a>),
@@ -28,7 +28,7 @@ pub enum Job<'a> {
 }
 
 /// How a site is to be served.
-#[derive(Clone, Copy, Debug)]
+#[derive(Clone, Copy)]
 pub struct Serving<'a> {
     /// The site's file.
     pub site: &'a str,
@@ -41,7 +41,7 @@ pub struct Serving<'a> {
 }
 
 /// What is read as a script.
-#[derive(Clone, Copy, Debug)]
+#[derive(Clone, Copy)]
 pub enum Source<'a> {
     /// Standard input.
     Input,
@@ -52,7 +52,7 @@ pub enum Source<'a> {
 }
 
 /// Which script is to be played, and on which site.
-#[derive(Clone, Copy, Debug)]
+#[derive(Clone, Copy)]
 pub struct Replaying<'a> {
     /// The site's file.
     pub site: &'a str,
@@ -61,7 +61,7 @@ pub struct Replaying<'a> {
 }
 
 /// How a site is to be run.
-#[derive(Clone, Copy, Debug)]
+#[derive(Clone, Copy)]
 pub struct Running<'a> {
     /// The site's file.
     pub site: &'a str,
@@ -84,7 +84,7 @@ pub struct Running<'a> {
 }
 
 /// Whose key is to be made.
-#[derive(Clone, Copy, Debug)]
+#[derive(Clone, Copy)]
 pub struct KeyMaking<'a> {
     /// The point's identity, or the operator's name.
     pub name: &'a str,
@@ -92,7 +92,7 @@ pub struct KeyMaking<'a> {
 }
 
 /// What an operator's client sends: what is given here, or else the lines of standard input.
-#[derive(Clone, Copy, Debug)]
+#[derive(Clone, Copy)]
 pub struct Calling<'a> {
     /// Where it connects.
     pub url: &'a str,
@@ -125,14 +125,14 @@ pub struct Calling<'a> {
 }
 
 /// What is asked for: the texts of a connector and of a duration in seconds.
-#[derive(Clone, Copy, Debug)]
+#[derive(Clone, Copy)]
 pub struct Asking<'a> {
     pub connector: &'a str,
     pub seconds: &'a str,
 }
 
 /// What is to be started: a transaction at a connector, by an idTag.
-#[derive(Clone, Copy, Debug)]
+#[derive(Clone, Copy)]
 pub struct Starting<'a> {
     /// The text of the connector.
     pub connector: &'a str,
@@ -142,7 +142,7 @@ pub struct Starting<'a> {
 }
 
 /// A simulated charge point.
-#[derive(Clone, Copy, Debug)]
+#[derive(Clone, Copy)]
 pub struct Pointing<'a> {
     /// The central system's URL, without the point's identity.
     pub url: &'a str,
@@ -155,7 +155,7 @@ pub struct Pointing<'a> {
 }
 
 /// Which schedule is to be explained, and how.
-#[derive(Clone, Copy, Debug)]
+#[derive(Clone, Copy)]
 pub struct Explaining<'a> {
     /// The file of the site.
     pub site: &'a str,
@@ -180,7 +180,7 @@ pub struct Explaining<'a> {
 }
 
 /// Which site is to be checked, with a file of keys and a script.
-#[derive(Clone, Copy, Debug)]
+#[derive(Clone, Copy)]
 pub struct Checking<'a> {
     /// The file of the site.
     pub site: &'a str,
@@ -193,7 +193,7 @@ pub struct Checking<'a> {
 }
 
 /// What is to be shown of a site.
-#[derive(Clone, Copy, Debug)]
+#[derive(Clone, Copy)]
 pub struct Showing<'a> {
     /// The file of the site.
     pub site: &'a str,

@@ -6,7 +6,7 @@ ghost use Rattle.jobs.specs.Start.{named_instant, start_of};
 use ocpp_scalars::{Instant, InstantFault, read_instant};
 
 /// From when on a schedule is explained.
-#[derive(Clone, Copy, Debug, PartialEq, Eq)]
+#[derive(Clone, Copy, PartialEq, Eq)]
 pub enum Start {
     /// From the present moment on.
     Now,

@@ -47,7 +47,7 @@ pub trait Journal<N: ChronicleName> {
 }
 
 /// Why a step can't be noted, or what is noted can't be kept.
-#[derive(Clone, Copy, Debug, PartialEq, Eq)]
+#[derive(Clone, Copy, PartialEq, Eq)]
 pub enum JournalFault {
     /// Nothing can be written at present.
     Unwritable,
@@ -62,7 +62,7 @@ impl From<AllocError> for JournalFault {
 }
 
 /// Notes nothing.
-#[derive(Clone, Copy, Debug, Default)]
+#[derive(Clone, Copy, Default)]
 pub struct NoJournal;
 
 impl<N: ChronicleName> Journal<N> for NoJournal {

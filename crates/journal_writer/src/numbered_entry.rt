@@ -3,7 +3,7 @@
 use site_journal::Entry;
 
 /// An entry, with the number that its step drew.
-#[derive(Debug, Drop)]
+#[derive(Drop)]
 pub struct NumberedEntry {
     pub entry: Entry,
     pub number: u64,

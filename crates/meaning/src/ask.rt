@@ -11,7 +11,7 @@ pub const MAX_DURATION: u32 = 2_678_400;
 
 /// What GetCompositeSchedule asks (chapter 5.7): the limits of a connector, 0 being the whole
 /// point, from a start on for a number of seconds, none of them past the last instant.
-#[derive(Clone, Copy, Debug, PartialEq, Eq)]
+#[derive(Clone, Copy, PartialEq, Eq)]
 pub struct Ask {
     pub connector: u32,
     pub start: Instant,

@@ -6,7 +6,7 @@ use crate::shares::Shares;
 use profile::Purpose;
 
 /// What identifies a profile that prevails (chapter 7, ChargingProfile).
-#[derive(Clone, Copy, Debug, PartialEq, Eq)]
+#[derive(Clone, Copy, PartialEq, Eq)]
 pub struct PrevailingProfile {
     /// chargingProfileId.
     pub id: i32,
@@ -18,7 +18,7 @@ pub struct PrevailingProfile {
 }
 
 /// What sets a limit (chapter 3.13).
-#[derive(Clone, Copy, Debug, PartialEq, Eq)]
+#[derive(Clone, Copy, PartialEq, Eq)]
 pub enum Cause {
     /// A profile that prevails.
     Profile(PrevailingProfile),
@@ -31,7 +31,7 @@ pub enum Cause {
 }
 
 /// What an active connector has in the sum of connector 0.
-#[derive(Clone, Copy, Debug, PartialEq, Eq)]
+#[derive(Clone, Copy, PartialEq, Eq)]
 pub struct Share {
     /// From 1 on.
     pub connector: u32,
@@ -42,7 +42,7 @@ pub struct Share {
 }
 
 /// A limit, with what sets it.
-#[derive(Debug, Drop)]
+#[derive(Drop)]
 pub struct Reason {
     /// In tenths of A or W.
     pub limit: u32,
@@ -62,7 +62,7 @@ impl Reason {
 
 /// Why a profile that a point has doesn't prevail for a connector at an instant. Of several reasons the first in
 /// this order counts.
-#[derive(Clone, Copy, Debug, PartialEq, Eq)]
+#[derive(Clone, Copy, PartialEq, Eq)]
 pub enum WhyNot {
     /// It stands at another connector.
     OtherConnector,

@@ -11,7 +11,7 @@ use std::marker::Model;
 pub const MAX_COMPOSITE_PERIODS: usize = 4_096;
 
 /// One step of a composite schedule (chapter 7, ChargingSchedulePeriod).
-#[derive(Clone, Copy, Debug, PartialEq, Eq, Hash)]
+#[derive(Clone, Copy, PartialEq, Eq)]
 pub struct CompositePeriod {
     /// Seconds from the start of the schedule.
     pub start: u32,
@@ -21,7 +21,7 @@ pub struct CompositePeriod {
 
 /// A composite schedule (chapter 5.7): the limits of a connector over a duration. Its periods begin
 /// at 0, each starts later than the one before it, and all within the duration.
-#[derive(Debug, Drop)]
+#[derive(Drop)]
 pub struct Composite {
     /// Seconds.
     duration: u32,

@@ -8,7 +8,7 @@ use profile::Unit;
 use std::marker::Model;
 
 /// The periods that a charge point says, which may be no schedule: any number of them, in any order.
-#[derive(Debug, Drop)]
+#[derive(Drop)]
 pub struct SaidPeriods {
     items: Vec<CompositePeriod>,
 }
@@ -54,7 +54,7 @@ impl SaidPeriods {
 
 /// What a charge point replies to GetCompositeSchedule (chapter 5.7, and chapter 6,
 /// GetCompositeSchedule.conf).
-#[derive(Debug, Drop)]
+#[derive(Drop)]
 pub enum Said {
     /// That it has none to tell.
     Refused,

@@ -7,7 +7,7 @@ use std::alloc::Global;
 use std::marker::Model;
 
 /// What the active connectors of a point have in the sum of connector 0, by rising connector.
-#[derive(Debug, Drop)]
+#[derive(Drop)]
 pub struct Shares {
     items: Vec<Share>,
 }

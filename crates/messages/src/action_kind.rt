@@ -18,7 +18,7 @@ use crate::side::Side::{self, Operator, Point};
 
 /// The actions that are known (chapters 4.1 to 4.10 and 5, and two of this system's own), without
 /// their fields.
-#[derive(Clone, Copy, Debug, PartialEq, Eq)]
+#[derive(Clone, Copy, PartialEq, Eq)]
 pub enum ActionKind {
     SetChargingProfile,
     ClearChargingProfile,

@@ -10,7 +10,7 @@ use profile::{Criteria, Profile, Unit};
 use std::alloc::{AllocError, Global};
 
 /// A call to a charge point (OCPP-J 1.6, 4.2.1).
-#[derive(Debug, Drop)]
+#[derive(Drop)]
 pub struct Call {
     /// Its number among the point's calls, which is its message id.
     pub number: u64,
@@ -18,7 +18,7 @@ pub struct Call {
 }
 
 /// What a call asks a charge point to do (chapters 5.5, 5.7, 5.11 and 5.16).
-#[derive(Debug, Drop)]
+#[derive(Drop)]
 pub enum CallBody {
     /// ClearChargingProfile, of the profiles that match these criteria.
     Clear(Criteria),

@@ -7,7 +7,7 @@ use ocpp_scalars::Refusal;
 use std::alloc::{AllocError, AllocFailed};
 
 /// Why a CALL is answered with a CALLERROR (OCPP-J 1.6, 4.2.3).
-#[derive(Clone, Copy, Debug, PartialEq, Eq)]
+#[derive(Clone, Copy, PartialEq, Eq)]
 pub enum CallFault {
     /// The action or the payload is malformed (`ocppj_frame::FrameFault::Formation`).
     FormationViolation,

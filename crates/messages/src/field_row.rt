@@ -15,7 +15,7 @@ use FieldKind::{
 use FieldRow::{Optional, Required};
 
 /// What the value of a field has to be.
-#[derive(Clone, Copy, Debug, PartialEq, Eq)]
+#[derive(Clone, Copy, PartialEq, Eq)]
 pub enum FieldKind {
     /// A whole number of 32 bits.
     Whole,
@@ -42,7 +42,7 @@ pub enum FieldKind {
 }
 
 /// An object inside a payload (chapter 7).
-#[derive(Clone, Copy, Debug, PartialEq, Eq)]
+#[derive(Clone, Copy, PartialEq, Eq)]
 pub enum ObjectKind {
     /// ChargingProfile.
     Profile,
@@ -53,7 +53,7 @@ pub enum ObjectKind {
 }
 
 /// A field of an object, with what its value has to be.
-#[derive(Clone, Copy, Debug, PartialEq, Eq)]
+#[derive(Clone, Copy, PartialEq, Eq)]
 pub enum FieldRow {
     /// It has to be there.
     Required(FieldName, FieldKind),

@@ -7,7 +7,7 @@ use crate::response::Response;
 use ocpp_scalars::Instant;
 
 /// What an action is answered whatever its fields are (chapter 6, the .conf payloads).
-#[derive(Clone, Copy, Debug, PartialEq, Eq)]
+#[derive(Clone, Copy, PartialEq, Eq)]
 pub enum FixedAnswer {
     BootNotification,
     Heartbeat,

@@ -8,7 +8,7 @@ use ocppj_frame::{Field, Payload, text_field};
 
 /// The statuses of the replies to calls (chapter 7, ChargingProfileStatus, ClearChargingProfileStatus,
 /// GetCompositeScheduleStatus and RemoteStartStopStatus).
-#[derive(Clone, Copy, Debug, PartialEq, Eq)]
+#[derive(Clone, Copy, PartialEq, Eq)]
 pub enum ReplyStatus {
     Accepted,
     Rejected,

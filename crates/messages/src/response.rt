@@ -52,7 +52,7 @@ pub struct ScheduleResponse {
 }
 
 /// What the central system has of a point; this system's own answer.
-#[derive(Clone, Copy, Debug, PartialEq, Eq)]
+#[derive(Clone, Copy, PartialEq, Eq)]
 pub struct PointStatus {
     /// The version of the site's book.
     pub version: u64,
@@ -62,7 +62,7 @@ pub struct PointStatus {
 }
 
 /// What came of a point's last audit.
-#[derive(Clone, Copy, Debug, PartialEq, Eq)]
+#[derive(Clone, Copy, PartialEq, Eq)]
 pub enum AuditOutcome {
     /// There was none.
     NoAudit,

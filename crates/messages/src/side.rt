@@ -5,7 +5,7 @@ ghost use Rattle.messages.specs.ActionKind.{side_eq, side_of};
 use crate::action_kind::ActionKind;
 
 /// Who talks to the central system.
-#[derive(Clone, Copy, Debug, PartialEq, Eq)]
+#[derive(Clone, Copy, PartialEq, Eq)]
 pub enum Side {
     /// An operator of the site. The operator's messages have the form of OCPP-J, but are this system's
     /// own use of it.

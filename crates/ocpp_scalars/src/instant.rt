@@ -9,7 +9,7 @@ pub const LAST_SECOND: u64 = 253_402_300_799;
 
 /// A moment: whole seconds since 1970-01-01T00:00:00Z, from 0 to `LAST_SECOND` (RFC 3339's
 /// calendar, without leap seconds).
-#[derive(Clone, Copy, Debug, PartialEq, Eq, Hash, PartialOrd, Ord)]
+#[derive(Clone, Copy, PartialEq, Eq, PartialOrd, Ord)]
 pub struct Instant {
     seconds: u64,
 }

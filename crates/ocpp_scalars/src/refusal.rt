@@ -8,7 +8,7 @@ use std::fmt;
 
 /// Why the central system refuses what it was asked, by name. Each function's contract says what a
 /// refusal leaves.
-#[derive(Clone, Copy, Debug, PartialEq, Eq, Hash)]
+#[derive(Clone, Copy, Debug, PartialEq, Eq)]
 pub enum Refusal {
     /// The site has no point of this identity.
     UnknownPoint,

@@ -4,7 +4,7 @@ ghost use Rattle.std.specs.Prelude.{◌≡◌};
 use std::marker::Model;
 
 /// The name of a CALL's action, its escapes resolved (OCPP-J 1.6, section 4.2.1).
-#[derive(Debug, Drop)]
+#[derive(Drop)]
 pub struct ActionName<'a> {
     text: &'a str,
 }

@@ -7,7 +7,7 @@ use crate::payload::{Entries, Node};
 use ocpp_scalars::{Instant, read_instant, read_tenths, read_whole};
 
 /// What an object has at the name of a field.
-#[derive(Clone, Copy, Debug, PartialEq, Eq)]
+#[derive(Clone, Copy, PartialEq, Eq)]
 pub enum Field<T> {
     /// The field is missing or null, or the node is no object.
     Absent,

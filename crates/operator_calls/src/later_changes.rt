@@ -9,7 +9,7 @@ use site_core::Machine;
 use std::alloc::{AllocError, Global};
 
 /// A profile that a line brought to its point, or took away from it.
-#[derive(Clone, Copy, Debug, PartialEq, Eq)]
+#[derive(Clone, Copy, PartialEq, Eq)]
 pub struct LaterChange {
     /// The line's number and its moment.
     pub line: u64,

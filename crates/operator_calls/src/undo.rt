@@ -30,7 +30,7 @@ pub struct Undo {
 }
 
 /// A TxProfile whose transaction has ended.
-#[derive(Clone, Copy, Debug)]
+#[derive(Clone, Copy)]
 pub struct LostProfile {
     pub id: i32,
     pub connector: u32,

@@ -3,7 +3,7 @@
 use command_io::ProgramFault;
 
 /// The form of a picture.
-#[derive(Clone, Copy, Debug, PartialEq, Eq)]
+#[derive(Clone, Copy, PartialEq, Eq)]
 pub enum PictureForm {
     Svg,
     /// A page with the picture and the table.

@@ -26,7 +26,7 @@ use transactions::{ActiveTable, Began, Begin, Transaction};
 /// What the central system keeps of a charge point: its ceilings, its profiles and its active
 /// transactions. Every profile stands at connector 0 or at one that the point has, and every
 /// TxProfile at one with an active transaction.
-#[derive(Debug, Drop)]
+#[derive(Drop)]
 pub struct PointBook {
     /// The point's ceiling, in tenths of A or W.
     ceiling: u32,

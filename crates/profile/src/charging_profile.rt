@@ -17,7 +17,7 @@ use std::alloc::AllocError;
 pub const MAX_STACK_LEVEL: u32 = 99;
 
 /// A well-formed charging profile (chapter 7, ChargingProfile).
-#[derive(Debug, Drop)]
+#[derive(Drop)]
 pub struct Profile {
     /// chargingProfileId.
     pub id: i32,

@@ -4,7 +4,7 @@ use crate::purpose::Purpose;
 
 /// Which profiles a ClearChargingProfile is for (chapter 6, ClearChargingProfile.req): those that
 /// match each field that is given.
-#[derive(Clone, Copy, Debug, PartialEq, Eq)]
+#[derive(Clone, Copy, PartialEq, Eq)]
 pub struct Criteria {
     /// chargingProfileId.
     pub id: Option<i32>,

@@ -6,7 +6,7 @@ ghost use Rattle.profile.specs.Kind.{recurrence_length, kind_of, start_of, offse
 use ocpp_scalars::Instant;
 
 /// How often a Recurring schedule begins anew (chapter 7, RecurrencyKindType).
-#[derive(Clone, Copy, Debug, PartialEq, Eq, Hash)]
+#[derive(Clone, Copy, PartialEq, Eq)]
 pub enum Recurrency {
     /// Every 86,400 seconds.
     Daily,
@@ -27,7 +27,7 @@ impl Recurrency {
 }
 
 /// The field chargingProfileKind of a profile as it comes in (chapter 7, ChargingProfileKindType).
-#[derive(Clone, Copy, Debug, PartialEq, Eq, Hash)]
+#[derive(Clone, Copy, PartialEq, Eq)]
 pub enum ProfileKind {
     Absolute,
     Recurring,
@@ -36,7 +36,7 @@ pub enum ProfileKind {
 
 /// How a well-formed profile counts its seconds: chargingProfileKind, with its recurrencyKind where
 /// it recurs.
-#[derive(Clone, Copy, Debug, PartialEq, Eq, Hash)]
+#[derive(Clone, Copy, PartialEq, Eq)]
 pub enum Kind {
     /// From its anchor on: the startSchedule, or the base where it has none.
     Absolute,

@@ -7,7 +7,7 @@ use crate::unit::Unit;
 use ocpp_scalars::Instant;
 
 /// The fields of a charging profile as they come in, not yet judged (chapter 7, ChargingProfile).
-#[derive(Debug, Drop)]
+#[derive(Drop)]
 pub struct ProfileParts {
     /// chargingProfileId.
     pub id: i32,
@@ -28,7 +28,7 @@ pub struct ProfileParts {
 }
 
 /// The fields of a charging schedule as they come in (chapter 7, ChargingSchedule).
-#[derive(Debug, Drop)]
+#[derive(Drop)]
 pub struct ScheduleParts {
     /// Seconds.
     pub duration: Option<u32>,

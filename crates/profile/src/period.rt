@@ -3,7 +3,7 @@
 ghost use Rattle.std.specs.Prelude.{◌≡◌};
 
 /// One step of a charging schedule (chapter 7, ChargingSchedulePeriod).
-#[derive(Clone, Copy, Debug, PartialEq, Eq, Hash)]
+#[derive(Clone, Copy, PartialEq, Eq)]
 pub struct Period {
     /// startPeriod: seconds from the start of the schedule.
     pub start: u32,

@@ -7,7 +7,7 @@ use std::sync::ArcSlice;
 
 /// Periods as they come in, in order, not yet judged (chapter 7, chargingSchedulePeriod): one or
 /// more. They are shared with the profile that is made of them, and with its copies.
-#[derive(Debug, Drop)]
+#[derive(Drop)]
 pub struct PeriodList {
     items: ArcSlice<Period>,
 }

@@ -14,7 +14,7 @@ pub const MAX_PERIODS: usize = 200;
 
 /// The periods of a schedule: 1 to 200 of them, each starting later than the one before. Copies share
 /// them.
-#[derive(Debug, Drop)]
+#[derive(Drop)]
 pub struct Periods {
     items: ArcSlice<Period>,
 }

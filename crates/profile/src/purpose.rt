@@ -4,7 +4,7 @@ ghost use Rattle.std.specs.Prelude.{◌≡◌};
 ghost use Rattle.profile.specs.Purpose.{transaction_of};
 
 /// What a charging profile is for (chapter 7, ChargingProfilePurposeType).
-#[derive(Clone, Copy, Debug, PartialEq, Eq, Hash)]
+#[derive(Clone, Copy, PartialEq, Eq)]
 pub enum Purpose {
     /// Stands at connector 0 and bounds the whole charge point.
     ChargePointMaxProfile,

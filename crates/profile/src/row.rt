@@ -9,7 +9,7 @@ use std::alloc::AllocError;
 
 /// A profile as a point keeps it (chapter 5.16): at which connector it stands, 0 being the whole
 /// point, and when it was installed.
-#[derive(Debug, Drop)]
+#[derive(Drop)]
 pub struct Row {
     pub connector: u32,
     /// The moment of its install.

@@ -8,7 +8,7 @@ use ocpp_scalars::Instant;
 use std::alloc::AllocError;
 
 /// A charging schedule (chapter 7, ChargingSchedule).
-#[derive(Debug, Drop)]
+#[derive(Drop)]
 pub struct Schedule {
     /// How many seconds it lasts, where it ends by itself.
     pub duration: Option<u32>,

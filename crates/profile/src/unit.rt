@@ -4,7 +4,7 @@ ghost use Rattle.std.specs.Prelude.{◌≡◌};
 ghost use Rattle.profile.specs.Unit.{unit_eq};
 
 /// The unit of a schedule's limits (chapter 7, ChargingRateUnitType).
-#[derive(Clone, Copy, Debug, PartialEq, Eq, Hash)]
+#[derive(Clone, Copy, PartialEq, Eq)]
 pub enum Unit {
     /// Amperes.
     A,

@@ -13,7 +13,7 @@ use profile::Profile;
 use std::marker::Model;
 
 /// An instant at which the limit of a profile can change.
-#[derive(Clone, Copy, Debug, PartialEq, Eq)]
+#[derive(Clone, Copy, PartialEq, Eq)]
 pub struct Place {
     pub instant: Instant,
     /// The limit from there on, in tenths of A or W, or `None` where the profile has none.

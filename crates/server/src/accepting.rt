@@ -4,7 +4,7 @@ use crate::seat_context::SeatContext;
 use crate::seat_world::SeatWorld;
 use crossbeam_channel::Sender;
 use server_core::Seldom;
-use std::io::{Read, Write, Write};
+use std::io::{Read, Write};
 use std::net::{Shutdown, TcpListener, TcpStream};
 use std::thread;
 use std::time::Duration;

@@ -6,6 +6,8 @@ use crate::incoming_stream::IncomingStream;
 use crate::seat_world::SeatWorld;
 use crate::session_watch::SessionWatch;
 use bytes::Bytes;
+use journal_writer::Journal;
+use ocpp_scalars::Moments;
 use server_core::{
     LONGEST_SILENCE, Pace, SILENCE_BEFORE_CALL, SILENCE_BEFORE_PING, TICK, seconds_since,
 };
@@ -37,7 +39,7 @@ struct Attention {
 }
 
 /// When a call was sent to a point.
-#[derive(Clone, Copy, Debug)]
+#[derive(Clone, Copy)]
 struct SentMoment {
     number: u64,
     moment: Instant,

@@ -5,7 +5,6 @@ ghost use Rattle.session.specs.Serving.{KeepsPass};
 use crate::entry::Entry;
 use crate::handshake::{ClientRequest, shake_hands};
 use crate::path::{PathPeer, peer_of_path};
-use crate::world::World;
 use session::{Context, SessionCore, World, serve_session};
 use std::alloc::AllocError;
 use std::io::{Read, Write};

@@ -17,7 +17,7 @@ const ORIGIN: &str = "origin";
 pub(crate) const AUTHORIZATION: &str = "authorization";
 
 /// Whom a server lets in.
-#[derive(Clone, Copy, Debug)]
+#[derive(Clone, Copy)]
 pub(crate) enum Entry<'a> {
     /// Whoever comes.
     Open,

@@ -38,7 +38,7 @@ struct Reading<'a> {
 }
 
 /// Why there is no session for a connection.
-#[derive(Debug, Drop)]
+#[derive(Drop)]
 pub(crate) enum Unshaken {
     /// Its request was refused, of which this is said.
     Refused(Result<String, AllocError>),

@@ -56,7 +56,7 @@ pub(crate) struct IncomingStream<'a, R> {
 }
 
 /// A message that isn't whole.
-#[derive(Clone, Copy, Debug)]
+#[derive(Clone, Copy)]
 struct Unfinished {
     /// When its first byte came.
     begun: Instant,

@@ -2,7 +2,7 @@
 
 /// Who connects, by the path of the URL: an operator for a charge point, or the point itself. The
 /// site may have no point of that identity.
-#[derive(Clone, Copy, Debug, PartialEq, Eq)]
+#[derive(Clone, Copy, PartialEq, Eq)]
 pub enum PathPeer<'a> {
     Operator(&'a str),
     Point(&'a str),

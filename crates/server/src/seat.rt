@@ -13,6 +13,7 @@ use crate::seat_world::SeatWorld;
 use crate::session_watch::SessionWatch;
 use compile_pool::Jobs;
 use crossbeam_channel::Receiver;
+use journal_writer::Journal;
 use session::{Context, Peer, attach_session, end_session};
 use std::alloc::{AllocError, Global};
 use std::marker::Sync;

@@ -2,6 +2,7 @@
 
 use crate::seat_world::SeatWorld;
 use journal_writer::Journal;
+use ocpp_scalars::Moments;
 use server_core::{
     AheadClients, FreeSeats, LongMessages, Notices, PresentStreams, SiteWatch, UnfinishedHandshakes,
 };
@@ -13,7 +14,7 @@ use std::sync::{Arc, Mutex};
 use version_store::Shared;
 
 /// What whoever runs a site may choose.
-#[derive(Debug, Drop)]
+#[derive(Drop)]
 pub struct SeatOptions {
     /// For so many seconds a call waits for its reply. Then its connection is closed.
     pub call_timeout: u64,

@@ -35,4 +35,5 @@ pub trait SeatWorld: World<
     Runtime: Threads + Clock + RandomSource + Eprint + Copy + Send + Sync + Drop + 'static,
     Clock: Send + Sync + Drop + 'static,
     Journal: WatchedJournal + Send + Sync + Drop + 'static,
-> {}
+>
+    + 'static {}

@@ -3,7 +3,7 @@
 use crate::seat_context::SeatContext;
 use crate::seat_world::SeatWorld;
 use messages::ActionKind;
-use ocpp_scalars::Instant;
+use ocpp_scalars::{Instant, Moments};
 use server_core::{Rejected, Reply};
 use session::{Breach, Ended, SentCall, SessionCore, Told};
 use site_status::{Boot, CallNumbers, SentMoment, Sighting};
@@ -150,7 +150,7 @@ impl<W: SeatWorld> SessionWatch<'_, W> {
 }
 
 /// What became of a point.
-#[derive(Clone, Copy, Debug)]
+#[derive(Clone, Copy)]
 enum Event {
     Connected,
     Booted,

@@ -7,10 +7,11 @@ use crate::status_port::StatusPort;
 use bytes::Bytes;
 use http::{HeaderName, HeaderValue, Method, Request, StatusCode};
 use http_server::{Response, Service};
+use ocpp_scalars::Moments;
 use server_core::Seen;
 use site_status::{
-    Health, JournalReport, SiteCounts, SiteReport, StatusAnswer, StatusPath, answer_of,
-    health_answer, nothing_there, status_path,
+    Health, JournalReport, SiteCounts, SiteReport, StatusAnswer, StatusPath, WatchedJournal,
+    answer_of, health_answer, nothing_there, status_path,
 };
 use std::alloc::{AllocError, Global};
 

@@ -13,14 +13,14 @@ pub struct LongMessages {
     places: Mutex<Places>,
 }
 
-#[derive(Clone, Copy, Debug)]
+#[derive(Clone, Copy)]
 struct Places {
     free: u64,
     waiting: u64,
 }
 
 /// Whether a connection has one of the places.
-#[derive(Clone, Copy, Debug, PartialEq, Eq)]
+#[derive(Clone, Copy, PartialEq, Eq)]
 pub enum Place {
     /// It has had no long message.
     Unasked,

@@ -38,7 +38,7 @@ pub struct Reply {
 }
 
 /// A call was rejected.
-#[derive(Clone, Copy, Debug)]
+#[derive(Clone, Copy)]
 pub struct Rejected {
     /// What it asked, where that is known.
     pub action: Option<ActionKind>,

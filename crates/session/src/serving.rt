@@ -23,7 +23,7 @@ pub use calls::{attach_session, send_call};
 use crossbeam_channel::Sender;
 pub use ended::{Breach, Ended};
 pub use heard::{Heard, SentCall, Told};
-use journal_writer::NoJournal;
+use journal_writer::{Journal, NoJournal};
 use ocpp_scalars::Moments;
 pub use served_text::{Served, serve_next, serve_sent_text};
 use std::alloc::Global;

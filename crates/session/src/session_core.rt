@@ -19,7 +19,7 @@ use std::marker::Model;
 use texts::{SentText, asked_of};
 
 /// Who is at the other end of a session's socket.
-#[derive(Clone, Copy, Debug, PartialEq, Eq)]
+#[derive(Clone, Copy, PartialEq, Eq)]
 pub enum Peer {
     /// An operator, on a site of this unit.
     Operator { unit: Unit },

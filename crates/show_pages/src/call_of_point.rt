@@ -5,7 +5,7 @@ use site_core::Outbox;
 use std::alloc::{AllocError, Global};
 
 /// A call that isn't confirmed.
-#[derive(Debug, Drop)]
+#[derive(Drop)]
 pub struct WaitingCall {
     pub call: Call,
     /// Whether it went out over the point's present link.

@@ -5,7 +5,7 @@ use profile::Row;
 use std::alloc::{AllocError, Global};
 
 /// What a line changed in the profiles of its point.
-#[derive(Debug, Drop)]
+#[derive(Drop)]
 pub struct RowChange {
     /// The line's number, from 1.
     pub number: u64,

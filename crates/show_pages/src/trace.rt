@@ -19,7 +19,7 @@ use texts::SentText;
 const SHOWN_CHARACTERS: usize = 60;
 
 /// How much is kept of a script.
-#[derive(Clone, Copy, Debug, PartialEq, Eq)]
+#[derive(Clone, Copy, PartialEq, Eq)]
 pub enum Depth {
     /// What its lines lead to. No schedule is made for a request, while none is held.
     State,
@@ -44,7 +44,7 @@ pub struct TracedLine {
 }
 
 /// A request that a line held.
-#[derive(Debug, Drop)]
+#[derive(Drop)]
 pub struct HeldLine {
     /// The number of the request.
     pub request: u64,

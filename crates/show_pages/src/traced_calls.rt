@@ -7,7 +7,7 @@ use site_core::Outbox;
 use std::alloc::{AllocError, Global};
 
 /// A call that went out.
-#[derive(Debug, Drop)]
+#[derive(Drop)]
 pub struct SentCall {
     pub number: u64,
     /// Its action and the profiles that it is for, in words.
@@ -20,7 +20,7 @@ pub struct SentCall {
 }
 
 /// A call that hasn't gone out.
-#[derive(Debug, Drop)]
+#[derive(Drop)]
 pub struct AddedCall {
     pub number: u64,
     /// The line that added it; none of call 0, which waits from the beginning.
@@ -28,7 +28,7 @@ pub struct AddedCall {
 }
 
 /// A call that the point answered without doing it.
-#[derive(Debug, Drop)]
+#[derive(Drop)]
 pub struct RejectedCall {
     pub call: SentCall,
     /// The line with the point's reply.
@@ -38,7 +38,7 @@ pub struct RejectedCall {
 }
 
 /// What became of the calls to a charge point.
-#[derive(Debug, Drop)]
+#[derive(Drop)]
 pub struct PointCalls {
     /// How many calls there are, confirmed or not.
     count: u64,

@@ -8,7 +8,7 @@ use std::sync::Wait;
 use tungstenite::{Error, MaskKeys, Message, WebSocket};
 
 /// How a connection came to its end.
-#[derive(Clone, Copy, Debug, PartialEq, Eq)]
+#[derive(Clone, Copy, PartialEq, Eq)]
 pub enum Ended {
     /// After a close handshake.
     Closed,

@@ -16,7 +16,7 @@ use std::marker::Model;
 use transactions::{Began, Begin};
 
 /// What a point tells of a transaction that it runs.
-#[derive(Clone, Copy, Debug, PartialEq, Eq)]
+#[derive(Clone, Copy, PartialEq, Eq)]
 pub struct Running {
     /// transactionId.
     pub id: i32,
@@ -25,7 +25,7 @@ pub struct Running {
 }
 
 /// The book of a simulated point, which knows the number and the meter of each active transaction.
-#[derive(Debug, Drop)]
+#[derive(Drop)]
 pub struct OwnBook {
     book: PointBook,
     /// The transactions of connectors 1, 2, ..

@@ -14,7 +14,7 @@ use std::alloc::{AllocError, Global};
 use transactions::Begin;
 
 /// A call of a charge point to the central system.
-#[derive(Debug, Drop)]
+#[derive(Drop)]
 pub enum PointCall {
     /// Heartbeat (chapter 4.6).
     Heartbeat,
@@ -33,7 +33,7 @@ pub enum PointCall {
 }
 
 /// A call that isn't answered yet.
-#[derive(Debug, Drop)]
+#[derive(Drop)]
 pub struct InFlight {
     /// Its number among the point's calls, which is its message id.
     pub number: u64,

@@ -3,7 +3,7 @@ use ocpp_scalars::IdTag;
 use profile::Profile;
 
 /// A step of a simulated charge point, which makes one call of it.
-#[derive(Debug, Drop)]
+#[derive(Drop)]
 pub enum SimStep {
     /// A Heartbeat (chapter 4.6).
     Heartbeat,

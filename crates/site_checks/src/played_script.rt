@@ -17,7 +17,7 @@ use std::alloc::{AllocError, Global};
 use std::rt::Clock;
 
 /// What is played on a site.
-#[derive(Clone, Copy, Debug)]
+#[derive(Clone, Copy)]
 pub struct PlayedScript<'a> {
     pub script: &'a [u8],
     /// The boots that a folder keeps, each at the place of its point.

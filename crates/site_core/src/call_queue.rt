@@ -11,7 +11,7 @@ use std::sync::Arc;
 
 /// Calls that wait one after another. Those that were gathered are shared with the copies made
 /// since, so that a copy wants no memory for them.
-#[derive(Debug, Drop)]
+#[derive(Drop)]
 pub(crate) struct CallQueue {
     /// The calls up to the last gathering.
     gathered: Arc<Vec<CallBody>>,

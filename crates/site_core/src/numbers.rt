@@ -13,7 +13,7 @@ pub const MAX_NUMBER: u64 = 1_000_000_000_000;
 pub(crate) const MAX_TRANSACTION: u32 = 2_147_483_647;
 
 /// The numbers that were drawn last, each 0 before the first.
-#[derive(Clone, Copy, Debug, PartialEq, Eq)]
+#[derive(Clone, Copy, PartialEq, Eq)]
 pub struct Numbers {
     /// The version of the store: one more with each change of a point's book.
     pub version: u64,

@@ -24,7 +24,7 @@ const EVERY_PROFILE: Criteria = Criteria {
 };
 
 /// A call that has its memory, so that no outbox lacks any when it is added.
-#[derive(Debug, Drop)]
+#[derive(Drop)]
 pub struct PreparedCall {
     /// One body, in the place that it has in an outbox from then on.
     bodies: LinkedList<CallBody>,
@@ -59,7 +59,7 @@ impl PreparedCall {
 
 /// What the central system keeps of its calls to a charge point: the point's present link, and the
 /// unconfirmed calls. The first of these is in flight or waits. Call 0 clears all profiles.
-#[derive(Debug, Drop)]
+#[derive(Drop)]
 pub struct Outbox {
     /// The number of the point's present link.
     link: Option<u64>,

@@ -7,7 +7,7 @@ use std::marker::Model;
 
 /// The identity of a charge point (OCPP-J 1.6, 3.1.1), as a step names it. The site may have no
 /// point of it.
-#[derive(Debug, Drop)]
+#[derive(Drop)]
 pub struct PointId {
     text: String,
 }

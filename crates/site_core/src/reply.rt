@@ -69,7 +69,7 @@ pub enum Reply {
 }
 
 /// How many changes, Takes and answers a reply counts.
-#[derive(Clone, Copy, Debug, PartialEq, Eq)]
+#[derive(Clone, Copy, PartialEq, Eq)]
 pub struct Counted {
     pub changes: u64,
     pub takes: u64,

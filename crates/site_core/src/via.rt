@@ -1,7 +1,7 @@
 //! How a step comes to its point.
 
 /// How a step comes to the point that it names, which says why it isn't made at a stranger.
-#[derive(Clone, Copy, Debug, PartialEq, Eq)]
+#[derive(Clone, Copy, PartialEq, Eq)]
 pub(crate) enum Via {
     /// By its identity alone.
     Name,

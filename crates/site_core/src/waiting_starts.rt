@@ -12,7 +12,7 @@ use std::marker::Model;
 
 /// A start that an operator asked a charge point for (chapter 5.11), until a transaction begins at
 /// its connector.
-#[derive(Debug, Drop)]
+#[derive(Drop)]
 pub struct WaitingStart {
     pub connector: u32,
     /// The number of the call that asked the point.
@@ -49,7 +49,7 @@ impl WaitingStart {
 }
 
 /// The starts that wait at a point, at most one at each connector.
-#[derive(Debug, Drop)]
+#[derive(Drop)]
 pub(crate) struct WaitingStarts {
     starts: Vec<WaitingStart>,
 }

@@ -11,7 +11,7 @@ use std::marker::Model;
 
 /// A line of a journal that is built before the step is made that draws its number, so that none is
 /// built while the book is locked.
-#[derive(Debug, Drop)]
+#[derive(Drop)]
 pub struct Entry {
     /// What stands before the number that the step draws.
     before: String,

@@ -20,7 +20,7 @@ use version_store::{Book, Pass};
 const FIRST_LINE: u64 = 2;
 
 /// What was restored.
-#[derive(Clone, Copy, Debug, PartialEq, Eq)]
+#[derive(Clone, Copy, PartialEq, Eq)]
 pub struct Restored {
     /// How many lines the journal has, the header among them.
     pub lines: u64,

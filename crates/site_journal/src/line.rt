@@ -12,7 +12,7 @@ use std::alloc::AllocError;
 use std::marker::Model;
 
 /// What a line notes of its point.
-#[derive(Clone, Copy, Debug, PartialEq, Eq)]
+#[derive(Clone, Copy, PartialEq, Eq)]
 pub enum Noted<'a> {
     /// A message from this side whose step was made. The number is the one that the step drew: of
     /// the transaction that began, of the call that was added for an audit or a remote start, or
@@ -48,7 +48,7 @@ pub enum Noted<'a> {
 }
 
 /// A line of a journal.
-#[derive(Debug, Drop)]
+#[derive(Drop)]
 pub struct Line<'a> {
     pub moment: Instant,
     /// The identity of the point.

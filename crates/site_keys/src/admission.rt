@@ -11,7 +11,7 @@ use crate::role::Role;
 use std::alloc::{AllocError, Global};
 
 /// What comes of the credentials of an HTTP request.
-#[derive(Debug, Drop)]
+#[derive(Drop)]
 pub enum Admission {
     /// This user may come.
     Admitted(String),

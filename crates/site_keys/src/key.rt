@@ -8,7 +8,7 @@ use crate::role::Role;
 use std::marker::Model;
 
 /// A key: the digest of its user's password under a salt.
-#[derive(Debug, Drop)]
+#[derive(Drop)]
 pub(crate) struct Key {
     pub(crate) role: Role,
     pub(crate) user: String,

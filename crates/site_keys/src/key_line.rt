@@ -13,7 +13,7 @@ use hex::FromHex;
 use std::marker::Model;
 
 /// A line with a key.
-#[derive(Debug, Drop)]
+#[derive(Drop)]
 pub(crate) struct KeyLine<'a> {
     pub(crate) role: Role,
     pub(crate) user: &'a str,

@@ -19,7 +19,7 @@ use std::alloc::{AllocError, Global};
 use std::marker::Model;
 
 /// The keys of a site, in the order of their file.
-#[derive(Debug, Drop)]
+#[derive(Drop)]
 pub struct Keys {
     keys: Vec<Key>,
 }

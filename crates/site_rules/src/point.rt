@@ -4,7 +4,7 @@ ghost use Rattle.std.specs.Prelude.{◌≤◌, length};
 ghost use Rattle.site_rules.specs.Limits.{max_connectors};
 
 /// A charge point of a site, borrowed.
-#[derive(Clone, Copy, Debug)]
+#[derive(Clone, Copy)]
 pub struct SitePoint<'a> {
     /// Its identity.
     pub id: &'a str,
@@ -16,7 +16,7 @@ pub struct SitePoint<'a> {
 }
 
 /// What a site keeps of a charge point besides its identity.
-#[derive(Debug, Drop)]
+#[derive(Drop)]
 pub(crate) struct PointLimits {
     pub ceiling: u32,
     pub ceilings: Vec<u32>,

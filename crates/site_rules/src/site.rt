@@ -11,7 +11,7 @@ use std::marker::Model;
 
 /// A site as its file describes it: its rate unit and its charge points, no two of one identity, in the
 /// order of the file.
-#[derive(Debug, Drop)]
+#[derive(Drop)]
 pub struct Site {
     unit: Unit,
     points: IndexMap<String, PointLimits>,

@@ -5,7 +5,7 @@ ghost use Rattle.site_status.specs.Asked.{IsOneOfMany};
 ghost use Rattle.site_status.specs.declared.asked_path.StatusPath.TheVariants as asked;
 
 /// What is asked for by a path.
-#[derive(Clone, Copy, Debug, PartialEq, Eq)]
+#[derive(Clone, Copy, PartialEq, Eq)]
 pub enum StatusPath<'a> {
     /// `/health`
     Health,

@@ -5,7 +5,7 @@ use ocpp_scalars::{push_instant, push_integer, read_instant};
 use std::alloc::AllocError;
 
 /// A line of the file of boots: what is kept of a point that booted.
-#[derive(Clone, Copy, Debug, PartialEq, Eq)]
+#[derive(Clone, Copy, PartialEq, Eq)]
 pub struct BootLine<'a> {
     /// The identity of the point.
     pub point: &'a str,

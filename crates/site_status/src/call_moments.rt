@@ -10,7 +10,7 @@ use std::alloc::{AllocError, Global};
 
 /// The numbers of the calls to a point that it hasn't confirmed: from the first on, and below the next
 /// one that is added.
-#[derive(Clone, Copy, Debug, PartialEq, Eq)]
+#[derive(Clone, Copy, PartialEq, Eq)]
 pub struct CallNumbers {
     pub first: u64,
     pub next: u64,
@@ -18,14 +18,14 @@ pub struct CallNumbers {
 
 /// When the calls to a point were added that it hasn't confirmed. Those of an earlier run of the
 /// program count from its start on.
-#[derive(Debug, Drop)]
+#[derive(Drop)]
 pub struct CallMoments {
     /// In the order of their numbers.
     added: Vec<AddedCalls>,
 }
 
 /// Calls that were seen first at one moment.
-#[derive(Clone, Copy, Debug)]
+#[derive(Clone, Copy)]
 struct AddedCalls {
     /// The number behind that of the last one.
     next: u64,

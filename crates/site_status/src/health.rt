@@ -6,7 +6,7 @@ ghost use Rattle.site_status.specs.Health.{health_of, status_of};
 use crate::journal_report::JournalState;
 
 /// Whether a site is well, or why it isn't.
-#[derive(Clone, Copy, Debug, PartialEq, Eq)]
+#[derive(Clone, Copy, PartialEq, Eq)]
 pub enum Health {
     Well,
     /// Its state is being restored from the journal.

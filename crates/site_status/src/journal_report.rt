@@ -1,7 +1,7 @@
 //! What is told of a site's journal.
 
 /// Whether anything may be noted in a journal.
-#[derive(Clone, Copy, Debug, PartialEq, Eq)]
+#[derive(Clone, Copy, PartialEq, Eq)]
 pub enum JournalState {
     Open,
     /// The device is full.
@@ -11,7 +11,7 @@ pub enum JournalState {
 }
 
 /// What is told of a site's journal.
-#[derive(Clone, Copy, Debug, PartialEq, Eq)]
+#[derive(Clone, Copy, PartialEq, Eq)]
 pub struct JournalReport {
     pub state: JournalState,
     /// How many bytes of it are on the disk.

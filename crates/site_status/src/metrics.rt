@@ -77,7 +77,7 @@ fn push_label(out: &mut String, text: &str) -> Result<(), AllocError> {
 }
 
 /// A figure of the whole site.
-#[derive(Clone, Copy, Debug)]
+#[derive(Clone, Copy)]
 enum SiteFigure {
     Healthy,
     Sessions,
@@ -201,7 +201,7 @@ fn push_seconds(out: &mut String, name: &str, microseconds: u64) -> Result<(), A
 }
 
 /// A figure of each point.
-#[derive(Clone, Copy, Debug)]
+#[derive(Clone, Copy)]
 enum PointFigure {
     Connected,
     LastText,

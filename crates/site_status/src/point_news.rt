@@ -8,7 +8,7 @@ use ocpp_scalars::Instant;
 use std::alloc::{AllocError, Global};
 
 /// What was seen of a charge point since the program began.
-#[derive(Debug, Drop)]
+#[derive(Drop)]
 pub struct PointNews {
     /// Its newest link, and since when it is connected over it, while it is.
     pub connection: Connection,
@@ -26,7 +26,7 @@ pub struct PointNews {
 }
 
 /// The newest link of a point. Links are numbered in the order in which points get them, from 1 on.
-#[derive(Clone, Copy, Debug, PartialEq, Eq)]
+#[derive(Clone, Copy, PartialEq, Eq)]
 pub struct Connection {
     pub link: u64,
     /// Since when it is connected over it, while it is.
@@ -34,7 +34,7 @@ pub struct Connection {
 }
 
 /// A BootNotification of a point.
-#[derive(Clone, Copy, Debug, PartialEq, Eq)]
+#[derive(Clone, Copy, PartialEq, Eq)]
 pub struct Boot {
     pub moment: Instant,
     /// The number of the first call that it hadn't confirmed by then.
@@ -42,7 +42,7 @@ pub struct Boot {
 }
 
 /// A call that was sent to a point.
-#[derive(Clone, Copy, Debug, PartialEq, Eq)]
+#[derive(Clone, Copy, PartialEq, Eq)]
 pub struct SentMoment {
     pub number: u64,
     pub action: ActionKind,
@@ -50,7 +50,7 @@ pub struct SentMoment {
 }
 
 /// A call that a point rejected.
-#[derive(Debug, Drop)]
+#[derive(Drop)]
 pub struct Rejection {
     pub call: u64,
     /// What it asked, where that is known.
@@ -61,14 +61,14 @@ pub struct Rejection {
 }
 
 /// The calls that a point rejected.
-#[derive(Debug, Drop)]
+#[derive(Drop)]
 pub struct RejectedCalls {
     pub count: u64,
     pub last: Option<Rejection>,
 }
 
 /// What was seen of a point.
-#[derive(Clone, Copy, Debug, PartialEq, Eq)]
+#[derive(Clone, Copy, PartialEq, Eq)]
 pub enum Sighting {
     /// It has this link since a moment.
     Connected { link: u64, moment: Instant },

@@ -19,7 +19,7 @@ pub(crate) struct PointSummary<'a> {
 }
 
 /// What is told of the calls to a charge point.
-#[derive(Clone, Copy, Debug)]
+#[derive(Clone, Copy)]
 pub(crate) struct PointCalls {
     /// How many it confirmed.
     pub(crate) confirmed: u64,

@@ -11,7 +11,7 @@ use site_core::{Outbox, PointAudit};
 use std::alloc::{AllocError, Global};
 
 /// What decides whether a point may have forgotten its profiles. Calls are numbered in their order.
-#[derive(Clone, Copy, Debug, PartialEq, Eq)]
+#[derive(Clone, Copy, PartialEq, Eq)]
 pub struct Reboot {
     /// The first call that the point hadn't confirmed when it booted last.
     pub first_call: Option<u64>,

@@ -21,7 +21,7 @@ pub struct SiteReport<'a> {
 }
 
 /// What is counted of a site.
-#[derive(Clone, Copy, Debug, PartialEq, Eq)]
+#[derive(Clone, Copy, PartialEq, Eq)]
 pub struct SiteCounts {
     /// Sessions of points and of operators at present.
     pub point_sessions: u64,

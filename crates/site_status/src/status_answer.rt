@@ -14,7 +14,7 @@ use crate::state_page::state_json;
 use std::alloc::{AllocError, Global};
 
 /// An answer of the status port.
-#[derive(Debug, Drop)]
+#[derive(Drop)]
 pub struct StatusAnswer {
     /// Its status (RFC 9110, section 15).
     pub status: u16,
@@ -23,7 +23,7 @@ pub struct StatusAnswer {
 }
 
 /// What a body is.
-#[derive(Clone, Copy, Debug, PartialEq, Eq)]
+#[derive(Clone, Copy, PartialEq, Eq)]
 pub enum ContentKind {
     Text,
     Metrics,

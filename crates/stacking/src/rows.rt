@@ -22,7 +22,7 @@ pub const MAX_ROWS: usize = 200;
 
 /// The profiles that a charge point has installed, in the order of their installs: no two of one
 /// chargingProfileId, no two of one connector, purpose and stack level, and at most `MAX_ROWS`.
-#[derive(Debug, Drop)]
+#[derive(Drop)]
 pub struct Rows {
     items: Vec<Row>,
 }

@@ -8,7 +8,7 @@ use std::marker::Model;
 
 /// What sets the limits of an asked schedule (chapter 3.13), in intervals. The first begins at second 0, each next
 /// one at the end of the one before it, and the last ends with the schedule.
-#[derive(Debug, Drop)]
+#[derive(Drop)]
 pub struct Explanation {
     /// Seconds.
     duration: u32,

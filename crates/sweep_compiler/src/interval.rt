@@ -3,7 +3,7 @@
 use meaning::Reason;
 
 /// An interval of an asked schedule over which the limit and what sets it stay the same.
-#[derive(Debug, Drop)]
+#[derive(Drop)]
 pub struct Interval {
     /// Its first second, counted from the start of the request.
     pub start: u32,

@@ -13,7 +13,7 @@ use std::marker::Model;
 
 /// How often a limit was evaluated: each evaluation of the limit at one instant is a turn, with what
 /// sets it or without. Only the evaluation itself counts one.
-#[derive(Debug, Drop)]
+#[derive(Drop)]
 pub struct Turns {
     count: u64,
 }

@@ -1,7 +1,7 @@
 //! Verdicts of audits.
 
 /// Whether a charge point's composite schedule is the one that its book means (chapter 5.7).
-#[derive(Clone, Copy, Debug, PartialEq, Eq)]
+#[derive(Clone, Copy, PartialEq, Eq)]
 pub enum Verdict {
     /// Both have equal limits at each second that both cover.
     Agrees,

@@ -6,7 +6,7 @@ use std::process::Abort;
 use tungstenite::{Duplex, MaskKeys, Message, Role, WebSocket};
 
 /// A client's masking keys, which are all the same.
-#[derive(Clone, Copy, Debug)]
+#[derive(Clone, Copy)]
 struct OneKey;
 
 impl MaskKeys for OneKey {

@@ -24,7 +24,7 @@ use tungstenite::{NoMask, Role, WebSocket};
 use version_store::{Job, Pass, Shared};
 
 /// A clock that tells one moment, or none.
-#[derive(Clone, Copy, Debug)]
+#[derive(Clone, Copy)]
 pub(crate) struct Fixed(Option<Instant>);
 
 impl Moments for Fixed {

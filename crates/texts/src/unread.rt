@@ -3,7 +3,7 @@
 use ocppj_frame::MessageId;
 
 /// Memory ran out while a message was read.
-#[derive(Debug, Drop)]
+#[derive(Drop)]
 pub struct Unread {
     /// The id of the CALL that the message is, where that was known before.
     pub call: Option<MessageId>,

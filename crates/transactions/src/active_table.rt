@@ -13,7 +13,7 @@ use std::alloc::{AllocError, Global};
 use std::marker::Model;
 
 /// What a start was.
-#[derive(Clone, Copy, Debug, PartialEq, Eq)]
+#[derive(Clone, Copy, PartialEq, Eq)]
 pub enum Began {
     /// A new transaction began, with the number that was offered for it.
     Fresh,
@@ -22,7 +22,7 @@ pub enum Began {
 }
 
 /// The active transactions of a charge point: at most one at each of its connectors 1, 2, ..
-#[derive(Debug, Drop)]
+#[derive(Drop)]
 pub struct ActiveTable {
     slots: Vec<Option<Transaction>>,
     /// The start of each slot's transaction, which readers of schedules borrow as they are.

@@ -8,7 +8,7 @@ use ocpp_scalars::{IdTag, Instant};
 use std::alloc::{AllocError, Global};
 
 /// What a charge point tells of a transaction that begins (chapter 6, StartTransaction.req).
-#[derive(Debug, Drop)]
+#[derive(Drop)]
 pub struct Begin {
     /// idTag: who starts it.
     pub id_tag: IdTag,

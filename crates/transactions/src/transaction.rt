@@ -6,7 +6,7 @@ use crate::begin::Begin;
 use std::alloc::{AllocError, Global};
 
 /// A transaction at a connector.
-#[derive(Debug, Drop)]
+#[derive(Drop)]
 pub struct Transaction {
     /// transactionId.
     pub id: i32,

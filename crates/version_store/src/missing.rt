@@ -1,7 +1,7 @@
 //! That passes are missing.
 
 /// Fewer passes were given than were made.
-#[derive(Clone, Copy, Debug, PartialEq, Eq)]
+#[derive(Clone, Copy, PartialEq, Eq)]
 pub struct Missing {
     pub given: usize,
     pub made: u64,

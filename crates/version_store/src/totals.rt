@@ -7,7 +7,7 @@ ghost use Rattle.version_store.specs.Passes.{no_totals, totals_after};
 use site_core::{Counted, Reply};
 
 /// How many changes of points' books were made, and how many answers to requests were handed out.
-#[derive(Clone, Copy, Debug, PartialEq, Eq)]
+#[derive(Clone, Copy, PartialEq, Eq)]
 pub struct Totals {
     pub changes: u64,
     pub answers: u64,

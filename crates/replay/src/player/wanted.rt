@@ -1,7 +1,7 @@
 //! What is wanted of a request that is skimmed.
 
 /// What has to be known of a request that is answered at once.
-#[derive(Clone, Copy, Debug, PartialEq, Eq)]
+#[derive(Clone, Copy, PartialEq, Eq)]
 pub enum Wanted {
     /// Whether it is refused, also where its schedule would be too long: that is made where it may
     /// be.

@@ -6,7 +6,7 @@ ghost use Rattle.replay.specs.ByCases.Form.{word_at, word_named, words_view, for
 use texts::number_of;
 
 /// Which line that brings a message it is, by its second word.
-#[derive(Clone, Copy, Debug, PartialEq, Eq)]
+#[derive(Clone, Copy, PartialEq, Eq)]
 pub enum LineWord {
     /// `operator`: an operator's message for a point.
     Operator,

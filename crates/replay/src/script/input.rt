@@ -12,7 +12,7 @@ use std::io::Read;
 const PIECE: usize = 16_384;
 
 /// Why a whole input was not read.
-#[derive(Clone, Copy, Debug, PartialEq, Eq)]
+#[derive(Clone, Copy, PartialEq, Eq)]
 pub enum InputFault {
     /// A read failed, an interrupted one included.
     Read,

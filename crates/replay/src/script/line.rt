@@ -19,7 +19,7 @@ const MAX_LINE_BYTES: usize = 1_048_576;
 pub const LONGEST_FRAME: usize = MAX_LINE_BYTES - 128;
 
 /// Why a line of a script can't be played, in the order in which the faults are checked.
-#[derive(Clone, Copy, Debug, PartialEq, Eq)]
+#[derive(Clone, Copy, PartialEq, Eq)]
 pub enum LineFault {
     /// The line has more than 1,048,576 bytes.
     TooLong,

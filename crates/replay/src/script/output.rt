@@ -7,7 +7,7 @@ ghost use Rattle.replay.specs.Output.{AppendsPrefix, AppendsProperPrefix};
 use std::io::{ErrorKind, Write};
 
 /// A write failed; a prefix of the text may have been written.
-#[derive(Clone, Copy, Debug, PartialEq, Eq)]
+#[derive(Clone, Copy, PartialEq, Eq)]
 pub struct WriteFault;
 
 /// Writes a whole text. Where a write fails, a prefix of it was written, and not the whole, so an

@@ -8,7 +8,7 @@ use site_core::Reply;
 
 /// What a line of a script changes at its point, besides its link and the calls that go out, by the
 /// reply to the step that its message asks for.
-#[derive(Clone, Copy, Debug, PartialEq, Eq)]
+#[derive(Clone, Copy, PartialEq, Eq)]
 pub enum PointChange {
     /// Nothing, or a request for a schedule is kept or answered.
     Nothing,

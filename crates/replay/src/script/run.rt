@@ -23,7 +23,7 @@ use std::io::{Read, Write};
 pub const MAX_SCRIPT_BYTES: usize = 16_777_216;
 
 /// What a replay says at its end.
-#[derive(Clone, Copy, Debug, PartialEq, Eq)]
+#[derive(Clone, Copy, PartialEq, Eq)]
 pub struct Summary {
     /// How many lines of the script have a fault.
     pub script_faults: u64,

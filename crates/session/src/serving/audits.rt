@@ -13,6 +13,7 @@ use crate::serving::noting::note_made;
 use crate::serving::reading::read_reply;
 use crate::world::World;
 use chronicle::ChronicleName;
+use journal_writer::Journal;
 use meaning::Said;
 use site_core::{PointId, Reply, Step, equal_books_are_one};
 use site_journal::{Noted, UNREAD_REPLY, noted_steps_are_restored};

@@ -12,6 +12,7 @@ use crate::serving::noting::{note_made, prepare_link};
 use crate::serving::sockets::{clear_to_leave, send_text};
 use crate::session_core::{Peer, SessionCore};
 use crate::world::World;
+use journal_writer::Journal;
 use messages::{Call, push_call};
 use ocpp_scalars::{Instant, Refusal};
 use site_core::PointId;

@@ -5,7 +5,7 @@ use tungstenite::Error;
 use websocket::error::ProtocolError;
 
 /// How a session ended.
-#[derive(Clone, Copy, Debug, PartialEq, Eq)]
+#[derive(Clone, Copy, PartialEq, Eq)]
 pub enum Ended {
     /// The socket was closed, by a close frame and its answer.
     Closed,
@@ -21,7 +21,7 @@ pub enum Ended {
 }
 
 /// How the peer of a socket broke the protocol (OCPP-J 1.6, chapter 3; RFC 6455).
-#[derive(Clone, Copy, Debug, PartialEq, Eq)]
+#[derive(Clone, Copy, PartialEq, Eq)]
 pub enum Breach {
     TooLong,
     NotUtf8,

@@ -4,7 +4,7 @@ use messages::ActionKind;
 use tungstenite::Utf8Bytes;
 
 /// What came of waiting for the next message of a session.
-#[derive(Debug, Drop)]
+#[derive(Drop)]
 pub enum Heard {
     /// A message came, and was served: what it told, and the call that followed it, if one did.
     Message { told: Told, sent: Option<SentCall> },
@@ -15,14 +15,14 @@ pub enum Heard {
 }
 
 /// A call that was sent to a point.
-#[derive(Clone, Copy, Debug, PartialEq, Eq)]
+#[derive(Clone, Copy, PartialEq, Eq)]
 pub struct SentCall {
     pub number: u64,
     pub action: ActionKind,
 }
 
 /// What a message told, for whoever watches its session.
-#[derive(Debug, Drop)]
+#[derive(Drop)]
 pub enum Told {
     /// A BootNotification: the point has begun anew.
     Boot,

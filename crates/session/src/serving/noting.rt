@@ -11,7 +11,7 @@ ghost use Rattle.session.specs.Noting.{AsksFor, IsEntryAt, IsEntryFor, IsNotable
 use crate::context::Context;
 use crate::outcome::{Outcome, Performed};
 use crate::world::World;
-use journal_writer::JournalFault;
+use journal_writer::{Journal, JournalFault};
 use ocpp_scalars::{Instant, Moments};
 use site_core::{Reply, Step};
 use site_journal::{Entry, Noted, noted_by, noted_steps_are_restored, number_drawn};

@@ -28,7 +28,7 @@ use chronicle::ChronicleName;
 use compile_pool::{answer_job, answer_unmade, wait_answer};
 use journal_writer::JournalFault;
 use meaning::Ask;
-use ocpp_scalars::{Instant, Refusal};
+use ocpp_scalars::{Instant, Moments, Refusal};
 use site_core::Step;
 use site_journal::Entry;
 use texts::SentText;

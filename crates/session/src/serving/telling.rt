@@ -8,7 +8,7 @@ use std::alloc::Global;
 use texts::rejection_in;
 
 /// What a message is about, as far as its step says that.
-#[derive(Clone, Copy, Debug, PartialEq, Eq)]
+#[derive(Clone, Copy, PartialEq, Eq)]
 pub(crate) enum Subject {
     Boot,
     /// It is a reply to the call of this number, and accepts it or doesn't.
