@@ -22,7 +22,7 @@ pub trait BootKeeper {
 
 /// Begins the thread that keeps the boots of points, each time that they change. No session waits for
 /// it. It goes on when this returns, for as long as the program runs.
-pub fn begin_boots<W: SeatWorld, K: BootKeeper + Send + Drop + 'static>(
+pub fn begin_boots<W: SeatWorld + 'static, K: BootKeeper + Send + Drop + 'static>(
     context: &Arc<SeatContext<W>, Global>,
     keeper: K,
 ) -> Result<(), ServeFault> {

@@ -74,7 +74,7 @@ impl<C: Ledger, A: Ledger, N: ChronicleName> SeatedBook<C, A, N> {
 /// and serves one connection after another. Workers on other threads compile. It goes on when this
 /// returns, for as long as the program runs. Returns how many seats there are: fewer where a thread
 /// couldn't be made, and one at least.
-pub fn run_seats<W: SeatWorld>(
+pub fn run_seats<W: SeatWorld + 'static>(
     context: &Arc<SeatContext<W>, Global>,
     listener: TcpListener,
     passes: Vec<Pass<W::Changes, W::Answers>>,
@@ -109,7 +109,9 @@ pub fn run_seats<W: SeatWorld>(
 }
 
 /// Begins the thread that writes lines for people to standard error.
-fn begin_writer<W: SeatWorld>(context: &Arc<SeatContext<W>, Global>) -> Result<(), ServeFault> {
+fn begin_writer<W: SeatWorld + 'static>(
+    context: &Arc<SeatContext<W>, Global>,
+) -> Result<(), ServeFault> {
     let own = Arc::try_clone(context)?;
     let writer = thread::Builder::new().spawn(&context.rt, move || own.notices.write_all(&own.rt));
     match writer {
@@ -119,7 +121,7 @@ fn begin_writer<W: SeatWorld>(context: &Arc<SeatContext<W>, Global>) -> Result<(
 }
 
 /// Begins a seat for each pass. Returns how many threads could be made for them.
-fn begin_seats<W: SeatWorld>(
+fn begin_seats<W: SeatWorld + 'static>(
     context: &Arc<SeatContext<W>, Global>,
     jobs: &JobSenders,
     queue: &Receiver<TcpStream>,
@@ -139,7 +141,7 @@ fn begin_seats<W: SeatWorld>(
 }
 
 /// Begins a seat. False where no thread can be made for it.
-fn begin_seat<W: SeatWorld>(
+fn begin_seat<W: SeatWorld + 'static>(
     context: &Arc<SeatContext<W>, Global>,
     jobs: &JobSenders,
     queue: &Receiver<TcpStream>,

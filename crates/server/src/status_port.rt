@@ -70,7 +70,7 @@ impl<W: SeatWorld> StatusPort<W> {
 }
 
 /// Begins to answer at a status port. It goes on when this returns, for as long as the program runs.
-pub fn begin_status<W: SeatWorld>(
+pub fn begin_status<W: SeatWorld + 'static>(
     port: &Arc<StatusPort<W>, Global>,
     listener: TcpListener,
 ) -> Result<(), ServeFault> {

@@ -41,7 +41,7 @@ impl JobSenders {
 /// Begins the workers on threads of their own. Half of them take short jobs, and half of them long
 /// ones: one at least takes each. Where no thread can be made nobody takes the jobs, and sessions
 /// compile themselves.
-pub(crate) fn begin_workers<W: SeatWorld>(
+pub(crate) fn begin_workers<W: SeatWorld + 'static>(
     context: &Arc<SeatContext<W>, Global>,
     workers: usize,
 ) -> Result<JobSenders, ServeFault>
@@ -56,7 +56,7 @@ pub(crate) fn begin_workers<W: SeatWorld>(
 }
 
 /// Begins so many workers that take the same jobs, of which so many may wait. Returns the way to them.
-fn begin_pool<W: SeatWorld>(
+fn begin_pool<W: SeatWorld + 'static>(
     context: &Arc<SeatContext<W>, Global>,
     workers: usize,
     most_waiting: usize,

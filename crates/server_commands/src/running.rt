@@ -236,7 +236,7 @@ fn run_counted<
 }
 
 /// Begins to tell how the site is, where that is wanted. It is told that it is being restored, too.
-fn begin_port<W: SeatWorld<Runtime: AllocGlobal>>(
+fn begin_port<W: SeatWorld<Runtime: AllocGlobal> + 'static>(
     rt: &W::Runtime,
     status: Option<TcpListener>,
     address: Option<&str>,
@@ -285,7 +285,7 @@ fn begin_lines<
 }
 
 /// Goes on with the boots that the folder keeps, and begins to keep those that come.
-fn keep_boots<W: SeatWorld>(
+fn keep_boots<W: SeatWorld + 'static>(
     context: &Arc<SeatContext<W>, Global>,
     kept: KeptBoots,
 ) -> Result<(), ProgramFault> {
