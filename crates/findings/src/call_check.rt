@@ -1,7 +1,6 @@
 //! What is wrong with a CALL that a line of a script brings.
 
 use crate::field_fault::field_fault_message;
-use crate::finding::FaultName;
 use crate::json_outline::outline_of;
 use crate::line_hints::point_hint;
 use crate::line_text::{LineText, Sender};
@@ -72,7 +71,7 @@ pub(crate) fn refuse_action(
             "NotImplemented: \"{action}\" is no action of {sender} that is known here"
         )?,
     };
-    report.fault(FaultName::Call(CallFault::NotImplemented), message)
+    report.fault(message)
 }
 
 /// The names of a side's actions.
@@ -101,7 +100,7 @@ fn check_action(
         Err(CallFault::Refused(Refusal::OutOfMemory)) => Err(AllocError),
         Err(fault) => {
             let message = field_fault_message(alloc, call.payload, kind, fault)?;
-            report.fault(FaultName::Call(fault), message)?;
+            report.fault(message)?;
             if kind.side().is_same(Side::Operator) {
                 warn_unknown(report, call.text.frame, kind)?;
             }
@@ -154,14 +153,14 @@ fn check_asked(
 /// in it.
 fn check_refused(report: &mut Report, text: &LineText<'_>) -> Result<(), AllocError> {
     match text.refusal() {
-        Some((Refusal::UnknownPoint, name)) => {
+        Some(Refusal::UnknownPoint) => {
             let message = unknown_point_message(report, text.site, text.point)?;
-            report.fault(name, message)
+            report.fault(message)
         }
-        Some((refusal, name)) if !depends_on_state(refusal) => {
+        Some(refusal) if !depends_on_state(refusal) => {
             let why = sentence(refusal);
             let message = format!(in report.alloc; "{refusal}: {why}")?;
-            report.fault(name, message)
+            report.fault(message)
         }
         _ => Ok(()),
     }
@@ -233,7 +232,7 @@ fn check_clear(
     if site.place_of(call.text.point).is_none() {
         let fault = CallFault::Refused(Refusal::UnknownPoint);
         let message = unknown_point_message(report, site, call.text.point)?;
-        report.fault(FaultName::Call(fault), message)?;
+        report.fault(message)?;
     }
     let unknown = unknown_fields(alloc, call.text.frame, ActionKind::ClearChargingProfile)?;
     warn_of_clear(report, call.payload, criteria, &unknown)
@@ -359,7 +358,7 @@ fn check_ask(
         Some(refusal) if depends_on_state(refusal) => Ok(()),
         Some(Refusal::UnknownPoint) => {
             let message = unknown_point_message(report, text.site, text.point)?;
-            report.fault(FaultName::Rejected(Refusal::UnknownPoint), message)
+            report.fault(message)
         }
         Some(refusal) => {
             let found = ask_found(report.alloc, text, request, refusal)?;
@@ -428,7 +427,7 @@ pub(crate) fn reject(
         Some(found) => format!(in report.alloc; "{name}: {why}: {found}")?,
         None => format!(in report.alloc; "{name}: {why}")?,
     };
-    report.fault(FaultName::Rejected(refusal), message)
+    report.fault(message)
 }
 
 /// A StartTransaction at a connector that the point lacks.
@@ -444,5 +443,5 @@ fn check_start(report: &mut Report, text: &LineText<'_>, connector: u32) -> Resu
         "UnknownConnector: a transaction is started at connector {connector}; the point has connectors 1 to {count}"
     )?;
     let fault = CallFault::Refused(Refusal::UnknownConnector);
-    report.fault(FaultName::Call(fault), message)
+    report.fault(message)
 }

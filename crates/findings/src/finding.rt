@@ -3,10 +3,6 @@
 ghost use Rattle.std.specs.Prelude.{◌≡◌};
 ghost use Rattle.findings.specs.ExitStatus.{exit_status, has_fault, has_warning};
 
-use messages::CallFault;
-use ocpp_scalars::Refusal;
-use replay::LineFault;
-use site_rules::SiteFault;
 use std::alloc::AllocError;
 use std::fmt;
 
@@ -36,35 +32,21 @@ pub enum Location {
     End(String),
 }
 
-/// What names a fault elsewhere: in the output of a replay, in an answer, or as the program stops.
-#[derive(Clone, Copy, PartialEq, Eq)]
-pub enum FaultName {
-    Site(SiteFault),
-    Line(LineFault),
-    /// The CALL is answered by a CALLERROR.
-    Call(CallFault),
-    /// The CALL is answered with `Rejected`.
-    Rejected(Refusal),
-}
-
 /// One thing that is wrong, or worth a look.
 #[derive(Drop)]
 pub struct Finding {
     pub severity: Severity,
     pub place: Location,
-    /// The name that the fault has elsewhere, if it has one.
-    pub name: Option<FaultName>,
     /// What was found and what is wanted, in one line.
     pub message: String,
 }
 
 impl Finding {
-    /// A fault that has a name elsewhere.
-    pub(crate) fn fault(place: Location, name: FaultName, message: String) -> Finding {
+    /// A fault.
+    pub(crate) fn fault(place: Location, message: String) -> Finding {
         Finding {
             severity: Severity::Fault,
             place,
-            name: Some(name),
             message,
         }
     }
@@ -74,7 +56,6 @@ impl Finding {
         Finding {
             severity: Severity::Warning,
             place,
-            name: None,
             message,
         }
     }
@@ -84,7 +65,6 @@ impl Finding {
         Finding {
             severity: Severity::Remark,
             place,
-            name: None,
             message,
         }
     }

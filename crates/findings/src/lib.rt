@@ -45,7 +45,7 @@ mod zone_check;
 
 pub use boot_check::check_boot;
 pub use change_check::{RowChange, check_change, takes_place_of};
-pub use finding::{FaultName, Finding, Location, Severity, exit_status, has_fault, sort_by_line};
+pub use finding::{Finding, Location, Severity, exit_status, has_fault, sort_by_line};
 pub use fuse_check::{check_fuse, check_raise, check_unlimited, fuse_limit};
 pub use never::{NeverRated, never_rated};
 pub use printed_check::check_printed;

@@ -1,7 +1,6 @@
 //! The message that a line of a script brings, as it is checked.
 
 use crate::audit_check::JudgedAudit;
-use crate::finding::FaultName;
 use messages::{CallFault, Response, Side};
 use ocpp_scalars::{Instant, Refusal};
 use replay::{PlayedLine, PointChange, PrintedLine};
@@ -101,21 +100,15 @@ impl<'a> LineText<'a> {
         None
     }
 
-    /// Why the message is refused, if it is, and how its answer names that.
-    pub(crate) fn refusal(&self) -> Option<(Refusal, FaultName)> {
+    /// Why the message is refused, if it is.
+    pub(crate) fn refusal(&self) -> Option<Refusal> {
         for line in self.printed {
             let PrintedLine::Answer { response, .. } = line else {
                 continue;
             };
-            match response {
-                Response::Rejected(refusal) => {
-                    return Some((*refusal, FaultName::Rejected(*refusal)));
-                }
-                Response::Error(CallFault::Refused(refusal)) => {
-                    let name = FaultName::Call(CallFault::Refused(*refusal));
-                    return Some((*refusal, name));
-                }
-                _ => {}
+            if let Response::Rejected(refusal) | Response::Error(CallFault::Refused(refusal)) = response
+            {
+                return Some(*refusal);
             }
         }
         None

@@ -1,6 +1,6 @@
 //! What a replay prints at a line, where only the state of the point by then can tell it.
 
-use crate::finding::{FaultName, Finding, Location};
+use crate::finding::{Finding, Location};
 use crate::sentences::sentence;
 use messages::{CallFault, Response};
 use ocpp_scalars::Refusal;
@@ -48,12 +48,8 @@ fn finding_of(
     response: &Response,
 ) -> Result<Option<Finding>, AllocError> {
     match response {
-        Response::Rejected(refusal) => {
-            refused(alloc, line, *refusal, FaultName::Rejected(*refusal))
-        }
-        Response::Error(CallFault::Refused(refusal)) => {
-            let name = FaultName::Call(CallFault::Refused(*refusal));
-            refused(alloc, line, *refusal, name)
+        Response::Rejected(refusal) | Response::Error(CallFault::Refused(refusal)) => {
+            refused(alloc, line, *refusal)
         }
         Response::Unknown => cleared_nothing(alloc, line),
         _ => Ok(None),
@@ -61,18 +57,13 @@ fn finding_of(
 }
 
 /// That a message is refused, if that depends on the point's state.
-fn refused(
-    alloc: Global,
-    line: u64,
-    refusal: Refusal,
-    name: FaultName,
-) -> Result<Option<Finding>, AllocError> {
+fn refused(alloc: Global, line: u64, refusal: Refusal) -> Result<Option<Finding>, AllocError> {
     if !depends_on_state(refusal) {
         return Ok(None);
     }
     let why = sentence(refusal);
     let message = format!(in alloc; "{refusal}: {why}")?;
-    Ok(Some(Finding::fault(Location::Line(line), name, message)))
+    Ok(Some(Finding::fault(Location::Line(line), message)))
 }
 
 /// A clear that matched nothing.

@@ -1,7 +1,6 @@
 //! What is wrong with an install, and what its profile does else than it says.
 
 use crate::call_check::{connector_found, point_of, reject, unit_found, unknown_point_message};
-use crate::finding::FaultName;
 use crate::line_text::LineText;
 use crate::never::never_rated;
 use crate::report::Report;
@@ -26,7 +25,7 @@ pub(crate) fn check_install(
     match admit(site, text.point, connector, &profile) {
         Err(Refusal::UnknownPoint) => {
             let message = unknown_point_message(report, site, text.point)?;
-            report.fault(FaultName::Rejected(Refusal::UnknownPoint), message)?;
+            report.fault(message)?;
         }
         Err(refusal) => {
             let found = place_found(report.alloc, site, text, connector, refusal)?;

@@ -1,7 +1,6 @@
 //! What is wrong with a remote start, and what becomes of the one that waits.
 
 use crate::call_check::{connector_count, reject, unit_found, unknown_point_message};
-use crate::finding::FaultName;
 use crate::line_text::LineText;
 use crate::printed_check::depends_on_state;
 use crate::profile_check::{check_parts, warn_ceiling_at, warn_never_rated, warn_rates};
@@ -86,7 +85,7 @@ fn refuse_start(
     match (refusal, purpose) {
         (Refusal::UnknownPoint, _) => {
             let message = unknown_point_message(report, text.site, text.point)?;
-            report.fault(FaultName::Rejected(Refusal::UnknownPoint), message)
+            report.fault(message)
         }
         (Refusal::UnknownConnector, _) => {
             let count = connector_count(text);

@@ -1,6 +1,6 @@
 //! The findings in a script, gathered line by line.
 
-use crate::finding::{FaultName, Finding, Location};
+use crate::finding::{Finding, Location};
 use messages::purpose_name;
 use profile::Purpose;
 use std::alloc::{AllocError, Global};
@@ -48,9 +48,9 @@ impl Report {
     }
 
     /// A fault in this line.
-    pub(crate) fn fault(&mut self, name: FaultName, message: String) -> Result<(), AllocError> {
+    pub(crate) fn fault(&mut self, message: String) -> Result<(), AllocError> {
         let place = Location::Line(self.line);
-        self.findings.push(Finding::fault(place, name, message))?;
+        self.findings.push(Finding::fault(place, message))?;
         Ok(())
     }
 

@@ -1,7 +1,7 @@
 //! What is wrong with a script, as far as each of its messages says it.
 
 use crate::audit_check::judged_audit;
-use crate::finding::{FaultName, Finding};
+use crate::finding::Finding;
 use crate::line_hints::mistake_message;
 use crate::line_text::LineText;
 use crate::remote_start_check::check_ended_start;
@@ -99,7 +99,7 @@ impl ScriptCheck {
             }
             Some(Err(fault)) => {
                 let message = mistake_message(report, site, played.line, *fault)?;
-                report.fault(FaultName::Line(*fault), message)
+                report.fault(message)
             }
         }
     }
@@ -132,5 +132,5 @@ fn unknown_request(report: &mut Report, number: u64) -> Result<(), AllocError> {
     let message = format!(in report.alloc;
         "UnknownRequest: release {number}: {sentence}; a hold line that takes one prints its number"
     )?;
-    report.fault(FaultName::Line(LineFault::UnknownRequest), message)
+    report.fault(message)
 }

@@ -9,7 +9,7 @@ use crate::call_check::{
     warn_unknown,
 };
 use crate::field_fault::field_fault_message;
-use crate::finding::{FaultName, Finding};
+use crate::finding::Finding;
 use crate::json_fault::json_fault_text;
 use crate::profile_check::check_sent_profile;
 use crate::remote_start_check::check_sent_start;
@@ -177,7 +177,7 @@ fn check_fault(
         return Err(AllocError);
     }
     let message = field_fault_message(report.alloc, payload, kind, fault)?;
-    report.fault(FaultName::Call(fault), message)?;
+    report.fault(message)?;
     warn_unknown(report, text, kind)
 }
 

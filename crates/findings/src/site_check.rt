@@ -1,7 +1,7 @@
 //! All that is wrong with a site file.
 
 use crate::broken_json::first_break;
-use crate::finding::{FaultName, Finding, Location};
+use crate::finding::{Finding, Location};
 use crate::found::{ExpectedField, Glance, field_message, message_of, what_stands};
 use crate::json_fault::json_fault_text;
 use crate::site_fields::{SiteNames, site_names};
@@ -57,7 +57,7 @@ fn not_utf8(alloc: Global, offset: usize) -> Result<Finding, AllocError> {
 
 /// A fault of the file that is no point's.
 fn site_fault(fault: SiteFault, message: String) -> Finding {
-    Finding::fault(Location::File, FaultName::Site(fault), message)
+    Finding::fault(Location::File, message)
 }
 
 /// Checks a site file that is UTF-8.
@@ -96,7 +96,7 @@ fn not_json(alloc: Global, text: &str) -> Result<Finding, AllocError> {
     let fault = first_break(alloc, text)?;
     let place = place_in_text(text, fault.offset);
     let message = json_fault_text(alloc, &fault)?;
-    Ok(Finding::fault(place, FaultName::Site(SiteFault::NotJson), message))
+    Ok(Finding::fault(place, message))
 }
 
 /// All faults of a site file that is JSON, from its marked text, and the remarks on its points.

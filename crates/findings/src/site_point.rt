@@ -2,7 +2,7 @@
 
 ghost use Rattle.std.specs.Prelude.{◌<◌, OnOk, length};
 
-use crate::finding::{FaultName, Finding, Location};
+use crate::finding::{Finding, Location};
 use crate::found::{ExpectedField, Glance, LIMIT, field_message, message_of, what_stands};
 use crate::site_fields::SiteNames;
 use crate::site_parts::{PartFault, glance_from, read_glance};
@@ -183,7 +183,7 @@ fn add_fault(
     message: String,
 ) -> Result<(), AllocError> {
     let place = point.place(points.alloc)?;
-    points.add(Finding::fault(place, FaultName::Site(fault), message))
+    points.add(Finding::fault(place, message))
 }
 
 fn check_id(

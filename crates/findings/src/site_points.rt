@@ -2,7 +2,7 @@
 
 ghost use Rattle.std.specs.Prelude.{◌<◌, OnOk, length};
 
-use crate::finding::{FaultName, Finding, Location};
+use crate::finding::{Finding, Location};
 use crate::found::{Glance, message_of, what_stands};
 use crate::site_fields::SiteNames;
 use crate::site_parts::{PartFault, glance_from, read_glance};
@@ -142,6 +142,6 @@ fn check_entry(
         "an object with id, ceiling and connectors",
     )?;
     let place = Location::Point { index, id: None };
-    points.add(Finding::fault(place, FaultName::Site(SiteFault::BadPoints), message))?;
+    points.add(Finding::fault(place, message))?;
     Ok(())
 }

@@ -3,7 +3,6 @@
 use crate::audit_check::check_verdict;
 use crate::broken_json::first_break;
 use crate::call_check::{Call, check_call};
-use crate::finding::FaultName;
 use crate::json_fault::{JsonFault, json_fault_text};
 use crate::line_text::{LineText, Sender};
 use crate::remote_start_check::warn_not_started;
@@ -159,7 +158,7 @@ pub(crate) fn not_composite(
     let rule = line_sentence(fault);
     let frame = excerpt(report.alloc, text.frame)?;
     let message = format!(in report.alloc; "{fault}: {rule}, and {why}: {frame}")?;
-    report.fault(FaultName::Line(fault), message)
+    report.fault(message)
 }
 
 /// A CALL whose action is no string or whose payload is no object.
@@ -170,7 +169,7 @@ fn check_malformed(report: &mut Report, text: &LineText<'_>) -> Result<(), Alloc
     let sentence = call_sentence(CallFault::FormationViolation);
     let frame = excerpt(report.alloc, text.frame)?;
     let message = format!(in report.alloc; "FormationViolation: {sentence}: {frame}")?;
-    report.fault(FaultName::Call(CallFault::FormationViolation), message)
+    report.fault(message)
 }
 
 /// A frame that is no message.

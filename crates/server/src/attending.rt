@@ -2,8 +2,6 @@
 
 ghost use Rattle.session.specs.Serving.{KeepsPass};
 
-use crate::incoming_stream::IncomingStream;
-use crate::seat_world::SeatWorld;
 use crate::session_watch::SessionWatch;
 use bytes::Bytes;
 use journal_writer::Journal;
@@ -11,6 +9,7 @@ use ocpp_scalars::Moments;
 use server_core::{
     LONGEST_SILENCE, Pace, SILENCE_BEFORE_CALL, SILENCE_BEFORE_PING, TICK, seconds_since,
 };
+use server_ports::{IncomingStream, SeatWorld};
 use session::{Context, Ended, Heard, SentCall, SessionCore, WatchedSocket, send_call, serve_next};
 use std::rt::Clock;
 use std::sync::Wait;

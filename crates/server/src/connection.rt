@@ -2,14 +2,13 @@
 
 ghost use Rattle.session.specs.Serving.{KeepsPass};
 
-use crate::entry::Entry;
-use crate::handshake::{ClientRequest, shake_hands};
-use crate::path::{PathPeer, peer_of_path};
-use session::{Context, SessionCore, World, serve_session};
+use server_ports::{ClientRequest, Entry, PathPeer, peer_of_path, shake_hands};
+use session::{Context, SessionCore, serve_session};
 use std::alloc::AllocError;
 use std::io::{Read, Write};
 use tungstenite::{CloseCode, CloseFrame, NoMask, Utf8Bytes, WebSocket};
 use version_store::Pass;
+use world::World;
 
 /// Serves a connection from its handshake until it ends. Gives back the pass, which counts no less
 /// than before.

@@ -3,7 +3,7 @@
 ghost use Rattle.std.specs.Prelude.{◌≡◌, ◌≤◌, IfOk, length, vec_len, vec_capacity};
 
 use crate::connection::serve_connection;
-use crate::seat_world::SharedWorld;
+use server_ports::SharedWorld;
 use session::Context;
 use std::alloc::AllocError;
 use std::net::TcpListener;

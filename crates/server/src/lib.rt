@@ -3,34 +3,18 @@
 //! ends after a number of connections; `run_seats` goes on, with so many at a time.
 #![tactic(auto)]
 
-mod accepting;
-mod arrivals;
 mod attending;
-mod boot_keeper;
 mod connection;
 mod connections;
-mod entry;
-mod handshake;
-mod incoming_stream;
-mod own_host;
-mod path;
-mod request_words;
 mod seat;
-mod seat_context;
-mod seat_world;
 mod seats;
 mod serving;
 mod session_watch;
-mod status_port;
-mod status_service;
-mod workers;
 
-pub use boot_keeper::{BootKeeper, begin_boots};
-pub use own_host::is_own_host;
-pub use path::{PathPeer, peer_of_path};
 pub use seat::keep_seat;
-pub use seat_context::{SeatContext, SeatOptions};
-pub use seat_world::SeatWorld;
 pub use seats::{MAX_SEATS, SeatedBook, run_seats};
-pub use serving::{MAX_SESSIONS, MAX_WORKERS, ServeFault, serve};
-pub use status_port::{StatusPort, begin_status};
+pub use server_ports::{
+    BootKeeper, PathPeer, SeatContext, SeatOptions, SeatWorld, ServeFault, StatusPort, begin_boots,
+    begin_status, is_own_host, peer_of_path,
+};
+pub use serving::{MAX_SESSIONS, MAX_WORKERS, serve};

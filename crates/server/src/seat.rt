@@ -2,18 +2,16 @@
 
 ghost use Rattle.session.specs.Serving.{KeepsPass};
 
-use crate::arrivals::{note_operator, note_unknown, note_unshaken};
 use crate::attending::attend_session;
 use crate::connection::{Admitted, admit, close_at_once};
-use crate::entry::Entry;
-use crate::handshake::{ClientRequest, Unshaken, shake_hands};
-use crate::incoming_stream::IncomingStream;
-use crate::seat_context::SeatContext;
-use crate::seat_world::SeatWorld;
 use crate::session_watch::SessionWatch;
 use compile_pool::Jobs;
 use crossbeam_channel::Receiver;
 use journal_writer::Journal;
+use server_ports::{
+    ClientRequest, Entry, IncomingStream, SeatContext, SeatWorld, Unshaken, note_operator,
+    note_unknown, note_unshaken, shake_hands,
+};
 use session::{Context, Peer, attach_session, end_session};
 use std::alloc::{AllocError, Global};
 use std::marker::Sync;

@@ -2,14 +2,12 @@
 
 ghost use Rattle.std.specs.Prelude.{◌≡◌, ◌≤◌, ◌+◌, true, IfOk, length};
 
-use crate::accepting::accept_connections;
 use crate::seat::keep_seat;
-use crate::seat_context::SeatContext;
-use crate::seat_world::SeatWorld;
-use crate::serving::ServeFault;
-use crate::workers::{JobSenders, begin_workers};
 use chronicle::{ChronicleName, Unnamed};
 use crossbeam_channel::{Receiver, bounded};
+use server_ports::{
+    JobSenders, SeatContext, SeatWorld, ServeFault, accept_connections, begin_workers,
+};
 use site_rules::Site;
 use std::alloc::{AllocError, Global};
 use std::net::{TcpListener, TcpStream};

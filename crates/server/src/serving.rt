@@ -7,7 +7,8 @@ use compile_pool::{MAX_JOBS, Open, run_pool};
 use crossbeam_channel::bounded;
 use journal_writer::NoJournal;
 use ocpp_scalars::Moments;
-use session::{Context, Unrecorded};
+use server_ports::ServeFault;
+use session::Context;
 use site_rules::Site;
 use std::alloc::{AllocError, Global};
 use std::marker::{Brand, Send, Sync};
@@ -16,30 +17,14 @@ use std::sync::ledger::{Blank, Ledger};
 use std::sync::{Mutex, Wait};
 use std::thread;
 use std::thread::Threads;
-use thiserror::Error;
 use version_store::{Pass, Shared, Totals};
+use world::Unrecorded;
 
 /// The most workers.
 pub const MAX_WORKERS: usize = 8;
 
 /// The most connections in all.
 pub const MAX_SESSIONS: u64 = 64;
-
-/// Why the server didn't end well.
-#[derive(Clone, Copy, Debug, Error, PartialEq, Eq)]
-pub enum ServeFault {
-    /// A connection couldn't be accepted. Those before it were served to their end.
-    #[error("device: socket")]
-    Socket,
-    #[error("OutOfMemory")]
-    OutOfMemory,
-}
-
-impl From<AllocError> for ServeFault {
-    fn from(_: AllocError) -> ServeFault {
-        ServeFault::OutOfMemory
-    }
-}
 
 /// Serves a site: accepts N connections, each served on a thread of its own, and ends when all have
 /// ended. Workers on other threads compile. After the last one the listener is closed. Gives how

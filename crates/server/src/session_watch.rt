@@ -1,10 +1,9 @@
 //! What a session is seen to do: for the status of its site, and as lines for people.
 
-use crate::seat_context::SeatContext;
-use crate::seat_world::SeatWorld;
 use messages::ActionKind;
 use ocpp_scalars::{Instant, Moments};
 use server_core::{Rejected, Reply};
+use server_ports::{SeatContext, SeatWorld};
 use session::{Breach, Ended, SentCall, SessionCore, Told};
 use site_status::{Boot, CallNumbers, SentMoment, Sighting};
 use std::alloc::{AllocError, Global};

@@ -3,7 +3,6 @@
 use chronicle::ChronicleName;
 use data_folder::{JournalFile, SystemClock};
 use server::SeatWorld;
-use session::World;
 use std::alloc::AllocGlobal;
 use std::marker::{PhantomData, Send, Sync};
 use std::random::RandomSource;
@@ -11,6 +10,7 @@ use std::rt::Clock;
 use std::sync::Wait;
 use std::sync::ledger::Ledger;
 use std::thread::Threads;
+use world::World;
 
 /// A site whose changes and answers these ledgers count, whose states are recorded in this chronicle,
 /// and noted in a file.

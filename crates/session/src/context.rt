@@ -1,6 +1,5 @@
 //! What all sessions have at hand.
 
-use crate::world::{Unrecorded, World};
 use compile_pool::Jobs;
 use crossbeam_channel::Sender;
 use journal_writer::NoJournal;
@@ -9,6 +8,7 @@ use std::alloc::Global;
 use std::sync::ledger::Ledger;
 use std::sync::{Mutex, Wait};
 use version_store::{Job, Shared};
+use world::{Unrecorded, World};
 
 /// What all sessions have at hand, and lend to whatever serves one.
 #[derive(Drop)]

@@ -9,16 +9,14 @@ mod serving;
 mod session_core;
 mod step;
 mod todo;
-mod world;
 
 pub use context::Context;
 pub use outcome::{Outcome, Performed};
 pub use serving::{
-    Breach, Ended, Heard, SentCall, Served, Told, Watched, WatchedSocket, attach_session,
-    end_session, send_call, serve_next, serve_sent_text, serve_session, serve_socket,
+    Breach, Ended, Heard, SentCall, Served, Told, WatchedSocket, attach_session, end_session,
+    send_call, serve_next, serve_sent_text, serve_session, serve_socket,
 };
 pub use session_core::{Peer, SessionCore};
 pub use step::perform;
 pub use texts::{Asked, SentText, Unread, asked_of, hold_of, number_of, response_of};
 pub use todo::{Owed, Todo};
-pub use world::{Unrecorded, World};

@@ -17,7 +17,6 @@ mod watched_socket;
 
 use crate::context::Context;
 use crate::session_core::SessionCore;
-use crate::world::{Unrecorded, World};
 use calls::lose;
 pub use calls::{attach_session, send_call};
 use crossbeam_channel::Sender;
@@ -32,7 +31,8 @@ use std::sync::ledger::Ledger;
 use std::sync::{Mutex, Wait};
 use tungstenite::{MaskKeys, WebSocket};
 use version_store::{Job, Pass, Shared};
-pub use watched_socket::{Watched, WatchedSocket};
+pub use watched_socket::WatchedSocket;
+use world::{Unrecorded, World};
 
 /// Serves a session over its socket, after its handshake, until that is closed or fails. It makes
 /// the step of each message on the shared book, and answers it. A request for a schedule goes to

@@ -9,9 +9,7 @@ use crossbeam_channel::{Sender, bounded};
 use journal_writer::NoJournal;
 use ocpp_scalars::{Instant, Moments};
 use profile::Unit;
-use session::{
-    Context, Ended, Heard, SessionCore, Unrecorded, WatchedSocket, serve_next, serve_session,
-};
+use session::{Context, Ended, Heard, SessionCore, WatchedSocket, serve_next, serve_session};
 use site_core::PointId;
 use site_rules::read_site;
 use std::alloc::Global;
@@ -22,6 +20,7 @@ use std::sync::{Mutex, Wait};
 use test_books::{Words, instant_at};
 use tungstenite::{NoMask, Role, WebSocket};
 use version_store::{Job, Pass, Shared};
+use world::Unrecorded;
 
 /// A clock that tells one moment, or none.
 #[derive(Clone, Copy)]

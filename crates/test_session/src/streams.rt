@@ -1,6 +1,6 @@
 //! A server's end of a stream in memory, which fails, ends, or is looked at.
 
-use session::Watched;
+use world::Watched;
 use std::io::{self, ErrorKind, Read, Write};
 
 #[derive(Drop)]

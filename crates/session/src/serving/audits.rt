@@ -11,7 +11,6 @@ use crate::outcome::{Outcome, Performed};
 use crate::serving::ended::{Ended, ended_unsaved};
 use crate::serving::noting::note_made;
 use crate::serving::reading::read_reply;
-use crate::world::World;
 use chronicle::ChronicleName;
 use journal_writer::Journal;
 use meaning::Said;
@@ -23,6 +22,7 @@ use std::sync::ledger::Ledger;
 use sweep_compiler::{AuditJob, Judged, verdicts_are_computed};
 use texts::SentText;
 use version_store::Book;
+use world::World;
 
 /// An audit that has no verdict yet.
 #[derive(Drop)]

@@ -11,7 +11,6 @@ use crate::serving::heard::SentCall;
 use crate::serving::noting::{note_made, prepare_link};
 use crate::serving::sockets::{clear_to_leave, send_text};
 use crate::session_core::{Peer, SessionCore};
-use crate::world::World;
 use journal_writer::Journal;
 use messages::{Call, push_call};
 use ocpp_scalars::{Instant, Refusal};
@@ -21,6 +20,7 @@ use std::alloc::{AllocError, Global};
 use std::io::{Read, Write};
 use tungstenite::{MaskKeys, WebSocket};
 use version_store::{Pass, RecordedStates};
+use world::World;
 
 /// Gives a point's session its link, before its first message, and notes it. Without one it ends.
 pub fn attach_session<W: World>(

@@ -10,13 +10,13 @@ ghost use Rattle.session.specs.Noting.{AsksFor, IsEntryAt, IsEntryFor, IsNotable
 
 use crate::context::Context;
 use crate::outcome::{Outcome, Performed};
-use crate::world::World;
 use journal_writer::{Journal, JournalFault};
 use ocpp_scalars::{Instant, Moments};
 use site_core::{Reply, Step};
 use site_journal::{Entry, Noted, noted_by, noted_steps_are_restored, number_drawn};
 use texts::SentText;
 use version_store::{Book, RecordedStates};
+use world::World;
 
 /// Makes the entry of a message whose step may change something, or none. A request for a schedule
 /// or for a status changes nothing.

@@ -7,12 +7,12 @@ ghost use Rattle.texts.specs.Said.{said_of};
 use crate::context::Context;
 use crate::session_core::SessionCore;
 use crate::todo::Todo;
-use crate::world::World;
 use meaning::Said;
 use ocpp_scalars::{Instant, Refusal};
 use ocppj_frame::ReadingMemory;
 use std::alloc::AllocError;
 use texts::{SentText, said_of};
+use world::World;
 
 /// While a message of more bytes is read, no other such one is: that takes up to 150 times as much.
 const LONGEST_BESIDE_OTHERS: usize = 4_096;

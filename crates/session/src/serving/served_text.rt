@@ -23,7 +23,6 @@ use crate::serving::waiting::{Sending, Waiting};
 use crate::session_core::SessionCore;
 use crate::step::perform;
 use crate::todo::Todo;
-use crate::world::World;
 use chronicle::ChronicleName;
 use compile_pool::{answer_job, answer_unmade, wait_answer};
 use journal_writer::JournalFault;
@@ -33,6 +32,7 @@ use site_core::Step;
 use site_journal::Entry;
 use texts::SentText;
 use version_store::{Job, Pass, RecordedStates};
+use world::World;
 
 /// Waits for the next WebSocket message, and serves it if it is a text message. Where nothing comes
 /// for as long as the stream lets a read wait, says so. An error ends the session. The client of a

@@ -16,6 +16,7 @@ use std::sync::ledger::Ledger;
 use std::time::Duration;
 use tungstenite::{MaskKeys, WebSocket};
 use version_store::{Job, Shared};
+use world::Watched;
 
 /// After so many milliseconds the socket is looked at for the first time: most answers are there by
 /// then.
@@ -26,25 +27,6 @@ const NEXT_WAIT: u64 = 200;
 
 /// At most so many frames are read in a look, so that the answer doesn't wait for its client.
 const MOST_FRAMES: usize = 64;
-
-/// A stream that can be looked at: what has come is read, and more isn't waited for.
-pub trait Watched {
-    /// From now on a read waits for a moment at most. False where it can't.
-    fn begin_look(&mut self) -> bool {
-        false
-    }
-
-    /// Reads wait again as they did before. False where they can't.
-    fn end_look(&mut self) -> bool {
-        true
-    }
-
-    /// The message that came is whole.
-    fn end_message(&mut self) {}
-
-    /// A control frame came with so many bytes, perhaps within a message.
-    fn end_control(&mut self, _bytes: usize) {}
-}
 
 /// A socket that its session looks at while it waits for a schedule: its client's pings are answered,
 /// and it is noticed when that leaves. A message that comes meanwhile is kept, and is the next one;

@@ -13,7 +13,7 @@ const KEY_DIGITS: usize = 40;
 
 /// What is said of a request that is refused by this status: which path it asks for, and which user
 /// it gives. Nothing is said of its password.
-pub(crate) fn said_of(
+pub fn said_of(
     alloc: Global,
     status: StatusCode,
     request: &Request<()>,
@@ -26,7 +26,7 @@ pub(crate) fn said_of(
 }
 
 /// What is said of an operator's session: which path it asked for, and which user it gave.
-pub(crate) fn said_of_operator(
+pub fn said_of_operator(
     alloc: Global,
     path: &str,
     user: &Option<String>,
@@ -38,7 +38,7 @@ pub(crate) fn said_of_operator(
 }
 
 /// The user that a request gives, if it gives one.
-pub(crate) fn user_of(alloc: Global, request: &Request<()>) -> Result<Option<String>, AllocError> {
+pub fn user_of(alloc: Global, request: &Request<()>) -> Result<Option<String>, AllocError> {
     match request.headers().get(AUTHORIZATION) {
         Some(value) => user_in(alloc, value.as_bytes()),
         None => Ok(None),
@@ -46,7 +46,7 @@ pub(crate) fn user_of(alloc: Global, request: &Request<()>) -> Result<Option<Str
 }
 
 /// Appends a path, or its end where it is long: that names the point.
-pub(crate) fn push_path(said: &mut String, path: &str) -> Result<(), AllocError> {
+pub fn push_path(said: &mut String, path: &str) -> Result<(), AllocError> {
     let left_out = path.chars().count().saturating_sub(LONGEST_NAME);
     for character in path.chars().skip(left_out) {
         said.push(character)?;

@@ -2,8 +2,8 @@
 use Rattle.std.specs.Prelude.{ℕ, List}
 use Rattle.site_keys.specs.declared.role.Role.{Role}
 use Rattle.site_keys.specs.declared.role.Role.TheVariants as key
-use Rattle.server.specs.declared.path.PathPeer.{PathPeer}
-use Rattle.server.specs.declared.path.PathPeer.TheVariants as path
+use Rattle.server_ports.specs.declared.path.PathPeer.{PathPeer}
+use Rattle.server_ports.specs.declared.path.PathPeer.TheVariants as path
 
 abbrev pub role_of : PathPeer → Role
 role_of (path.Operator id) = key.Operator

@@ -17,8 +17,8 @@ use std::alloc::{AllocError, Global};
 
 /// Answers the requests of a status port.
 #[derive(Drop)]
-pub(crate) struct StatusService<'a, W: SeatWorld> {
-    pub(crate) port: &'a StatusPort<W>,
+pub struct StatusService<'a, W: SeatWorld> {
+    pub port: &'a StatusPort<W>,
 }
 
 impl<W: SeatWorld> Service for StatusService<'_, W> {

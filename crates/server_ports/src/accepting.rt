@@ -28,7 +28,7 @@ const NO_SEAT: &[u8] =
 
 /// Accepts connections for ever, and sends each to a free seat. Where none is free, it is answered
 /// so and closed.
-pub(crate) fn accept_connections<W: SeatWorld>(
+pub fn accept_connections<W: SeatWorld>(
     seats: &SeatContext<W>,
     listener: &TcpListener,
     streams: &Sender<TcpStream>,

@@ -2,7 +2,7 @@
 
 ghost use Rattle.std.specs.Prelude.{◌≡◌, ◌↔◌, List, ℕ, None, IfOk, option_copied};
 ghost use Rattle.site_keys.specs.Admission.{IsAdmittedAs, MayCome};
-ghost use Rattle.server.specs.PathRole.{identity_of, role_of};
+ghost use Rattle.server_ports.specs.PathRole.{identity_of, role_of};
 
 use crate::own_host::is_for_this_machine;
 use crate::path::{PathPeer, peer_of_path};
@@ -14,11 +14,11 @@ use std::alloc::{AllocError, Global};
 const ORIGIN: &str = "origin";
 
 /// Has a user and a password (RFC 7617).
-pub(crate) const AUTHORIZATION: &str = "authorization";
+pub const AUTHORIZATION: &str = "authorization";
 
 /// Whom a server lets in.
 #[derive(Clone, Copy)]
-pub(crate) enum Entry<'a> {
+pub enum Entry<'a> {
     /// Whoever comes.
     Open,
     /// No web page. Where there are keys, only whom they let come; else whoever asks for this machine,
@@ -32,7 +32,7 @@ pub(crate) enum Entry<'a> {
 impl Entry<'_> {
     /// The status that refuses a request (RFC 9110, sections 15.5.2, 15.5.4 and 15.5.20), or None where
     /// it is let in.
-    pub(crate) fn refusal(
+    pub fn refusal(
         self,
         alloc: Global,
         request: &Request<()>,

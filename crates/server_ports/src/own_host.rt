@@ -11,7 +11,7 @@ const LOCALHOST: &str = "localhost";
 
 /// Whether a request with these headers is for this machine, where this address is listened at.
 /// Without a field for it, it is no browser's.
-pub(crate) fn is_for_this_machine(headers: &HeaderMap<HeaderValue>, address: &str) -> bool {
+pub fn is_for_this_machine(headers: &HeaderMap<HeaderValue>, address: &str) -> bool {
     headers
         .get_all(HOST)
         .into_iter()

@@ -1,5 +1,5 @@
 -- Nobody is refused but who isn't admitted.
-use Rattle.server.proofs.entry.refusal_by_keys.Goals as goal
+use Rattle.server_ports.proofs.entry.refusal_by_keys.Goals as goal
 
 pub returns : goal.returns
 returns c =

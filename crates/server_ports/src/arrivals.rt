@@ -9,7 +9,7 @@ use std::net::SocketAddr;
 
 /// Says that a connection wasn't let in. One that failed by itself, as a probe of the port does, is
 /// none of these.
-pub(crate) fn note_unshaken<W: SeatWorld>(
+pub fn note_unshaken<W: SeatWorld>(
     seats: &SeatContext<W>,
     unshaken: Unshaken,
     from: Option<SocketAddr>,
@@ -21,7 +21,7 @@ pub(crate) fn note_unshaken<W: SeatWorld>(
 
 /// Says that a connection was closed since the site has no point of its path, or since its client
 /// didn't offer OCPP 1.6.
-pub(crate) fn note_unknown<W: SeatWorld>(
+pub fn note_unknown<W: SeatWorld>(
     seats: &SeatContext<W>,
     asked: &ClientRequest,
     from: Option<SocketAddr>,
@@ -33,7 +33,7 @@ pub(crate) fn note_unknown<W: SeatWorld>(
 
 /// Says that an operator has come, from where and as whom: what is in the journal by then tells no
 /// more than that it was an operator.
-pub(crate) fn note_operator<W: SeatWorld>(
+pub fn note_operator<W: SeatWorld>(
     seats: &SeatContext<W>,
     asked: &ClientRequest,
     from: Option<SocketAddr>,

@@ -15,13 +15,13 @@ const OCPP_16: &str = "ocpp1.6";
 
 /// What a client asked for in its handshake.
 #[derive(Drop)]
-pub(crate) struct ClientRequest {
+pub struct ClientRequest {
     /// The path of its URL, without the query.
-    pub(crate) path: String,
+    pub path: String,
     /// Whether it offered OCPP 1.6 among its subprotocols.
-    pub(crate) offers_ocpp: bool,
+    pub offers_ocpp: bool,
     /// The user that it gave, if it gave one.
-    pub(crate) user: Option<String>,
+    pub user: Option<String>,
 }
 
 /// What a client without a right key is asked for (RFC 7617).
@@ -39,7 +39,7 @@ struct Reading<'a> {
 
 /// Why there is no session for a connection.
 #[derive(Drop)]
-pub(crate) enum Unshaken {
+pub enum Unshaken {
     /// Its request was refused, of which this is said.
     Refused(Result<String, AllocError>),
     /// It wasn't whole in time, or malformed, or memory ran out.
@@ -133,7 +133,7 @@ fn refusal(alloc: Global, status: StatusCode) -> ErrorResponse {
 }
 
 /// Shakes hands with a client, if it is let in.
-pub(crate) fn shake_hands<S: Read + Write + Drop>(
+pub fn shake_hands<S: Read + Write + Drop>(
     alloc: Global,
     entry: Entry<'_>,
     stream: S,

@@ -8,7 +8,6 @@ use server_core::{
     LONGEST_HANDSHAKE, LONGEST_MESSAGE, LONGEST_WRITE, LongMessages, Place, SharedStream, TICK,
     seconds_since, shut,
 };
-use session::Watched;
 use std::alloc::Global;
 use std::io::{ErrorKind, Read, Write};
 use std::net::TcpStream;
@@ -16,6 +15,7 @@ use std::rt::Clock;
 use std::sync::{Arc, Wait};
 use std::time::{Duration, Instant};
 use std::{io, thread};
+use world::Watched;
 
 /// A message of so many bytes needs no place of its own.
 const LONGEST_WITHOUT_PLACE: usize = 65_536;
@@ -37,7 +37,7 @@ const MOST_SIGNALS: u32 = 1_000;
 /// so that nobody holds it up by a byte now and then. With its first long message it takes one of the
 /// places that all connections share, and keeps that, since what the message took in memory is kept.
 #[derive(Drop)]
-pub(crate) struct IncomingStream<'a, R> {
+pub struct IncomingStream<'a, R> {
     rt: &'a R,
     stream: SharedStream,
     places: &'a LongMessages,
@@ -65,7 +65,7 @@ struct Unfinished {
 
 impl<'a, R: Clock + Wait> IncomingStream<'a, R> {
     /// A connection whose handshake begins now. None where the system can't bound it.
-    pub(crate) fn new(
+    pub fn new(
         rt: &'a R,
         alloc: Global,
         places: &'a LongMessages,
@@ -94,7 +94,7 @@ impl<'a, R: Clock + Wait> IncomingStream<'a, R> {
 
     /// Its handshake is whole: from now on a read waits for a tick. False where the system doesn't
     /// let it.
-    pub(crate) fn end_handshake(&mut self) -> bool {
+    pub fn end_handshake(&mut self) -> bool {
         self.handshake = None;
         self.unfinished = None;
         let tick = Duration::from_secs(TICK);
@@ -103,28 +103,28 @@ impl<'a, R: Clock + Wait> IncomingStream<'a, R> {
 
     /// Whether it is to end: it has a place that another connection waits for, and no message that it
     /// has begun.
-    pub(crate) fn is_in_the_way(&self) -> bool {
+    pub fn is_in_the_way(&self) -> bool {
         self.place == Place::Taken && self.unfinished.is_none() && self.places.are_wanted(self.rt)
     }
 
     /// Whether its client sends faster than it is served, as far as the last read told.
-    pub(crate) fn is_ahead(&self) -> bool {
+    pub fn is_ahead(&self) -> bool {
         self.is_ahead
     }
 
     /// The connection ends: its place is free again.
-    pub(crate) fn end(&mut self) {
+    pub fn end(&mut self) {
         self.places.leave(self.rt, self.place);
         self.place = Place::Unasked;
     }
 
     /// For how many seconds nothing has come.
-    pub(crate) fn silence(&self) -> u64 {
+    pub fn silence(&self) -> u64 {
         seconds_since(self.rt, self.heard)
     }
 
     /// A share of the stream, by which another thread may shut it.
-    pub(crate) fn share(&self) -> Option<SharedStream> {
+    pub fn share(&self) -> Option<SharedStream> {
         Arc::try_clone(&self.stream).ok()
     }
 

@@ -2,7 +2,7 @@
 
 use crate::seat_context::SeatContext;
 use crate::seat_world::SeatWorld;
-use crate::serving::ServeFault;
+use crate::serve_fault::ServeFault;
 use site_rules::Site;
 use site_status::{Boot, BootLine, push_boot_line};
 use std::alloc::{AllocError, Global};

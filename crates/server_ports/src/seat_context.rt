@@ -28,21 +28,21 @@ pub struct SeatOptions {
 /// What all threads share that serve a site.
 #[derive(Drop)]
 pub struct SeatContext<W: SeatWorld> {
-    pub(crate) rt: W::Runtime,
-    pub(crate) alloc: Global,
-    pub(crate) shared: Arc<Shared<W::Changes, W::Answers, W::Name>, Global>,
-    pub(crate) clock: W::Clock,
-    pub(crate) journal: W::Journal,
-    pub(crate) present: PresentStreams,
-    pub(crate) free: FreeSeats,
-    pub(crate) long_messages: LongMessages,
-    pub(crate) handshakes: UnfinishedHandshakes,
-    pub(crate) watch: SiteWatch,
-    pub(crate) notices: Notices,
-    pub(crate) options: SeatOptions,
-    pub(crate) ahead: AheadClients,
+    pub rt: W::Runtime,
+    pub alloc: Global,
+    pub shared: Arc<Shared<W::Changes, W::Answers, W::Name>, Global>,
+    pub clock: W::Clock,
+    pub journal: W::Journal,
+    pub present: PresentStreams,
+    pub free: FreeSeats,
+    pub long_messages: LongMessages,
+    pub handshakes: UnfinishedHandshakes,
+    pub watch: SiteWatch,
+    pub notices: Notices,
+    pub options: SeatOptions,
+    pub ahead: AheadClients,
     /// Whoever reads a long message has this.
-    pub(crate) reading: Mutex<()>,
+    pub reading: Mutex<()>,
 }
 
 impl<W: SeatWorld> SeatContext<W> {

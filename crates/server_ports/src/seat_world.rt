@@ -1,7 +1,6 @@
 //! Worlds whose sessions are served on threads.
 
 use ocpp_scalars::Moments;
-use session::{Unrecorded, World};
 use site_status::WatchedJournal;
 use std::marker::{Send, Sync};
 use std::random::RandomSource;
@@ -9,6 +8,7 @@ use std::rt::Clock;
 use std::sync::Wait;
 use std::sync::ledger::Ledger;
 use std::thread::Threads;
+use world::{Unrecorded, World};
 
 /// A world that threads share.
 pub trait SharedWorld: World<

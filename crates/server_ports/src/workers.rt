@@ -4,7 +4,7 @@ ghost use Rattle.std.specs.Prelude.{◌≡◌, ◌≤◌, ◌+◌, ◌/◌};
 
 use crate::seat_context::SeatContext;
 use crate::seat_world::SeatWorld;
-use crate::serving::ServeFault;
+use crate::serve_fault::ServeFault;
 use compile_pool::{Jobs, MAX_JOBS, Open, run_pool};
 use crossbeam_channel::{Sender, bounded};
 use std::alloc::{AllocError, Global};
@@ -18,14 +18,14 @@ const MAX_LONG_JOBS: usize = MAX_JOBS / 2;
 
 /// The ways to the workers: those of short jobs, and those of long ones.
 #[derive(Drop)]
-pub(crate) struct JobSenders {
+pub struct JobSenders {
     short: Sender<Job>,
     long: Sender<Job>,
 }
 
 impl JobSenders {
     /// The same ways, for another thread.
-    pub(crate) fn share(&self) -> Result<JobSenders, AllocError> {
+    pub fn share(&self) -> Result<JobSenders, AllocError> {
         Ok(JobSenders {
             short: self.short.clone()?,
             long: self.long.clone()?,
@@ -33,7 +33,7 @@ impl JobSenders {
     }
 
     /// The ways, for a session.
-    pub(crate) fn jobs(&self) -> Jobs<'_> {
+    pub fn jobs(&self) -> Jobs<'_> {
         Jobs::new(&self.short, &self.long)
     }
 }
@@ -41,7 +41,7 @@ impl JobSenders {
 /// Begins the workers on threads of their own. Half of them take short jobs, and half of them long
 /// ones: one at least takes each. Where no thread can be made nobody takes the jobs, and sessions
 /// compile themselves.
-pub(crate) fn begin_workers<W: SeatWorld + 'static>(
+pub fn begin_workers<W: SeatWorld + 'static>(
     context: &Arc<SeatContext<W>, Global>,
     workers: usize,
 ) -> Result<JobSenders, ServeFault>

@@ -2,7 +2,7 @@
 
 use crate::seat_context::SeatContext;
 use crate::seat_world::SeatWorld;
-use crate::serving::ServeFault;
+use crate::serve_fault::ServeFault;
 use crate::status_service::StatusService;
 use http_server::{Config, Connection, serve};
 use server_core::{LONGEST_STATUS, StatusStream};
@@ -28,17 +28,17 @@ const LONGEST_BODY: usize = 0;
 /// What the threads of a status port share.
 #[derive(Drop)]
 pub struct StatusPort<W: SeatWorld> {
-    pub(crate) rt: W::Runtime,
-    pub(crate) alloc: Global,
+    pub rt: W::Runtime,
+    pub alloc: Global,
     /// The address that is listened at, as it was given, where only requests for this machine are
     /// answered. None where it is open to others, who may have any name for it.
-    pub(crate) address: Option<String>,
+    pub address: Option<String>,
     /// What is watched. None while the site is being restored.
-    pub(crate) seats: Mutex<Option<SharedSeats<W>>>,
+    pub seats: Mutex<Option<SharedSeats<W>>>,
 }
 
 /// What the seats of a site share.
-pub(crate) type SharedSeats<W> = Arc<SeatContext<W>, Global>;
+pub type SharedSeats<W> = Arc<SeatContext<W>, Global>;
 
 impl<W: SeatWorld> StatusPort<W> {
     /// The port of a site that is being restored, at this address if it answers only requests for this
@@ -60,7 +60,7 @@ impl<W: SeatWorld> StatusPort<W> {
     }
 
     /// What is watched, if the site is restored.
-    pub(crate) fn seats(&self) -> Result<Option<SharedSeats<W>>, AllocError> {
+    pub fn seats(&self) -> Result<Option<SharedSeats<W>>, AllocError> {
         let seats = self.seats.lock(&self.rt);
         match &*seats {
             Some(seats) => Ok(Some(Arc::try_clone(seats)?)),

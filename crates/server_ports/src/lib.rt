@@ -1,0 +1,33 @@
+//! The ports of a site: connections are accepted, their handshakes made (OCPP-J 1.6, chapter 3), and
+//! the status port answered. It knows no session.
+#![tactic(auto)]
+
+mod accepting;
+mod arrivals;
+mod boot_keeper;
+mod entry;
+mod handshake;
+mod incoming_stream;
+mod own_host;
+mod path;
+mod request_words;
+mod seat_context;
+mod seat_world;
+mod serve_fault;
+mod status_port;
+mod status_service;
+mod workers;
+
+pub use accepting::accept_connections;
+pub use arrivals::{note_operator, note_unknown, note_unshaken};
+pub use boot_keeper::{BootKeeper, begin_boots};
+pub use entry::Entry;
+pub use handshake::{ClientRequest, Unshaken, shake_hands};
+pub use incoming_stream::IncomingStream;
+pub use own_host::is_own_host;
+pub use path::{PathPeer, peer_of_path};
+pub use seat_context::{SeatContext, SeatOptions};
+pub use seat_world::{SeatWorld, SharedWorld};
+pub use serve_fault::ServeFault;
+pub use status_port::{StatusPort, begin_status};
+pub use workers::{JobSenders, begin_workers};

@@ -1,0 +1,8 @@
+//! What sessions are generic in: the types of their site, and the stream of their socket.
+#![tactic(auto)]
+
+mod watched;
+mod world;
+
+pub use watched::Watched;
+pub use world::{Unrecorded, World};
