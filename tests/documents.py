@@ -254,7 +254,9 @@ def limit_in_words_problems(top, files):
     known = {written(limit, value).replace(",", "") for limit, value in limits_of(top, files).items()}
     help_text = text_of(top, "crates/command_line/src/help_text.rt")
     options = re.findall(r"pub const (?:\w+_HELP|STATUSES): &str =\s*\"(?:[^\"\\]|\\.)*\";", help_text, re.DOTALL)
-    sources = ("crates/findings/src/sentences.rt", "crates/findings/src/field_fault.rt")
+    sources = (
+        "crates/findings/src/site_sentence.rt", "crates/message_findings/src/sentences.rt", "crates/message_findings/src/field_fault.rt",
+    )
     texts = {**{source: text_of(top, source) for source in sources}, "the help": "\n".join(options)}
     for where, text in texts.items():
         found = list(numbers_in_literals(text))
@@ -315,7 +317,8 @@ def refusal_problems(top, files):
 
 # The functions with the tables of sentences, and the pages in which their tables may stand.
 SENTENCES = (
-    ("crates/findings/src/sentences.rt", ("sentence", "site_sentence", "line_sentence", "call_sentence", "never_sentence")),
+    ("crates/findings/src/site_sentence.rt", ("site_sentence",)),
+    ("crates/message_findings/src/sentences.rt", ("sentence", "line_sentence", "call_sentence", "never_sentence")),
     ("crates/explain_pages/src/words.rt", ("sentence", "why_not_sentence")),
 )
 SENTENCE_PAGES = ("docs/PROTOCOL.md", "docs/COMMANDS.md", "docs/RUNNING.md", "docs/MEANING.md")

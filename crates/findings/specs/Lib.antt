@@ -1,4 +1,1 @@
 pub mod ExitStatus
-pub mod Fuse
-pub mod Hidden
-pub mod NeverRated

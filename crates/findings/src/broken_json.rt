@@ -33,7 +33,7 @@ struct Lexeme<'a> {
 }
 
 /// Where a text breaks: exactly where no tree is read from it.
-pub(crate) fn break_of(alloc: Global, text: &str) -> Result<Option<JsonFault>, AllocError>
+pub fn break_of(alloc: Global, text: &str) -> Result<Option<JsonFault>, AllocError>
     ensures { IfOk result (λ fault. IsSome fault ↔ (tree_of_text text.now ≡ None)) }
 {
     let mut memory = ReadingMemory::new(alloc);
@@ -45,7 +45,7 @@ pub(crate) fn break_of(alloc: Global, text: &str) -> Result<Option<JsonFault>, A
 }
 
 /// Where a text breaks from which no tree is read.
-pub(crate) fn first_break(alloc: Global, text: &str) -> Result<JsonFault, AllocError> {
+pub fn first_break(alloc: Global, text: &str) -> Result<JsonFault, AllocError> {
     let bytes = text.as_bytes();
     let mut scratch = Scratch::new(alloc);
     let mut reader = Reader::new(text, &mut scratch)?;

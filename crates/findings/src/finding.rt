@@ -43,7 +43,7 @@ pub struct Finding {
 
 impl Finding {
     /// A fault.
-    pub(crate) fn fault(place: Location, message: String) -> Finding {
+    pub fn fault(place: Location, message: String) -> Finding {
         Finding {
             severity: Severity::Fault,
             place,
@@ -52,7 +52,7 @@ impl Finding {
     }
 
     /// A warning.
-    pub(crate) fn warning(place: Location, message: String) -> Finding {
+    pub fn warning(place: Location, message: String) -> Finding {
         Finding {
             severity: Severity::Warning,
             place,
@@ -61,7 +61,7 @@ impl Finding {
     }
 
     /// A remark.
-    pub(crate) fn remark(place: Location, message: String) -> Finding {
+    pub fn remark(place: Location, message: String) -> Finding {
         Finding {
             severity: Severity::Remark,
             place,

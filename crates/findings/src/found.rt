@@ -5,11 +5,11 @@ use ocppj_frame::Node;
 use std::alloc::{AllocError, Global};
 
 /// What a limit is.
-pub(crate) const LIMIT: &str = "a number from 0 to 100000000.0 with at most one decimal";
+pub const LIMIT: &str = "a number from 0 to 100000000.0 with at most one decimal";
 
 /// How a value looks from outside.
 #[derive(Clone, Copy)]
-pub(crate) enum Glance<'a> {
+pub enum Glance<'a> {
     Null,
     Bool,
     Text(&'a str),
@@ -20,7 +20,7 @@ pub(crate) enum Glance<'a> {
 
 /// What is wanted at a field.
 #[derive(Clone, Copy)]
-pub(crate) struct ExpectedField<'a> {
+pub struct ExpectedField<'a> {
     pub field: &'a str,
     pub wanted: &'a str,
     /// A field next to it that may be meant.
@@ -28,7 +28,7 @@ pub(crate) struct ExpectedField<'a> {
 }
 
 /// What is wrong with a field: what stands there, and what is wanted.
-pub(crate) fn field_message(
+pub fn field_message(
     alloc: Global,
     value: Option<Glance<'_>>,
     expected: &ExpectedField<'_>,
@@ -48,12 +48,12 @@ pub(crate) fn field_message(
 }
 
 /// What was found, and what is wanted.
-pub(crate) fn message_of(alloc: Global, found: &str, wanted: &str) -> Result<String, AllocError> {
+pub fn message_of(alloc: Global, found: &str, wanted: &str) -> Result<String, AllocError> {
     format!(in alloc; "{found}; {wanted} is wanted")
 }
 
 /// What stands at a place.
-pub(crate) fn what_stands(alloc: Global, value: Option<Glance<'_>>) -> Result<String, AllocError> {
+pub fn what_stands(alloc: Global, value: Option<Glance<'_>>) -> Result<String, AllocError> {
     match value {
         None => String::from_str(alloc, "it is absent"),
         Some(Glance::Text(text)) => {
@@ -72,7 +72,7 @@ pub(crate) fn what_stands(alloc: Global, value: Option<Glance<'_>>) -> Result<St
 }
 
 /// How the value of a node looks.
-pub(crate) fn glance_at<'memory>(node: Node<'_, 'memory>) -> Glance<'memory> {
+pub fn glance_at<'memory>(node: Node<'_, 'memory>) -> Glance<'memory> {
     if let Some(text) = node.text() {
         Glance::Text(text)
     } else if let Some(number) = node.number() {

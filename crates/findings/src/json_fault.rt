@@ -5,7 +5,7 @@ use std::fmt;
 
 /// What is wanted where a JSON text breaks.
 #[derive(Clone, Copy, PartialEq, Eq)]
-pub(crate) enum Wanted {
+pub enum Wanted {
     Value,
     /// A value, behind a comma.
     NextValue,
@@ -36,7 +36,7 @@ pub(crate) enum Wanted {
 
 /// The first character that can't stand where it stands.
 #[derive(Clone, Copy, PartialEq, Eq)]
-pub(crate) struct JsonFault {
+pub struct JsonFault {
     /// Its offset, in bytes.
     pub offset: usize,
     /// The character, or none at the end of the text.
@@ -68,7 +68,7 @@ impl fmt::Display for Wanted {
 }
 
 /// What is wanted where a text breaks, what stands there, and how it is mended where that is plain.
-pub(crate) fn json_fault_text(alloc: Global, fault: &JsonFault) -> Result<String, AllocError> {
+pub fn json_fault_text(alloc: Global, fault: &JsonFault) -> Result<String, AllocError> {
     let wanted = fault.wanted;
     let mut text = match fault.found {
         None => format!(in alloc; "{wanted}, and the JSON ends")?,

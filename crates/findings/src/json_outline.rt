@@ -5,14 +5,14 @@ use std::alloc::{AllocError, Global};
 
 /// A span of a text, in bytes: its first, and the one behind its last.
 #[derive(Clone, Copy, PartialEq, Eq)]
-pub(crate) struct Span {
+pub struct Span {
     pub start: usize,
     pub end: usize,
 }
 
 /// What a part is of the object or list that it stands in.
 #[derive(Clone, Copy, PartialEq, Eq)]
-pub(crate) enum Label {
+pub enum Label {
     /// The whole text.
     Root,
     /// The member whose name begins here, behind its quote. The span is as long as the name, so
@@ -24,7 +24,7 @@ pub(crate) enum Label {
 
 /// The whole text, a member of an object, or an object or a list in a list.
 #[derive(Clone, Copy)]
-pub(crate) struct Part {
+pub struct Part {
     /// The index among the parts of the object or list that it stands in.
     pub parent: Option<usize>,
     pub label: Label,
@@ -32,7 +32,7 @@ pub(crate) struct Part {
 
 /// The parts of a text in their order.
 #[derive(Drop)]
-pub(crate) struct Outline {
+pub struct Outline {
     pub parts: Vec<Part>,
     open: Vec<Open>,
     /// The name that was read last.
@@ -50,7 +50,7 @@ struct Open {
 }
 
 /// The parts of a text that is JSON.
-pub(crate) fn outline_of(alloc: Global, text: &str) -> Result<Outline, AllocError> {
+pub fn outline_of(alloc: Global, text: &str) -> Result<Outline, AllocError> {
     let mut scratch = Scratch::new(alloc);
     let mut reader = Reader::new(text, &mut scratch)?;
     let mut outline = Outline {

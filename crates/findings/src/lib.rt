@@ -1,33 +1,13 @@
-//! What is wrong with a site file and with a script, said for people before they are used.
+//! What is wrong with a site file, and what all findings are made of: where they are, how much they
+//! matter, and their words.
 #![tactic(auto)]
 
-mod audit_check;
-mod boot_check;
 mod broken_json;
-mod call_check;
-mod change_check;
-mod field_fault;
 mod finding;
 mod found;
-mod fuse_check;
-mod hidden;
 mod json_fault;
 mod json_lexeme;
 mod json_outline;
-mod line_hints;
-mod line_text;
-mod never;
-mod payload_fields;
-mod payload_objects;
-mod printed_check;
-mod profile_check;
-mod refused_answer;
-mod rejection;
-mod remote_start_check;
-mod report;
-mod script_check;
-mod sent_check;
-mod sentences;
 mod similar;
 mod site_check;
 mod site_fields;
@@ -35,23 +15,18 @@ mod site_json;
 mod site_parts;
 mod site_point;
 mod site_points;
-mod standing_check;
-mod starts;
-mod text_check;
+mod site_sentence;
 mod text_place;
-mod together;
 mod words;
-mod zone_check;
 
-pub use boot_check::check_boot;
-pub use change_check::{RowChange, check_change, takes_place_of};
+pub use broken_json::{break_of, first_break};
 pub use finding::{Finding, Location, Severity, exit_status, has_fault, sort_by_line};
-pub use fuse_check::{check_fuse, check_raise, check_unlimited, fuse_limit};
-pub use never::{NeverRated, never_rated};
-pub use printed_check::check_printed;
-pub use refused_answer::answer_sentence;
-pub use script_check::ScriptCheck;
-pub use sent_check::{SentCheck, check_sent, json_break};
-pub use sentences::{call_sentence, line_sentence, never_sentence, sentence, site_sentence};
+pub use found::{ExpectedField, Glance, LIMIT, field_message, glance_at};
+pub use json_fault::{JsonFault, json_fault_text};
+pub use json_outline::{Label, Outline, Part, outline_of};
+pub use similar::{is_similar, similar_name};
 pub use site_check::check_site;
-pub use standing_check::check_standing;
+pub use site_fields::text_of;
+pub use site_sentence::site_sentence;
+pub use text_place::place_in_text;
+pub use words::{excerpt, instant_text, tenths_text};

@@ -8,7 +8,7 @@ const MAX_COMPARED: usize = 64;
 
 /// The one of these names that differs least from the one that is there. It differs in case alone,
 /// or by at most two letters, three if it is long, and at most one in four.
-pub(crate) fn similar_name<'a>(
+pub fn similar_name<'a>(
     alloc: Global,
     found: &str,
     names: &[&'a str],
@@ -25,7 +25,7 @@ pub(crate) fn similar_name<'a>(
 }
 
 /// Whether two different names are much alike.
-pub(crate) fn is_similar(alloc: Global, found: &str, name: &str) -> Result<bool, AllocError> {
+pub fn is_similar(alloc: Global, found: &str, name: &str) -> Result<bool, AllocError> {
     Ok(distance_to(alloc, found, name)?.is_some())
 }
 

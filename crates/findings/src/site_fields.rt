@@ -237,7 +237,7 @@ fn fields_of(point: Option<usize>) -> &'static [&'static str] {
 }
 
 /// The text of a span.
-pub(crate) fn text_of(text: &str, span: Span) -> Option<&str> {
+pub fn text_of(text: &str, span: Span) -> Option<&str> {
     let bytes = text.as_bytes().get(span.start..span.end)?;
     std::str::from_utf8(bytes).ok()
 }

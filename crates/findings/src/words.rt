@@ -7,7 +7,7 @@ use std::alloc::{AllocError, Global};
 const MAX_EXCERPT: usize = 60;
 
 /// The first 60 characters of a text, without control characters, and dots where there are more.
-pub(crate) fn excerpt(alloc: Global, text: &str) -> Result<String, AllocError> {
+pub fn excerpt(alloc: Global, text: &str) -> Result<String, AllocError> {
     let mut out = String::new(alloc);
     for character in text.chars().take(MAX_EXCERPT) {
         if character.is_control() {
@@ -23,14 +23,14 @@ pub(crate) fn excerpt(alloc: Global, text: &str) -> Result<String, AllocError> {
 }
 
 /// An instant, as `2025-01-31T18:00:00Z`.
-pub(crate) fn instant_text(alloc: Global, instant: Instant) -> Result<String, AllocError> {
+pub fn instant_text(alloc: Global, instant: Instant) -> Result<String, AllocError> {
     let mut out = String::new(alloc);
     push_instant(&mut out, instant)?;
     Ok(out)
 }
 
 /// A limit or a sum of limits, which is given in tenths, as `64.0`.
-pub(crate) fn tenths_text(alloc: Global, tenths: u64) -> Result<String, AllocError> {
+pub fn tenths_text(alloc: Global, tenths: u64) -> Result<String, AllocError> {
     let whole = tenths / 10;
     let tenth = tenths % 10;
     format!(in alloc; "{whole}.{tenth}")

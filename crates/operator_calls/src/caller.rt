@@ -7,7 +7,8 @@ use crate::given_call::GivenCall;
 use crate::later_changes::LaterChange;
 use crate::undo::UNDO;
 use client_lines::ClientFault;
-use findings::{Finding, SentCheck, Severity, answer_sentence, check_sent, has_fault, json_break};
+use findings::{Finding, Severity, has_fault};
+use message_findings::{SentCheck, answer_sentence, check_sent, json_break};
 use std::alloc::{AllocError, AllocGlobal};
 use std::fmt::Display;
 

@@ -49,7 +49,6 @@ fn found_at(place: Location, severity: Severity, message: String) -> Finding {
     Finding {
         severity,
         place,
-        name: None,
         message,
     }
 }

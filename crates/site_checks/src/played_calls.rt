@@ -5,7 +5,9 @@ ghost use Rattle.replay.specs.Limits.{max_script_bytes};
 
 use crate::played_lines::{find_at_point, find_in_changes, find_in_played};
 use crate::point_fuses::fuse_at;
-use findings::{Finding, ScriptCheck, Severity, check_fuse, check_sent};
+use findings::{Finding, Severity};
+use message_findings::{ScriptCheck, check_sent};
+use profile_findings::check_fuse;
 use replay::Progress;
 use show_pages::{Depth, Trace};
 use site_rules::Site;

@@ -1,6 +1,8 @@
 //! What is found in the lines of a script as they are played.
 
-use findings::{Finding, RowChange, ScriptCheck, check_change, check_printed, check_standing};
+use findings::Finding;
+use message_findings::{ScriptCheck, check_printed};
+use profile_findings::{RowChange, check_change, check_standing};
 use replay::PlayedLine;
 use show_pages::Trace;
 use site_core::Machine;

@@ -1,6 +1,7 @@
 //! The fuse limits of the points of a site, line after line.
 
-use findings::{Finding, check_raise, check_unlimited, fuse_limit};
+use findings::Finding;
+use profile_findings::{check_raise, check_unlimited, fuse_limit};
 use replay::{PlayedLine, PointChange, ScriptLine};
 use site_core::Machine;
 use std::alloc::{AllocError, Global};

@@ -1,6 +1,0 @@
--- At none of the connectors so far it may prevail.
-use Rattle.findings.specs.Hidden.{SpeaksForNone}
-use Rattle.findings.proofs.hidden.speaks_for_none.Given as goal
-
-abbrev pub invariant-loop-before : goal.invariant-loop-before
-invariant-loop-before l = SpeaksForNone l.view.rows.now l.before l.row

@@ -1,0 +1,438 @@
+//! What is wrong with a CALL that a line of a script brings.
+
+use crate::field_fault::field_fault_message;
+use crate::line_hints::point_hint;
+use crate::line_text::{LineText, Sender};
+use crate::payload_fields::{UnknownField, repeated_payload_fields, unknown_payload_fields};
+use crate::payload_objects::{PayloadObject, names_of};
+use crate::printed_check::depends_on_state;
+use crate::profile_check::check_install;
+use crate::remote_start_check::check_remote_start;
+use crate::report::Report;
+use crate::sentences::sentence;
+use crate::text_check::not_composite;
+use crate::zone_check::remark_unzoned;
+use findings::{excerpt, outline_of, similar_name};
+use messages::{Action, ActionKind, CallFault, ScheduleRequest, Side, fields_of, read_fields};
+use ocpp_scalars::Refusal;
+use ocppj_frame::Node;
+use profile::{Criteria, Unit};
+use profile_findings::has_no_criterion;
+use site_rules::{Site, SitePoint};
+use std::alloc::{AllocError, Global};
+
+/// A CALL of a line.
+#[derive(Clone, Copy)]
+pub(crate) struct Call<'a, 'node, 'memory> {
+    pub text: &'a LineText<'a>,
+    pub action: &'a str,
+    pub payload: Node<'node, 'memory>,
+}
+
+/// Checks a CALL.
+pub(crate) fn check_call(report: &mut Report, call: &Call<'_, '_, '_>) -> Result<(), AllocError> {
+    let kind = ActionKind::named(call.action);
+    if call.text.sender == Sender::Hold && kind != Some(ActionKind::GetCompositeSchedule) {
+        return not_composite(report, call.text, "it is a CALL of another action");
+    }
+    let sender = call.text.sender.side();
+    match ActionKind::of_sender(sender, call.action) {
+        Some(kind) => check_action(report, call, kind),
+        None => refuse_action(report, sender, call.action),
+    }
+}
+
+/// That an action of this name is none of a side, and which one was probably meant.
+pub(crate) fn refuse_action(
+    report: &mut Report,
+    sender: Side,
+    name: &str,
+) -> Result<(), AllocError> {
+    let alloc = report.alloc;
+    let actions = actions_of(alloc, sender)?;
+    let sender = match sender {
+        Side::Operator => "an operator",
+        Side::Point => "a point",
+    };
+    let action = excerpt(alloc, name)?;
+    let message = match similar_name(alloc, name, actions.as_slice())? {
+        Some(meant) => {
+            format!(in alloc;
+                "NotImplemented: \"{action}\" is no action of {sender} (\"{meant}\" is one)"
+            )?
+        }
+        None if ActionKind::named(name).is_some() => {
+            format!(in alloc;
+                "NotImplemented: \"{action}\" is an action of the other side, not of {sender}"
+            )?
+        }
+        None => format!(in alloc;
+            "NotImplemented: \"{action}\" is no action of {sender} that is known here"
+        )?,
+    };
+    report.fault(message)
+}
+
+/// The names of a side's actions.
+fn actions_of(alloc: Global, side: Side) -> Result<Vec<&'static str>, AllocError> {
+    let mut names = Vec::new(alloc);
+    for kind in ActionKind::all() {
+        if kind.side().is_same(side) {
+            names.push(kind.name())?;
+        }
+    }
+    Ok(names)
+}
+
+/// Checks the fields of an action, and what it asks for.
+fn check_action(
+    report: &mut Report,
+    call: &Call<'_, '_, '_>,
+    kind: ActionKind,
+) -> Result<(), AllocError> {
+    let alloc = report.alloc;
+    if kind.side().is_same(Side::Operator) {
+        warn_repeated(report, call.text.frame, kind)?;
+    }
+    match read_fields(alloc, kind, call.payload) {
+        Ok(action) => check_asked(report, call, kind, action),
+        Err(CallFault::Refused(Refusal::OutOfMemory)) => Err(AllocError),
+        Err(fault) => {
+            let message = field_fault_message(alloc, call.payload, kind, fault)?;
+            report.fault(message)?;
+            if kind.side().is_same(Side::Operator) {
+                warn_unknown(report, call.text.frame, kind)?;
+            }
+            Ok(())
+        }
+    }
+}
+
+/// Checks what an action asks for, whose fields are right.
+fn check_asked(
+    report: &mut Report,
+    call: &Call<'_, '_, '_>,
+    kind: ActionKind,
+    action: Action,
+) -> Result<(), AllocError> {
+    // Of a clear's fields more is said.
+    if kind.side().is_same(Side::Operator) && kind != ActionKind::ClearChargingProfile {
+        warn_unknown(report, call.text.frame, kind)?;
+        let payload = PayloadObject {
+            fields: fields_of(kind),
+            node: call.payload,
+        };
+        remark_unzoned(report, payload)?;
+    }
+    match action {
+        Action::SetChargingProfile { connector, profile } => {
+            check_install(report, call.text, connector, profile)
+        }
+        Action::ClearChargingProfile(criteria) => check_clear(report, call, &criteria),
+        Action::GetCompositeSchedule(request) => check_ask(report, call.text, &request),
+        Action::RemoteStartTransaction(start) => check_remote_start(report, call.text, start),
+        // The point is asked for a schedule, in the site's unit.
+        Action::AuditPoint {
+            connector,
+            duration,
+        } => {
+            let request = ScheduleRequest {
+                connector,
+                duration,
+                unit: None,
+            };
+            check_ask(report, call.text, &request)
+        }
+        Action::StartTransaction(start) => check_start(report, call.text, start.connector),
+        _ => check_refused(report, call.text),
+    }
+}
+
+/// An action of which nothing more is said here: its refusal, where the point's state has no part
+/// in it.
+fn check_refused(report: &mut Report, text: &LineText<'_>) -> Result<(), AllocError> {
+    match text.refusal() {
+        Some(Refusal::UnknownPoint) => {
+            let message = unknown_point_message(report, text.site, text.point)?;
+            report.fault(message)
+        }
+        Some(refusal) if !depends_on_state(refusal) => {
+            let why = sentence(refusal);
+            let message = format!(in report.alloc; "{refusal}: {why}")?;
+            report.fault(message)
+        }
+        _ => Ok(()),
+    }
+}
+
+/// Warns of duplicate fields of an operator's CALL.
+pub(crate) fn warn_repeated(
+    report: &mut Report,
+    frame: &str,
+    kind: ActionKind,
+) -> Result<(), AllocError> {
+    let alloc = report.alloc;
+    let outline = outline_of(alloc, frame)?;
+    for name in &repeated_payload_fields(alloc, frame, &outline, kind)? {
+        let message = format!(in alloc;
+            "\"{name}\" is a duplicate field, and the last one counts"
+        )?;
+        report.warn(message)?;
+    }
+    Ok(())
+}
+
+/// The fields of an operator's CALL that nothing looks at.
+pub(crate) fn unknown_fields(
+    alloc: Global,
+    frame: &str,
+    kind: ActionKind,
+) -> Result<Vec<UnknownField<'_>>, AllocError> {
+    let outline = outline_of(alloc, frame)?;
+    unknown_payload_fields(alloc, frame, &outline, kind)
+}
+
+/// Warns of fields of an operator's CALL that nothing looks at.
+pub(crate) fn warn_unknown(
+    report: &mut Report,
+    frame: &str,
+    kind: ActionKind,
+) -> Result<(), AllocError> {
+    let alloc = report.alloc;
+    // Two actions are this system's own.
+    let whose = match kind {
+        ActionKind::AuditPoint | ActionKind::PointStatus => "",
+        _ => " of OCPP",
+    };
+    for field in &unknown_fields(alloc, frame, kind)? {
+        let name = excerpt(alloc, field.name)?;
+        let known = names_of(alloc, field.fields)?;
+        let message = match similar_name(alloc, field.name, known.as_slice())? {
+            Some(meant) => {
+                format!(in alloc;
+                    "\"{name}\" is no field{whose} there and has no effect (\"{meant}\" is one)"
+                )?
+            }
+            None => format!(in alloc; "\"{name}\" is no field{whose} there and has no effect")?,
+        };
+        report.warn(message)?;
+    }
+    Ok(())
+}
+
+/// A ClearChargingProfile, which clears all that matches what is given.
+fn check_clear(
+    report: &mut Report,
+    call: &Call<'_, '_, '_>,
+    criteria: &Criteria,
+) -> Result<(), AllocError> {
+    let alloc = report.alloc;
+    let site = call.text.site;
+    if site.place_of(call.text.point).is_none() {
+        let fault = CallFault::Refused(Refusal::UnknownPoint);
+        let message = unknown_point_message(report, site, call.text.point)?;
+        report.fault(message)?;
+    }
+    let unknown = unknown_fields(alloc, call.text.frame, ActionKind::ClearChargingProfile)?;
+    warn_of_clear(report, call.payload, criteria, &unknown)
+}
+
+/// Warns of a clear that clears more than it seems to, by the fields that are no criteria.
+pub(crate) fn warn_of_clear(
+    report: &mut Report,
+    payload: Node<'_, '_>,
+    criteria: &Criteria,
+    unknown: &Vec<UnknownField<'_>>,
+) -> Result<(), AllocError> {
+    let alloc = report.alloc;
+    if has_no_criterion(criteria) {
+        let message = clears_all_message(alloc, payload, unknown)?;
+        return report.warn(message);
+    }
+    for field in unknown {
+        let name = excerpt(alloc, field.name)?;
+        let message = format!(in alloc;
+            "\"{name}\" is no criterion and has no effect, so more may be CLEARED than is meant: id, connectorId, chargingProfilePurpose and stackLevel are the criteria"
+        )?;
+        report.warn(message)?;
+    }
+    Ok(())
+}
+
+/// The fields of a clear without a criterion that are one by their name: they are null.
+fn null_criteria(alloc: Global, payload: Node<'_, '_>) -> Result<Vec<&'static str>, AllocError> {
+    let mut names = Vec::new(alloc);
+    for row in fields_of(ActionKind::ClearChargingProfile) {
+        let name = row.name().text();
+        if payload.field(name).is_some() {
+            names.push(name)?;
+        }
+    }
+    Ok(names)
+}
+
+/// Whether a clear without a criterion has fields all the same.
+pub(crate) fn has_fields(
+    alloc: Global,
+    payload: Node<'_, '_>,
+    unknown: &Vec<UnknownField<'_>>,
+) -> Result<bool, AllocError> {
+    Ok(!unknown.is_empty() || !null_criteria(alloc, payload)?.is_empty())
+}
+
+/// That a clear has no criterion, and what was probably meant to be one.
+fn clears_all_message(
+    alloc: Global,
+    payload: Node<'_, '_>,
+    unknown: &Vec<UnknownField<'_>>,
+) -> Result<String, AllocError> {
+    let mut message = String::from_str(
+        alloc,
+        "a clear without a criterion clears EVERYTHING that the point has, a fuse limit (ChargePointMaxProfile) too",
+    )?;
+    for field in unknown {
+        let name = excerpt(alloc, field.name)?;
+        let meant = criterion_meant(alloc, field.name)?;
+        let hint = match meant {
+            Some(meant) => format!(in alloc; "; \"{name}\" isn't one (\"{meant}\" is)")?,
+            None => format!(in alloc; "; \"{name}\" isn't one")?,
+        };
+        message.push_str(hint.as_str())?;
+    }
+    for name in &null_criteria(alloc, payload)? {
+        let hint = format!(in alloc; "; \"{name}\" is null, which is none")?;
+        message.push_str(hint.as_str())?;
+    }
+    Ok(message)
+}
+
+/// The criterion that is probably meant.
+fn criterion_meant(alloc: Global, name: &str) -> Result<Option<&'static str>, AllocError> {
+    match name {
+        "chargingProfileId" | "profileId" | "chargingProfileID" => Ok(Some("id")),
+        "connector" | "evseId" => Ok(Some("connectorId")),
+        "purpose" => Ok(Some("chargingProfilePurpose")),
+        "level" => Ok(Some("stackLevel")),
+        _ => {
+            let criteria = names_of(alloc, fields_of(ActionKind::ClearChargingProfile))?;
+            similar_name(alloc, name, criteria.as_slice())
+        }
+    }
+}
+
+/// That the site lacks a point, as an answer has it.
+pub(crate) fn unknown_point_message(
+    report: &mut Report,
+    site: &Site,
+    id: &str,
+) -> Result<String, AllocError> {
+    let alloc = report.alloc;
+    let hint = point_hint(report, site, id)?;
+    let id = excerpt(alloc, id)?;
+    format!(in alloc; "UnknownPoint: the site has no point \"{id}\"{hint}")
+}
+
+/// The point of the line.
+pub(crate) fn point_of<'a>(site: &'a Site, text: &LineText<'_>) -> Option<SitePoint<'a>> {
+    site.point(site.place_of(text.point)?)
+}
+
+/// A GetCompositeSchedule or an AuditPoint, by its answer, as far as what the point has by then has
+/// no part in it.
+fn check_ask(
+    report: &mut Report,
+    text: &LineText<'_>,
+    request: &ScheduleRequest,
+) -> Result<(), AllocError> {
+    match text.rejection() {
+        None => Ok(()),
+        Some(refusal) if depends_on_state(refusal) => Ok(()),
+        Some(Refusal::UnknownPoint) => {
+            let message = unknown_point_message(report, text.site, text.point)?;
+            report.fault(message)
+        }
+        Some(refusal) => {
+            let found = ask_found(report.alloc, text, request, refusal)?;
+            reject(report, refusal, Some(found.as_str()))
+        }
+    }
+}
+
+/// What was found where a request for a schedule is refused.
+fn ask_found(
+    alloc: Global,
+    text: &LineText<'_>,
+    request: &ScheduleRequest,
+    refusal: Refusal,
+) -> Result<String, AllocError> {
+    let connector = request.connector;
+    let duration = request.duration;
+    match refusal {
+        Refusal::UnknownConnector => connector_found(alloc, text.site, text, connector),
+        Refusal::BadDuration | Refusal::PastCalendar => {
+            format!(in alloc; "duration is {duration}")
+        }
+        Refusal::WrongUnit => String::from_str(alloc, unit_found(text.site)),
+        _ => format!(in alloc; "connectorId is {connector}"),
+    }
+}
+
+/// Which connector was named, and which there are.
+pub(crate) fn connector_found(
+    alloc: Global,
+    site: &Site,
+    text: &LineText<'_>,
+    connector: u32,
+) -> Result<String, AllocError> {
+    match point_of(site, text) {
+        Some(point) => {
+            let count = point.ceilings.len();
+            format!(in alloc; "connectorId is {connector}, and {count} is the last one")
+        }
+        None => format!(in alloc; "connectorId is {connector}"),
+    }
+}
+
+/// How many connectors the line's point has.
+pub(crate) fn connector_count(text: &LineText<'_>) -> usize {
+    point_of(text.site, text).map_or(0, |point| point.ceilings.len())
+}
+
+/// The unit of the site.
+pub(crate) fn unit_found(site: &Site) -> &'static str {
+    match site.unit() {
+        Unit::A => "the site's is \"A\"",
+        Unit::W => "the site's is \"W\"",
+    }
+}
+
+/// A refusal in its sentence, with what was found where that is known.
+pub(crate) fn reject(
+    report: &mut Report,
+    refusal: Refusal,
+    found: Option<&str>,
+) -> Result<(), AllocError> {
+    let name = refusal.name();
+    let why = sentence(refusal);
+    let message = match found {
+        Some(found) => format!(in report.alloc; "{name}: {why}: {found}")?,
+        None => format!(in report.alloc; "{name}: {why}")?,
+    };
+    report.fault(message)
+}
+
+/// A StartTransaction at a connector that the point lacks.
+fn check_start(report: &mut Report, text: &LineText<'_>, connector: u32) -> Result<(), AllocError> {
+    let Some(point) = point_of(text.site, text) else {
+        return Ok(());
+    };
+    let count = point.ceilings.len();
+    if connector >= 1 && connector as usize <= count {
+        return Ok(());
+    }
+    let message = format!(in report.alloc;
+        "UnknownConnector: a transaction is started at connector {connector}; the point has connectors 1 to {count}"
+    )?;
+    let fault = CallFault::Refused(Refusal::UnknownConnector);
+    report.fault(message)
+}

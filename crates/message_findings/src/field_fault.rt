@@ -1,0 +1,159 @@
+//! The field at which a CALL is at fault: where it stands, what stands there and what is wanted.
+
+use crate::payload_objects::{MAX_DEPTH, PayloadList, PayloadObject, row_named};
+use findings::{ExpectedField, LIMIT, field_message, glance_at};
+use messages::{ActionKind, CallFault, FieldKind, FieldName, FieldRow, fields_of};
+use ocppj_frame::{Field, Node, tenths_field, whole_field};
+use std::alloc::{AllocError, Global};
+
+/// An object of a payload, and the way to it.
+#[derive(Drop)]
+struct ObjectPlace<'node, 'memory> {
+    path: String,
+    object: PayloadObject<'node, 'memory>,
+}
+
+/// The CALLERROR of a fault, with its field.
+pub(crate) fn field_fault_message(
+    alloc: Global,
+    payload: Node<'_, '_>,
+    kind: ActionKind,
+    fault: CallFault,
+) -> Result<String, AllocError> {
+    let code = fault.code();
+    let Some(field) = field_of(fault) else {
+        return String::from_str(alloc, code);
+    };
+    let name = field.text();
+    let payload = PayloadObject {
+        fields: fields_of(kind),
+        node: payload,
+    };
+    let ObjectPlace { path, object } = place_of_field(alloc, payload, name)?;
+    let Some(row) = row_named(object.fields, name) else {
+        return format!(in alloc; "{code}: {name}");
+    };
+    let expected = ExpectedField {
+        field: name,
+        wanted: wanted_of(row),
+        hint: None,
+    };
+    let message = field_message(alloc, object.node.field(name).map(glance_at), &expected)?;
+    format!(in alloc; "{code}: {path}{message}")
+}
+
+/// The field that a fault is of.
+fn field_of(fault: CallFault) -> Option<FieldName> {
+    match fault {
+        CallFault::OccurenceConstraintViolation(field)
+        | CallFault::TypeConstraintViolation(field)
+        | CallFault::PropertyConstraintViolation(field) => Some(field),
+        CallFault::FormationViolation | CallFault::NotImplemented | CallFault::Refused(_) => None,
+    }
+}
+
+/// The outermost object of a payload that has a field of this name in its table, down to where
+/// objects are there.
+fn place_of_field<'node, 'memory>(
+    alloc: Global,
+    payload: PayloadObject<'node, 'memory>,
+    name: &str,
+) -> Result<ObjectPlace<'node, 'memory>, AllocError> {
+    let mut place = ObjectPlace {
+        path: String::new(alloc),
+        object: payload,
+    };
+    for _ in 0..MAX_DEPTH {
+        if row_named(place.object.fields, name).is_some() {
+            break;
+        }
+        if let Some((field, object)) = place.object.inner() {
+            let field = field.text();
+            write!(place.path, "{field}.")?;
+            place.object = object;
+        } else if let Some((list, index, object)) = first_bad(place.object, name) {
+            let field = list.name.text();
+            write!(place.path, "{field}[{index}].")?;
+            place.object = object;
+        } else {
+            break;
+        }
+    }
+    Ok(place)
+}
+
+/// The first object in the list of an object with a fault at this field, its index, and the list.
+fn first_bad<'node, 'memory>(
+    object: PayloadObject<'node, 'memory>,
+    name: &str,
+) -> Option<
+    (
+        PayloadList<'node, 'memory>,
+        usize,
+        PayloadObject<'node, 'memory>,
+    ),
+> {
+    let list = object.list()?;
+    let row = row_named(list.fields, name)?;
+    let mut index: usize = 0;
+    for entry in list.entries.iter() {
+        if !is_right(entry, row) {
+            let object = PayloadObject {
+                fields: list.fields,
+                node: entry,
+            };
+            return Some((list, index, object));
+        }
+        index = index.saturating_add(1);
+    }
+    None
+}
+
+/// Whether a field of an object in a list is right. No list has objects with fields of other kinds.
+fn is_right(object: Node<'_, '_>, row: FieldRow) -> bool {
+    let name = row.name().text();
+    match row.kind() {
+        FieldKind::WholeFromZero => match whole_field(object, name) {
+            Field::Value(number) => number >= 0,
+            Field::Absent => may_be_absent(row),
+            Field::WrongKind | Field::WrongValue => false,
+        },
+        FieldKind::Tenths => match tenths_field(object, name) {
+            Field::Value(_) => true,
+            Field::Absent => may_be_absent(row),
+            Field::WrongKind | Field::WrongValue => false,
+        },
+        _ => true,
+    }
+}
+
+fn may_be_absent(row: FieldRow) -> bool {
+    matches!(row, FieldRow::Optional(_, _))
+}
+
+/// What is wanted at a field: by what it counts, and else by its kind.
+fn wanted_of(row: FieldRow) -> &'static str {
+    match row.name() {
+        FieldName::StackLevel => "a whole number from 0 to 99",
+        FieldName::Duration | FieldName::StartPeriod => "a whole number of seconds from 0 on",
+        _ => wanted_of_kind(row.kind()),
+    }
+}
+
+fn wanted_of_kind(kind: FieldKind) -> &'static str {
+    match kind {
+        FieldKind::Whole => "a whole number from -2147483648 to 2147483647",
+        FieldKind::WholeFromZero => "a whole number from 0 on",
+        FieldKind::Tenths => LIMIT,
+        FieldKind::Time => "an instant such as \"2025-01-31T18:00:00Z\"",
+        FieldKind::IdToken => "a string of at most 20 characters",
+        FieldKind::PurposeName => {
+            "\"ChargePointMaxProfile\", \"TxDefaultProfile\" or \"TxProfile\""
+        }
+        FieldKind::KindName => "\"Absolute\", \"Recurring\" or \"Relative\"",
+        FieldKind::RecurrencyName => "\"Daily\" or \"Weekly\"",
+        FieldKind::UnitName => "\"A\" or \"W\"",
+        FieldKind::Object(_) => "an object",
+        FieldKind::Objects(_) => "a list of 1 to 200 objects",
+    }
+}

@@ -1,0 +1,194 @@
+//! What is wrong with a line of a script that can't be read, and what was probably meant.
+
+use crate::line_text::utf8_of;
+use crate::report::Report;
+use crate::sentences::line_sentence;
+use findings::{excerpt, is_similar, similar_name};
+use ocpp_scalars::{InstantFault, read_instant};
+use replay::LineFault;
+use site_rules::Site;
+use std::alloc::{AllocError, Global};
+
+/// The words that may stand behind the instant.
+const WORDS: [&str; 4] = ["operator", "point", "hold", "release"];
+
+/// What is wrong with a line that has a fault, with the line as it stands.
+pub(crate) fn mistake_message(
+    report: &mut Report,
+    site: &Site,
+    line: &[u8],
+    fault: LineFault,
+) -> Result<String, AllocError> {
+    let alloc = report.alloc;
+    let (text, valid) = utf8_of(line);
+    match fault {
+        LineFault::TooLong => {
+            let count = line.len();
+            format!(in alloc; "{fault}: {count} bytes; at most 1048576 are wanted")
+        }
+        LineFault::BadText => {
+            format!(in alloc; "{fault}: it isn't UTF-8 from its byte at offset {valid} on")
+        }
+        LineFault::BadLine => {
+            let hint = form_hint(alloc, text)?;
+            let rule = line_sentence(fault);
+            let text = excerpt(alloc, text)?;
+            format!(in alloc; "{fault}: {hint}; {rule}: {text}")
+        }
+        LineFault::BadInstant => bad_instant(alloc, word_at(text, 0)),
+        LineFault::UnknownPoint => {
+            let id = word_at(text, 2);
+            let hint = point_hint(report, site, id)?;
+            let id = excerpt(alloc, id)?;
+            format!(in alloc; "{fault}: the site has no point \"{id}\"{hint}")
+        }
+        LineFault::NotComposite | LineFault::UnknownRequest => {
+            let why = line_sentence(fault);
+            format!(in alloc; "{fault}: {why}")
+        }
+    }
+}
+
+/// The word at a place in a line, counted from 0, or nothing.
+fn word_at(line: &str, place: usize) -> &str {
+    line.split(' ').nth(place).unwrap_or("")
+}
+
+/// What is wrong with a first word that is no instant.
+fn bad_instant(alloc: Global, word: &str) -> Result<String, AllocError> {
+    let hint = match read_instant(word) {
+        Ok(_) => "",
+        Err(fault) => instant_hint(word, fault),
+    };
+    let fault = LineFault::BadInstant;
+    let rule = line_sentence(fault);
+    let word = excerpt(alloc, word)?;
+    format!(in alloc; "{fault}: \"{word}\" {hint}; {rule}")
+}
+
+/// Which mistake a line of no form makes.
+fn form_hint(alloc: Global, text: &str) -> Result<String, AllocError> {
+    if let Some(hint) = plain_hint(text) {
+        return String::from_str(alloc, hint);
+    }
+    let Some((_, rest)) = text.split_once(' ') else {
+        return String::from_str(alloc, "there is one word alone");
+    };
+    let Some((word, _)) = rest.split_once(' ') else {
+        return String::from_str(alloc, "too few words stand there, or two blanks in a row");
+    };
+    if WORDS.contains(&word) {
+        return String::from_str(alloc, words_hint(word));
+    }
+    let found = excerpt(alloc, word)?;
+    match similar_name(alloc, word, &WORDS)? {
+        Some(meant) => {
+            format!(in alloc; "the second word is \"{found}\"; \"{meant}\" is probably meant")
+        }
+        None => format!(in alloc; "the second word is \"{found}\""),
+    }
+}
+
+/// A mistake that the line's first characters show.
+fn plain_hint(text: &str) -> Option<&'static str> {
+    let start = text.trim_start();
+    if start.starts_with('#') || start.starts_with("//") {
+        return Some("scripts have no comments");
+    }
+    if text.starts_with('\u{feff}') {
+        return Some("the line begins with a byte order mark; save the script without it");
+    }
+    if text.starts_with('>') || text.starts_with('*') || text.starts_with('!') {
+        return Some("this is a line of a replay's output, and no line of a script");
+    }
+    if text.starts_with('[') {
+        return Some("this is a frame alone, without the words before it");
+    }
+    if text.starts_with(' ') {
+        return Some("the line begins with a blank");
+    }
+    let (first, rest) = text.split_once(' ').unwrap_or((text, ""));
+    if first.contains('\t') || rest.starts_with('\t') {
+        return Some("a tab stands where one blank is wanted");
+    }
+    if rest.starts_with(' ') {
+        return Some("two blanks stand where one is wanted");
+    }
+    if is_date(first) {
+        return Some(
+            "the date and the time stand apart; a T joins them, as in 2025-01-31T18:00:00Z",
+        );
+    }
+    None
+}
+
+/// Whether a word looks like a date alone.
+fn is_date(word: &str) -> bool {
+    word.len() == 10 && has_shape(word, "dddd-dd-dd")
+}
+
+/// Whether a text begins with characters of these kinds, `d` for a digit.
+fn has_shape(text: &str, shape: &str) -> bool {
+    if text.len() < shape.len() {
+        return false;
+    }
+    for (byte, wanted) in text.bytes().zip(shape.bytes()) {
+        let fits = if wanted == b'd' {
+            byte.is_ascii_digit()
+        } else {
+            byte == wanted
+        };
+        if !fits {
+            return false;
+        }
+    }
+    true
+}
+
+/// What is wrong behind a second word that is right.
+fn words_hint(word: &str) -> &'static str {
+    match word {
+        "release" => {
+            "behind release stands the number of a held request, from 1 to 1000000000000, without zeros before it and with nothing behind it"
+        }
+        _ =>
+            "behind operator, point and hold stand the identity of a point and a frame, with one blank between them",
+    }
+}
+
+/// What is wrong with an instant.
+fn instant_hint(word: &str, fault: InstantFault) -> &'static str {
+    if matches!(fault, InstantFault::Range) {
+        return "lies before 1970 or after the year 9999";
+    }
+    if word.starts_with('\u{feff}') {
+        return "begins with a byte order mark; save the script without it";
+    }
+    if has_shape(word, "dddd-dd-ddTdd:dd:dd") || has_shape(word, "dddd-dd-ddtdd:dd:dd") {
+        return "names no day or time of day that there is, or ends in no zone such as Z or +01:00";
+    }
+    if has_shape(word, "dddd-dd-ddTdd:dd") {
+        return "has no seconds";
+    }
+    if is_date(word) {
+        return "has no time of day";
+    }
+    "is no instant"
+}
+
+/// The identity of the site that is probably meant, for the first thousand that aren't known.
+pub(crate) fn point_hint(report: &mut Report, site: &Site, id: &str) -> Result<String, AllocError> {
+    let alloc = report.alloc;
+    if !report.takes_hint() {
+        return Ok(String::new(alloc));
+    }
+    for place in 0..site.len() {
+        if let Some(point) = site.point(place) {
+            if is_similar(alloc, id, point.id)? {
+                let meant = point.id;
+                return format!(in alloc; " (\"{meant}\" is one)");
+            }
+        }
+    }
+    Ok(String::new(alloc))
+}

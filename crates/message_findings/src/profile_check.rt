@@ -1,0 +1,350 @@
+//! What is wrong with an install, and what its profile does else than it says.
+
+use crate::call_check::{connector_found, point_of, reject, unit_found, unknown_point_message};
+use crate::line_text::LineText;
+use crate::report::Report;
+use crate::sentences::never_sentence;
+use findings::{instant_text, tenths_text};
+use ocpp_scalars::{Instant, Refusal};
+use profile::{Kind, Period, Profile, ProfileKind, ProfileParts, Purpose, Recurrency};
+use profile_findings::never_rated;
+use site_rules::{Site, SitePoint, admit};
+use std::alloc::{AllocError, Global};
+
+/// Checks a SetChargingProfile whose fields are right.
+pub(crate) fn check_install(
+    report: &mut Report,
+    text: &LineText<'_>,
+    connector: u32,
+    parts: ProfileParts,
+) -> Result<(), AllocError> {
+    let site = text.site;
+    let Some(profile) = check_parts(report, parts)? else {
+        return Ok(());
+    };
+    match admit(site, text.point, connector, &profile) {
+        Err(Refusal::UnknownPoint) => {
+            let message = unknown_point_message(report, site, text.point)?;
+            report.fault(message)?;
+        }
+        Err(refusal) => {
+            let found = place_found(report.alloc, site, text, connector, refusal)?;
+            reject(report, refusal, Some(found.as_str()))?;
+        },
+        Ok(()) => warn_ceiling_at(report, text, connector, &profile)?,
+    }
+    warn_transaction(report, &profile)?;
+    warn_rates(report, text.moment, &profile)
+}
+
+/// What is said of an install's profile by itself, whose fields are right: nothing is known of the
+/// site or of the moment.
+pub(crate) fn check_sent_profile(
+    report: &mut Report,
+    parts: ProfileParts,
+) -> Result<(), AllocError> {
+    let Some(profile) = check_parts(report, parts)? else {
+        return Ok(());
+    };
+    warn_transaction(report, &profile)?;
+    warn_never_rated(report, &profile)
+}
+
+/// The profile of its parts, or their refusal. What has no effect in it is warned of.
+pub(crate) fn check_parts(
+    report: &mut Report,
+    parts: ProfileParts,
+) -> Result<Option<Profile>, AllocError> {
+    warn_dropped(report, &parts)?;
+    match Profile::try_new(parts) {
+        Ok(profile) => Ok(Some(profile)),
+        Err((refusal, parts)) => {
+            refuse_parts(report, refusal, &parts)?;
+            Ok(None)
+        }
+    }
+}
+
+/// A warning of a profile, which is named.
+fn warn_of(report: &mut Report, profile: &Profile, message: &str) -> Result<(), AllocError> {
+    report.warn_of(profile.purpose, profile.id, message)
+}
+
+/// A profile that never has a rate.
+pub(crate) fn warn_never_rated(report: &mut Report, profile: &Profile) -> Result<(), AllocError> {
+    match never_rated(profile) {
+        Some(why) => warn_of(report, profile, never_sentence(why)),
+        None => Ok(()),
+    }
+}
+
+/// What was found where a profile may not stand.
+fn place_found(
+    alloc: Global,
+    site: &Site,
+    text: &LineText<'_>,
+    connector: u32,
+    refusal: Refusal,
+) -> Result<String, AllocError> {
+    match refusal {
+        Refusal::UnknownConnector => connector_found(alloc, site, text, connector),
+        Refusal::WrongUnit => String::from_str(alloc, unit_found(site)),
+        _ => format!(in alloc; "connectorId is {connector}"),
+    }
+}
+
+/// Fields that have no meaning with the profile's purpose or kind.
+fn warn_dropped(report: &mut Report, parts: &ProfileParts) -> Result<(), AllocError> {
+    let (purpose, id) = (parts.purpose, parts.id);
+    if parts.transaction.is_some() && !matches!(purpose, Purpose::TxProfile) {
+        let message = "transactionId has no effect except in a TxProfile";
+        report.warn_of(purpose, id, message)?;
+    }
+    if parts.recurrency.is_some() && parts.kind != ProfileKind::Recurring {
+        let message = "recurrencyKind has no effect unless chargingProfileKind is Recurring";
+        report.warn_of(purpose, id, message)?;
+    }
+    if parts.schedule.start.is_some() && parts.kind == ProfileKind::Relative {
+        let message =
+            "startSchedule has no effect in a Relative profile, which begins with its transaction";
+        report.warn_of(purpose, id, message)?;
+    }
+    Ok(())
+}
+
+/// The refusal of a profile that isn't well formed.
+fn refuse_parts(
+    report: &mut Report,
+    refusal: Refusal,
+    parts: &ProfileParts,
+) -> Result<(), AllocError> {
+    let alloc = report.alloc;
+    let periods = parts.schedule.periods.as_slice();
+    let found = match refusal {
+        Refusal::LevelTooHigh => format!(in alloc; "stackLevel is {}", parts.stack_level)?,
+        Refusal::TooManyPeriods => format!(in alloc; "there are {}", periods.len())?,
+        Refusal::PeriodsOutOfOrder => out_of_order(alloc, periods)?,
+        _ => return reject(report, refusal, None),
+    };
+    reject(report, refusal, Some(found.as_str()))
+}
+
+/// The first period that doesn't start later than the one before it.
+fn out_of_order(alloc: Global, periods: &[Period]) -> Result<String, AllocError> {
+    let mut before: Option<u32> = None;
+    for (index, period) in periods.iter().enumerate() {
+        let start = period.start;
+        if let Some(earlier) = before {
+            if start <= earlier {
+                return format!(in alloc;
+                    "chargingSchedulePeriod[{index}] starts at {start}, and the one before it at {earlier}"
+                );
+            }
+        }
+        before = Some(start);
+    }
+    Ok(String::new(alloc))
+}
+
+/// A TxProfile that isn't bound to its transaction.
+fn warn_transaction(report: &mut Report, profile: &Profile) -> Result<(), AllocError> {
+    if matches!(profile.purpose, Purpose::TxProfile) && profile.transaction.is_none() {
+        warn_of(
+            report,
+            profile,
+            "it has no transactionId: where its transaction ends before the call reaches the point, the point may take it for the NEXT car",
+        )?;
+    }
+    Ok(())
+}
+
+/// A profile that never lowers a limit at the line's point.
+pub(crate) fn warn_ceiling_at(
+    report: &mut Report,
+    text: &LineText<'_>,
+    connector: u32,
+    profile: &Profile,
+) -> Result<(), AllocError> {
+    match point_of(text.site, text) {
+        Some(point) => warn_ceiling(report, point, connector, profile),
+        None => Ok(()),
+    }
+}
+
+/// A profile that never lowers a limit, since the ceilings of the site file are below it.
+fn warn_ceiling(
+    report: &mut Report,
+    point: SitePoint<'_>,
+    connector: u32,
+    profile: &Profile,
+) -> Result<(), AllocError> {
+    let ceiling = highest_ceiling(point, connector, profile.purpose);
+    let periods = profile.schedule.periods.as_slice();
+    if !periods.iter().all(|period| period.limit > ceiling) {
+        return Ok(());
+    }
+    let ceiling = tenths_text(report.alloc, u64::from(ceiling))?;
+    let message = format!(in report.alloc;
+        "each of its limits is above the ceiling of the site file there, {ceiling}: it never lowers anything"
+    )?;
+    warn_of(report, profile, message.as_str())
+}
+
+/// The highest ceiling that a profile could lower, in tenths. For the whole point it is the
+/// point's, else the lower of the point's and the connector's. Of a profile for all connectors it
+/// is that of the highest connector.
+fn highest_ceiling(point: SitePoint<'_>, connector: u32, purpose: Purpose) -> u32 {
+    if matches!(purpose, Purpose::ChargePointMaxProfile) {
+        return point.ceiling;
+    }
+    let mut highest = 0;
+    for (index, ceiling) in point.ceilings.iter().enumerate() {
+        if connector == 0 || index.saturating_add(1) == connector as usize {
+            highest = highest.max(*ceiling);
+        }
+    }
+    highest.min(point.ceiling)
+}
+
+/// When a profile has no rate: never, or in intervals that probably weren't meant.
+pub(crate) fn warn_rates(
+    report: &mut Report,
+    moment: Instant,
+    profile: &Profile,
+) -> Result<(), AllocError> {
+    if let Some(why) = never_rated(profile) {
+        return warn_of(report, profile, never_sentence(why));
+    }
+    if let Some(end) = profile.valid_to {
+        if end <= moment {
+            let end = instant_text(report.alloc, end)?;
+            let message = format!(in report.alloc;
+                "validTo, {end}, is over when the profile is installed: no later schedule counts it"
+            )?;
+            warn_of(report, profile, message.as_str())?;
+        }
+    }
+    warn_duration(report, profile)?;
+    match profile.kind {
+        Kind::Recurring(recurrency) => warn_recurrence(report, profile, recurrency),
+        Kind::Absolute | Kind::Relative => Ok(()),
+    }
+}
+
+/// Periods that start when the duration is over.
+fn warn_duration(report: &mut Report, profile: &Profile) -> Result<(), AllocError> {
+    let Some(duration) = profile.schedule.duration else {
+        return Ok(());
+    };
+    match first_past(profile, u64::from(duration)) {
+        Some((index, start)) => {
+            let message = format!(in report.alloc;
+                "chargingSchedulePeriod[{index}] starts at {start} s, when the duration of {duration} s is over: it never counts"
+            )?;
+            warn_of(report, profile, message.as_str())
+        }
+        None => Ok(()),
+    }
+}
+
+/// The first period that starts at this offset or later, with its start.
+fn first_past(profile: &Profile, end: u64) -> Option<(usize, u32)> {
+    for (index, period) in profile.schedule.periods.as_slice().iter().enumerate() {
+        if u64::from(period.start) >= end {
+            return Some((index, period.start));
+        }
+    }
+    None
+}
+
+/// What a Daily or Weekly schedule says past its day or week, and when it says nothing.
+fn warn_recurrence(
+    report: &mut Report,
+    profile: &Profile,
+    recurrency: Recurrency,
+) -> Result<(), AllocError> {
+    let alloc = report.alloc;
+    let length = recurrency.length();
+    let unit = match recurrency {
+        Recurrency::Daily => "day",
+        Recurrency::Weekly => "week",
+    };
+    let end = profile.schedule.duration.map_or(length, u64::from);
+    // What starts past a shorter duration was reported there.
+    if let (true, Some((index, start))) = (end >= length, first_past(profile, length)) {
+        let message = format!(in alloc;
+            "chargingSchedulePeriod[{index}] starts at {start} s, when the {unit} of {length} s is over: it never counts"
+        )?;
+        warn_of(report, profile, message.as_str())?;
+    }
+    if let Some(duration) = profile.schedule.duration {
+        if u64::from(duration) > length {
+            let message = format!(in alloc;
+                "the duration of {duration} s is longer than the {unit} of {length} s, which begins anew all the same"
+            )?;
+            warn_of(report, profile, message.as_str())?;
+        } else if u64::from(duration) < length {
+            warn_gap(report, profile, recurrency, u64::from(duration), length)?;
+        }
+    }
+    match profile.schedule.periods.as_slice().first() {
+        Some(first) if first.start > 0 => {
+            warn_gap(report, profile, recurrency, 0, u64::from(first.start))
+        }
+        _ => Ok(()),
+    }
+}
+
+/// That a Daily or Weekly profile sets no limit from one offset of its day or week to another. They
+/// are given by the clock if that is known, and else in seconds.
+fn warn_gap(
+    report: &mut Report,
+    profile: &Profile,
+    recurrency: Recurrency,
+    from: u64,
+    to: u64,
+) -> Result<(), AllocError> {
+    let alloc = report.alloc;
+    let clock = match (recurrency, profile.schedule.start) {
+        (Recurrency::Daily, Some(start)) => clock_texts(alloc, start, from, to)?,
+        _ => None,
+    };
+    let when = match (clock, recurrency) {
+        (Some((from, to)), _) => format!(in alloc; "from {from} to {to} UTC of each day")?,
+        (None, Recurrency::Daily) => format!(in alloc; "from {from} s to {to} s of each day")?,
+        (None, Recurrency::Weekly) => format!(in alloc; "from {from} s to {to} s of each week")?,
+    };
+    let message = format!(in alloc;
+        "it sets no limit {when}: the profile below it counts then, or none"
+    )?;
+    warn_of(report, profile, message.as_str())
+}
+
+/// The times of the day at two offsets from an instant, where both lie in the calendar.
+fn clock_texts(
+    alloc: Global,
+    start: Instant,
+    from: u64,
+    to: u64,
+) -> Result<Option<(String, String)>, AllocError> {
+    let (Some(from), Some(to)) = (
+        Instant::try_new(start.seconds().saturating_add(from)),
+        Instant::try_new(start.seconds().saturating_add(to)),
+    ) else {
+        return Ok(None);
+    };
+    let (from, to) = (instant_text(alloc, from)?, instant_text(alloc, to)?);
+    match (time_in(from.as_str()), time_in(to.as_str())) {
+        (Some(from), Some(to)) => {
+            Ok(Some((String::from_str(alloc, from)?, String::from_str(alloc, to)?)))
+        }
+        _ => Ok(None),
+    }
+}
+
+/// The hour and the minute in the text of an instant, with the second where it isn't 0.
+fn time_in(instant: &str) -> Option<&str> {
+    let (_, time) = instant.split_once('T')?;
+    let time = time.strip_suffix('Z')?;
+    Some(time.strip_suffix(":00").unwrap_or(time))
+}

@@ -1,0 +1,62 @@
+//! What the refusal in an answer means, for an operator who got it.
+
+use crate::rejection::{Rejection, fault_of, refusal_of, rejection_of};
+use crate::sentences::{call_sentence, sentence};
+use findings::excerpt;
+use ocpp_scalars::Refusal;
+use ocppj_frame::{FrameFault, ReadingMemory, read_tree};
+use std::alloc::{AllocError, Global};
+
+/// A central system whose device is full answers that it lacks memory, too.
+const SHORT_OR_FULL: &str =
+    "memory ran out, or the central system's device is full: see its status";
+
+/// What an answer's refusal means: its name and its sentence, with the field that it is of where it
+/// has one. None where the answer refuses nothing, or by a name that isn't this system's.
+pub fn answer_sentence(alloc: Global, answer: &str) -> Result<Option<String>, AllocError> {
+    let mut memory = ReadingMemory::new(alloc);
+    match read_tree(&mut memory, answer) {
+        Ok(tree) => sentence_of(alloc, rejection_of(tree.root())),
+        Err(FrameFault::OutOfMemory) => Err(AllocError),
+        Err(_) => Ok(None),
+    }
+}
+
+fn sentence_of(alloc: Global, answer: Option<Rejection<'_>>) -> Result<Option<String>, AllocError> {
+    match answer {
+        Some(Rejection::Rejected(reason)) => refusal_sentence(alloc, reason),
+        Some(Rejection::Error { code, description }) => match refusal_sentence(
+            alloc,
+            description,
+        )? {
+            Some(sentence) => Ok(Some(sentence)),
+            None => fault_sentence(alloc, code, description),
+        },
+        Some(Rejection::Unknown) | None => Ok(None),
+    }
+}
+
+/// The sentence of the refusal of a name.
+fn refusal_sentence(alloc: Global, name: &str) -> Result<Option<String>, AllocError> {
+    let Some(refusal) = refusal_of(name) else {
+        return Ok(None);
+    };
+    let why = match refusal {
+        Refusal::OutOfMemory => SHORT_OR_FULL,
+        other => sentence(other),
+    };
+    Ok(Some(format!(in alloc; "{refusal}: {why}")?))
+}
+
+/// The sentence of an error by its code, with the field that the description names.
+fn fault_sentence(alloc: Global, code: &str, field: &str) -> Result<Option<String>, AllocError> {
+    let Some(fault) = fault_of(code) else {
+        return Ok(None);
+    };
+    let why = call_sentence(fault);
+    if field.is_empty() {
+        return Ok(Some(format!(in alloc; "{code}: {why}")?));
+    }
+    let field = excerpt(alloc, field)?;
+    Ok(Some(format!(in alloc; "{code}: {field}: {why}")?))
+}

@@ -1,0 +1,136 @@
+//! What is wrong with a script, as far as each of its messages says it.
+
+use crate::audit_check::judged_audit;
+use crate::line_hints::mistake_message;
+use crate::line_text::LineText;
+use crate::remote_start_check::check_ended_start;
+use crate::report::Report;
+use crate::sentences::line_sentence;
+use crate::starts::Starts;
+use crate::text_check::check_text;
+use findings::Finding;
+use ocppj_frame::ReadingMemory;
+use replay::{Held, LineFault, PlayedLine, Playing, PrintedLine, ScriptLine};
+use std::alloc::{AllocError, Global};
+
+/// What is found in a script, line by line as it is played: faults of lines, messages that are refused,
+/// and warnings. A message gets a warning if it does something else than it says. A refusal that
+/// depends on what the point has by then (`NoTransaction`, `OtherTransaction`, `TooManyProfiles`,
+/// `OutboxFull`, `AuditOpen`, `ResultTooLong`) isn't found.
+#[derive(Drop)]
+pub struct ScriptCheck {
+    report: Report,
+    memory: ReadingMemory,
+    held: Vec<HeldLine>,
+    starts: Starts,
+}
+
+/// A request that a line held.
+#[derive(Clone, Copy)]
+struct HeldLine {
+    request: u64,
+    /// The line's number.
+    line: u64,
+}
+
+impl ScriptCheck {
+    /// Before the first line.
+    pub fn new(alloc: Global) -> ScriptCheck {
+        ScriptCheck {
+            report: Report::new(alloc),
+            memory: ReadingMemory::new(alloc),
+            held: Vec::new(alloc),
+            starts: Starts::new(alloc),
+        }
+    }
+
+    /// Checks a line that was played just now.
+    pub fn take_in(
+        &mut self,
+        playing: &Playing<'_>,
+        played: &PlayedLine<'_>,
+    ) -> Result<(), AllocError> {
+        self.report.go_to(played.number);
+        for line in &played.outcome.printed {
+            if let PrintedLine::Held(request) = line {
+                self.held.push(HeldLine {
+                    request: *request,
+                    line: played.number,
+                })?;
+            }
+        }
+        self.check_line(playing, played)
+    }
+
+    fn check_line(
+        &mut self,
+        playing: &Playing<'_>,
+        played: &PlayedLine<'_>,
+    ) -> Result<(), AllocError> {
+        let report = &mut self.report;
+        let site = playing.machine().site();
+        match &played.said {
+            None => Ok(()),
+            Some(Ok(ScriptLine::Text(sent))) => {
+                let starts = self.starts.follow(playing, played, sent.point())?;
+                let text = LineText {
+                    audit: judged_audit(playing, played, sent.point()),
+                    replies_to_start: starts.is_reply,
+                    ..LineText::new(site, played, sent)
+                };
+                check_text(report, &mut self.memory, &text)?;
+                match &starts.ended {
+                    Some(ended) => check_ended_start(report, ended),
+                    None => Ok(()),
+                }
+            }
+            Some(Ok(ScriptLine::Hold(sent))) => {
+                check_text(
+                    report,
+                    &mut self.memory,
+                    &LineText::held(site, played, sent),
+                )
+            }
+            Some(Ok(ScriptLine::Release(number))) => {
+                if played.outcome.is_fault {
+                    return unknown_request(report, *number);
+                }
+                Ok(())
+            }
+            Some(Err(fault)) => {
+                let message = mistake_message(report, site, played.line, *fault)?;
+                report.fault(message)
+            }
+        }
+    }
+
+    /// What was found, with a remark for each request that is still held when the script ends.
+    pub fn finish(mut self, held: &[Held]) -> Result<Vec<Finding>, AllocError> {
+        for held in held {
+            self.remark_held(held.number)?;
+        }
+        Ok(self.report.into_findings())
+    }
+
+    /// A remark for each line that took a request of this number, which is still held.
+    fn remark_held(&mut self, number: u64) -> Result<(), AllocError> {
+        for line in &self.held {
+            if line.request == number {
+                let message = format!(in self.report.alloc;
+                    "request {number} is still held when the script ends, and isn't answered"
+                )?;
+                self.report.remark_at(line.line, message)?;
+            }
+        }
+        Ok(())
+    }
+}
+
+/// That no line holds a request of this number.
+fn unknown_request(report: &mut Report, number: u64) -> Result<(), AllocError> {
+    let sentence = line_sentence(LineFault::UnknownRequest);
+    let message = format!(in report.alloc;
+        "UnknownRequest: release {number}: {sentence}; a hold line that takes one prints its number"
+    )?;
+    report.fault(message)
+}

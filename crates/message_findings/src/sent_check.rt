@@ -1,0 +1,192 @@
+//! What is wrong with an operator's message on its own, before it is sent.
+
+ghost use Rattle.std.specs.Prelude.{◌≡◌, ◌↔◌, IfOk, IsSome, None};
+ghost use Rattle.ocppj_frame.specs.Read.{tree_of_text};
+
+use crate::call_check::{
+    has_fields, refuse_action, unknown_fields, warn_of_clear, warn_repeated, warn_unknown,
+};
+use crate::field_fault::field_fault_message;
+use crate::profile_check::check_sent_profile;
+use crate::remote_start_check::check_sent_start;
+use crate::report::Report;
+use crate::text_check::why_dropped;
+use findings::{Finding, break_of, json_fault_text, place_in_text};
+use messages::{Action, ActionKind, CallFault, Side, read_fields};
+use ocpp_scalars::Refusal;
+use ocppj_frame::{Frame, FrameFault, Node, ReadingMemory, read_frame};
+use profile::Criteria;
+use profile_findings::has_no_criterion;
+use std::alloc::{AllocError, Global};
+
+/// What is said of an operator's message before it is sent.
+#[derive(Drop)]
+pub struct SentCheck {
+    /// Why it is no CALL, where it isn't one.
+    pub no_call: Option<String>,
+    /// What is wrong with its action, its fields and its profile on their own. Also fields without
+    /// an effect, duplicate fields, and a clear that clears more than it seems to.
+    pub findings: Vec<Finding>,
+    /// Whether it is a ClearChargingProfile that would clear everything by mistake. Its payload has
+    /// fields, and none of them is a criterion: they are others or null.
+    pub clears_by_mistake: bool,
+}
+
+/// Checks an operator's message on its own: nothing is known of the site, or of what the point has.
+/// A message that is no CALL has no findings.
+pub fn check_sent(alloc: Global, text: &str) -> Result<SentCheck, AllocError> {
+    let mut memory = ReadingMemory::new(alloc);
+    match check_message(alloc, &mut memory, text)? {
+        Some(checked) => Ok(checked),
+        None => {
+            let why = why_dropped(alloc, &mut memory, text, 0)?;
+            nothing_said(alloc, Some(why))
+        }
+    }
+}
+
+/// Checks the message, if it is one.
+fn check_message(
+    alloc: Global,
+    memory: &mut ReadingMemory,
+    text: &str,
+) -> Result<Option<SentCheck>, AllocError> {
+    match read_frame(memory, text) {
+        Ok(frame) => Ok(Some(check_frame(alloc, text, frame)?)),
+        Err(FrameFault::Formation { id: _id }) => Ok(Some(nothing_said(alloc, None)?)),
+        Err(FrameFault::Dropped) => Ok(None),
+        Err(FrameFault::OutOfMemory) => Err(AllocError),
+    }
+}
+
+fn check_frame(alloc: Global, text: &str, frame: Frame<'_>) -> Result<SentCheck, AllocError> {
+    match frame {
+        Frame::Call {
+            action,
+            payload,
+            ..
+        } => match ActionKind::of_sender(Side::Operator, action.as_str()) {
+            Some(kind) => check_fields(alloc, text, kind, payload.root()),
+            None => no_operators_action(alloc, action.as_str()),
+        },
+        _ => {
+            let why = "an operator sends CALLs, which begin with [2,";
+            nothing_said(alloc, Some(String::from_str(alloc, why)?))
+        }
+    }
+}
+
+/// Where the JSON of a message breaks, if it does: the line and the column, and what is wanted
+/// there.
+pub fn json_break(alloc: Global, text: &str) -> Result<Option<String>, AllocError>
+    ensures { IfOk result (λ message. IsSome message ↔ (tree_of_text text.now ≡ None)) }
+{
+    let Some(fault) = break_of(alloc, text)? else {
+        return Ok(None);
+    };
+    let place = place_in_text(text, fault.offset);
+    let found = json_fault_text(alloc, &fault)?;
+    Ok(Some(format!(in alloc; "{place}: {found}")?))
+}
+
+/// An action of this name is none of an operator's.
+fn no_operators_action(alloc: Global, name: &str) -> Result<SentCheck, AllocError> {
+    let mut report = Report::new(alloc);
+    refuse_action(&mut report, Side::Operator, name)?;
+    Ok(SentCheck {
+        no_call: None,
+        findings: report.into_findings(),
+        clears_by_mistake: false,
+    })
+}
+
+/// Of a message there is nothing to say.
+fn nothing_said(alloc: Global, no_call: Option<String>) -> Result<SentCheck, AllocError> {
+    Ok(SentCheck {
+        no_call,
+        findings: Vec::new(alloc),
+        clears_by_mistake: false,
+    })
+}
+
+/// Checks the fields of a CALL.
+fn check_fields(
+    alloc: Global,
+    text: &str,
+    kind: ActionKind,
+    payload: Node<'_, '_>,
+) -> Result<SentCheck, AllocError> {
+    let mut report = Report::new(alloc);
+    warn_repeated(&mut report, text, kind)?;
+    let clears_by_mistake = match read_fields(alloc, kind, payload) {
+        Ok(action) => check_read(&mut report, text, kind, payload, action)?,
+        Err(fault) => {
+            check_fault(&mut report, text, kind, payload, fault)?;
+            false
+        }
+    };
+    Ok(SentCheck {
+        no_call: None,
+        findings: report.into_findings(),
+        clears_by_mistake,
+    })
+}
+
+/// Checks what an action asks for. Returns whether it clears everything by mistake.
+fn check_read(
+    report: &mut Report,
+    text: &str,
+    kind: ActionKind,
+    payload: Node<'_, '_>,
+    action: Action,
+) -> Result<bool, AllocError> {
+    match action {
+        Action::ClearChargingProfile(criteria) => check_clear(report, text, payload, &criteria),
+        Action::SetChargingProfile {
+            connector: _connector,
+            profile,
+        } => {
+            warn_unknown(report, text, kind)?;
+            check_sent_profile(report, profile)?;
+            Ok(false)
+        }
+        Action::RemoteStartTransaction(start) => {
+            warn_unknown(report, text, kind)?;
+            check_sent_start(report, start)?;
+            Ok(false)
+        }
+        _action => {
+            warn_unknown(report, text, kind)?;
+            Ok(false)
+        }
+    }
+}
+
+/// A field that isn't right.
+fn check_fault(
+    report: &mut Report,
+    text: &str,
+    kind: ActionKind,
+    payload: Node<'_, '_>,
+    fault: CallFault,
+) -> Result<(), AllocError> {
+    if matches!(fault, CallFault::Refused(Refusal::OutOfMemory)) {
+        return Err(AllocError);
+    }
+    let message = field_fault_message(report.alloc, payload, kind, fault)?;
+    report.fault(message)?;
+    warn_unknown(report, text, kind)
+}
+
+/// Warns of a clear. Returns whether it clears everything by mistake.
+fn check_clear(
+    report: &mut Report,
+    text: &str,
+    payload: Node<'_, '_>,
+    criteria: &Criteria,
+) -> Result<bool, AllocError> {
+    let alloc = report.alloc;
+    let unknown = unknown_fields(alloc, text, ActionKind::ClearChargingProfile)?;
+    warn_of_clear(report, payload, criteria, &unknown)?;
+    Ok(has_no_criterion(criteria) && has_fields(alloc, payload, &unknown)?)
+}

@@ -1,0 +1,241 @@
+//! What is wrong with a message that a line of a script brings, as a frame (OCPP-J 1.6, chapter 4).
+
+use crate::audit_check::check_verdict;
+use crate::call_check::{Call, check_call};
+use crate::line_text::{LineText, Sender};
+use crate::remote_start_check::warn_not_started;
+use crate::report::Report;
+use crate::sentences::{call_sentence, line_sentence};
+use findings::{JsonFault, excerpt, first_break, json_fault_text};
+use messages::CallFault;
+use ocpp_scalars::character_count;
+use ocppj_frame::{
+    Field, Frame, FrameFault, MAX_ID_CHARACTERS, Node, ReadingMemory, read_frame, read_tree,
+    text_field,
+};
+use replay::LineFault;
+use std::alloc::{AllocError, Global};
+
+/// What became of a message.
+#[derive(Clone, Copy, PartialEq, Eq)]
+enum Reading {
+    /// It is a message, and was checked as one.
+    Checked,
+    /// It is no message.
+    Dropped,
+}
+
+/// Checks the message of a line.
+pub(crate) fn check_text(
+    report: &mut Report,
+    memory: &mut ReadingMemory,
+    text: &LineText<'_>,
+) -> Result<(), AllocError> {
+    match check_message(report, memory, text)? {
+        Reading::Checked => Ok(()),
+        Reading::Dropped => check_dropped(report, memory, text),
+    }
+}
+
+/// Checks the line's frame, if it is a message.
+fn check_message(
+    report: &mut Report,
+    memory: &mut ReadingMemory,
+    text: &LineText<'_>,
+) -> Result<Reading, AllocError> {
+    match read_frame(memory, text.frame) {
+        Ok(frame) => check_frame(report, text, frame)?,
+        Err(FrameFault::Formation { id: _id }) => check_malformed(report, text)?,
+        Err(FrameFault::Dropped) => return Ok(Reading::Dropped),
+        Err(FrameFault::OutOfMemory) => return Err(AllocError),
+    }
+    Ok(Reading::Checked)
+}
+
+/// Checks a message.
+fn check_frame(
+    report: &mut Report,
+    text: &LineText<'_>,
+    frame: Frame<'_>,
+) -> Result<(), AllocError> {
+    match frame {
+        Frame::Call {
+            action,
+            payload,
+            ..
+        } => {
+            let call = Call {
+                text,
+                action: action.as_str(),
+                payload: payload.root(),
+            };
+            check_call(report, &call)
+        }
+        _ if text.sender == Sender::Hold => not_composite(report, text, "it is no CALL"),
+        Frame::Reply { id, payload } => {
+            let status = unaccepted_status(text.replies_to_start, payload.root());
+            check_reply(report, text, id.as_str(), status)
+        }
+        Frame::Fault { id } => check_reply(report, text, id.as_str(), Some("an error")),
+        Frame::Other => report.warn_text(
+            "the first element of the frame is none of 2 (CALL), 3 (CALLRESULT) and 4 (CALLERROR): the frame is discarded without an answer",
+        ),
+    }
+}
+
+/// The status of a reply, to a remote start or another call, where it isn't well.
+fn unaccepted_status<'memory>(
+    is_of_start: bool,
+    payload: Node<'_, 'memory>,
+) -> Option<&'memory str> {
+    if is_of_start {
+        status_of_start(payload)
+    } else {
+        reply_status(payload)
+    }
+}
+
+/// The status of a reply, where it is neither accepted nor, of a clear, that nothing matched.
+fn reply_status<'memory>(payload: Node<'_, 'memory>) -> Option<&'memory str> {
+    match text_field(payload, "status") {
+        Field::Value("Accepted" | "Unknown") => None,
+        Field::Value(status) => Some(status),
+        _ => None,
+    }
+}
+
+/// The status of a reply to a remote start, where it isn't accepted.
+fn status_of_start<'memory>(payload: Node<'_, 'memory>) -> Option<&'memory str> {
+    match text_field(payload, "status") {
+        Field::Value("Accepted") => None,
+        Field::Value(status) => Some(status),
+        _ => Some("no status"),
+    }
+}
+
+/// A point that doesn't accept the call in flight or isn't in step, and an operator that replies. A
+/// reply that confirms no call is ignored.
+fn check_reply(
+    report: &mut Report,
+    text: &LineText<'_>,
+    id: &str,
+    status: Option<&str>,
+) -> Result<(), AllocError> {
+    if text.sender != Sender::Point {
+        return report.warn_text(
+            "an operator's CALLRESULT and CALLERROR are ignored: an operator sends CALLs, which begin with [2,",
+        );
+    }
+    let alloc = report.alloc;
+    if let Some(audit) = &text.audit {
+        if audit.call.to_string(alloc)?.as_str() == id {
+            return check_verdict(report, audit);
+        }
+    }
+    let (true, Some(status)) = (text.confirms_call, status) else {
+        return Ok(());
+    };
+    if text.replies_to_start {
+        return warn_not_started(report, id, status);
+    }
+    let id = excerpt(alloc, id)?;
+    let status = excerpt(alloc, status)?;
+    let message = format!(in alloc;
+        "the point answers call \"{id}\" with {status}: the central system keeps what the call is of, so its schedules aren't what the point has"
+    )?;
+    report.warn(message)
+}
+
+/// A held line that is no request for a schedule.
+pub(crate) fn not_composite(
+    report: &mut Report,
+    text: &LineText<'_>,
+    why: &str,
+) -> Result<(), AllocError> {
+    let fault = LineFault::NotComposite;
+    let rule = line_sentence(fault);
+    let frame = excerpt(report.alloc, text.frame)?;
+    let message = format!(in report.alloc; "{fault}: {rule}, and {why}: {frame}")?;
+    report.fault(message)
+}
+
+/// A CALL whose action is no string or whose payload is no object.
+fn check_malformed(report: &mut Report, text: &LineText<'_>) -> Result<(), AllocError> {
+    if text.sender == Sender::Hold {
+        return not_composite(report, text, "it is malformed");
+    }
+    let sentence = call_sentence(CallFault::FormationViolation);
+    let frame = excerpt(report.alloc, text.frame)?;
+    let message = format!(in report.alloc; "FormationViolation: {sentence}: {frame}")?;
+    report.fault(message)
+}
+
+/// A frame that is no message.
+fn check_dropped(
+    report: &mut Report,
+    memory: &mut ReadingMemory,
+    text: &LineText<'_>,
+) -> Result<(), AllocError> {
+    let before = character_count(text.line).saturating_sub(character_count(text.frame));
+    let why = why_dropped(report.alloc, memory, text.frame, before)?;
+    if text.sender == Sender::Hold {
+        return not_composite(report, text, why.as_str());
+    }
+    let frame = excerpt(report.alloc, text.frame)?;
+    let message = format!(in report.alloc;
+        "this is no message and is discarded without an answer: {why}: {frame}"
+    )?;
+    report.warn(message)
+}
+
+/// Why a frame is no message; `before` is the number of characters before it in its line.
+pub(crate) fn why_dropped(
+    alloc: Global,
+    memory: &mut ReadingMemory,
+    frame: &str,
+    before: usize,
+) -> Result<String, AllocError> {
+    match read_tree(memory, frame) {
+        Ok(tree) => String::from_str(alloc, why_no_message(tree.root())),
+        Err(FrameFault::OutOfMemory) => Err(AllocError),
+        Err(_) => broken_at(alloc, frame, before, &first_break(alloc, frame)?),
+    }
+}
+
+/// Where the JSON of a frame breaks, by its column in the line.
+fn broken_at(
+    alloc: Global,
+    frame: &str,
+    before: usize,
+    fault: &JsonFault,
+) -> Result<String, AllocError> {
+    let mut column = before.saturating_add(1);
+    for (offset, _) in frame.char_indices() {
+        if offset >= fault.offset {
+            break;
+        }
+        column = column.saturating_add(1);
+    }
+    let found = json_fault_text(alloc, fault)?;
+    format!(in alloc; "its JSON breaks at column {column}, where {found}")
+}
+
+/// Why a tree is no message.
+fn why_no_message(root: Node<'_, '_>) -> &'static str {
+    let Some(entries) = root.list() else {
+        return "a frame is a list such as [2,\"id\",\"Action\",{}]";
+    };
+    let (Some(kind), Some(id)) = (entries.get(0), entries.get(1)) else {
+        return "a frame is a list such as [2,\"id\",\"Action\",{}], and elements are missing";
+    };
+    if kind.number().is_none() {
+        return "the first element of a frame is the number 2, 3 or 4";
+    }
+    match id.text() {
+        None => "the second element of a frame, its id, is a string in double quotes",
+        Some(id) if character_count(id) > MAX_ID_CHARACTERS => {
+            "the id of a frame has at most 36 characters"
+        }
+        Some(_) => "the first element of a frame is the number 2, 3 or 4",
+    }
+}

@@ -1,0 +1,3 @@
+pub mod Fuse
+pub mod Hidden
+pub mod NeverRated

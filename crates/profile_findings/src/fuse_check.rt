@@ -1,0 +1,94 @@
+//! What a call makes of the fuse limit of its point.
+
+ghost use Rattle.std.specs.Prelude.{◌↔◌, IfOk, IsSome};
+ghost use Rattle.profile_findings.specs.Fuse.{IsRaised, IsRaisedOrGone};
+
+use crate::standing_check::highest_limit;
+use findings::{Finding, Location, tenths_text};
+use messages::unit_name;
+use point_book::PointBook;
+use profile::{Purpose, Unit};
+use std::alloc::{AllocError, Global};
+
+/// The most that the ChargePointMaxProfiles of a point allow, in tenths. None where it has no such
+/// profile.
+pub fn fuse_limit(book: &PointBook) -> Option<u32> {
+    let mut highest = None;
+    for row in book.view().rows {
+        if row.profile.purpose == Purpose::ChargePointMaxProfile {
+            highest = highest.max(Some(highest_limit(row)));
+        }
+    }
+    highest
+}
+
+/// A warning where a call to the point of an identity raises its fuse limit, or leaves it without one.
+pub fn check_fuse(
+    alloc: Global,
+    unit: Unit,
+    point: &str,
+    before: Option<u32>,
+    after: Option<u32>,
+) -> Result<Option<Finding>, AllocError>
+    ensures { IfOk result (λ found. IsSome found ↔ IsRaisedOrGone before after) }
+{
+    let Some(was) = before else {
+        return Ok(None);
+    };
+    let message = match after {
+        None => gone_message(alloc, unit, was)?,
+        Some(now) if now > was => raised_message(alloc, unit, was, now)?,
+        Some(_) => return Ok(None),
+    };
+    let place = Location::End(String::from_str(alloc, point)?);
+    Ok(Some(Finding::warning(place, message)))
+}
+
+/// A remark on the line of a number where it raises the fuse limit of its point.
+pub fn check_raise(
+    alloc: Global,
+    unit: Unit,
+    line: u64,
+    before: Option<u32>,
+    after: Option<u32>,
+) -> Result<Option<Finding>, AllocError>
+    ensures { IfOk result (λ found. IsSome found ↔ IsRaised before after) }
+{
+    let (Some(was), Some(now)) = (before, after) else {
+        return Ok(None);
+    };
+    if now <= was {
+        return Ok(None);
+    }
+    let message = raised_message(alloc, unit, was, now)?;
+    Ok(Some(Finding::remark(Location::Line(line), message)))
+}
+
+/// A remark on the point of an identity that has no fuse limit, though most points of its site do.
+pub fn check_unlimited(alloc: Global, point: &str) -> Result<Finding, AllocError> {
+    let place = Location::End(String::from_str(alloc, point)?);
+    let message = String::from_str(
+        alloc,
+        "it has no ChargePointMaxProfile, though most points of the site do",
+    )?;
+    Ok(Finding::remark(place, message))
+}
+
+/// That a point has no fuse limit any more.
+fn gone_message(alloc: Global, unit: Unit, was: u32) -> Result<String, AllocError> {
+    let was = tenths_text(alloc, u64::from(was))?;
+    let unit = unit_name(unit);
+    format!(in alloc;
+        "this leaves the point without a ChargePointMaxProfile; it had up to {was} {unit}"
+    )
+}
+
+/// That a point's fuse limit is higher.
+fn raised_message(alloc: Global, unit: Unit, was: u32, now: u32) -> Result<String, AllocError> {
+    let was = tenths_text(alloc, u64::from(was))?;
+    let now = tenths_text(alloc, u64::from(now))?;
+    let unit = unit_name(unit);
+    format!(in alloc;
+        "this raises what the point's ChargePointMaxProfiles allow at most from {was} to {now} {unit}"
+    )
+}

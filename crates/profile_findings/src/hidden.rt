@@ -1,0 +1,31 @@
+//! A profile for all connectors that speaks for none of them.
+
+ghost use Rattle.std.specs.Prelude.{◌≡◌, ◌↔◌, IsTrue, length};
+ghost use Rattle.profile_findings.specs.Hidden.{SpeaksForNone, IsHiddenEverywhere};
+
+use meaning::View;
+use profile::{Purpose, Row, is_candidate};
+
+/// Whether a TxDefaultProfile is at connector 0 and each connector has one of its own at its stack
+/// level (chapter 3.13). Then it counts nowhere, even while the others have no limit.
+pub(crate) fn is_hidden_everywhere(view: &View<'_>, row: &Row) -> bool
+    ensures { IsTrue result
+        ↔ IsHiddenEverywhere view.now.rows.now (length view.now.ceilings.now) row.now }
+{
+    row.connector == 0
+        && row.profile.purpose == Purpose::TxDefaultProfile
+        && speaks_for_none(view, row)
+}
+
+/// Whether a row speaks for no connector among the TxDefaultProfiles.
+fn speaks_for_none(view: &View<'_>, row: &Row) -> bool
+    ensures { IsTrue result
+        ↔ SpeaksForNone view.now.rows.now (length view.now.ceilings.now) row.now }
+{
+    for before in 0..view.ceilings.len() {
+        if is_candidate(Purpose::TxDefaultProfile, view.rows, before + 1, row) {
+            return false;
+        }
+    }
+    true
+}

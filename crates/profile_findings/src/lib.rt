@@ -1,0 +1,16 @@
+//! What is worth a look in the profiles that a point has, gets or loses.
+#![tactic(auto)]
+
+mod boot_check;
+mod change_check;
+mod fuse_check;
+mod hidden;
+mod never;
+mod standing_check;
+mod together;
+
+pub use boot_check::check_boot;
+pub use change_check::{RowChange, check_change, has_no_criterion, takes_place_of};
+pub use fuse_check::{check_fuse, check_raise, check_unlimited, fuse_limit};
+pub use never::{NeverRated, never_rated};
+pub use standing_check::check_standing;

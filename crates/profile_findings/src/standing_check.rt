@@ -1,0 +1,162 @@
+//! What is amiss with what a point has when a script ends, though each line by itself is right.
+
+use crate::hidden::is_hidden_everywhere;
+use crate::together::{Excess, worst_excess};
+use findings::{Finding, Location, Severity, instant_text, tenths_text};
+use meaning::View;
+use messages::unit_name;
+use point_book::PointBook;
+use profile::{Purpose, Row, Unit};
+use std::alloc::{AllocError, Global};
+
+/// What is wrong with what the point of an identity has. It may have TxDefaultProfiles for all
+/// connectors that each connector's own one hides, and ChargePointMaxProfiles that one above them
+/// lifts. The schedules of its connectors together may go
+/// beyond the ChargePointMaxProfile: that is reported where they go furthest. Where no profile of a
+/// connector prevails there, so that the ceilings of the site file alone go beyond it, that is a
+/// remark.
+pub fn check_standing(
+    alloc: Global,
+    unit: Unit,
+    point: &str,
+    book: &PointBook,
+) -> Result<Vec<Finding>, AllocError> {
+    let view = book.view();
+    let mut findings = hidden_defaults(alloc, point, &view)?;
+    findings.append(&mut lifted_limits(alloc, unit, point, &view)?)?;
+    if let Some(finding) = excess_finding(alloc, unit, point, book)? {
+        findings.push(finding)?;
+    }
+    Ok(findings)
+}
+
+/// Of each TxDefaultProfile for all connectors that it speaks for none.
+fn hidden_defaults(
+    alloc: Global,
+    point: &str,
+    view: &View<'_>,
+) -> Result<Vec<Finding>, AllocError> {
+    let mut findings = Vec::new(alloc);
+    for row in view.rows {
+        if is_hidden_everywhere(view, row) {
+            let message = hidden_message(alloc, row)?;
+            findings.push(finding_at_end(alloc, Severity::Warning, point, message)?)?;
+        }
+    }
+    Ok(findings)
+}
+
+/// Of each ChargePointMaxProfile the first other one that lifts it.
+fn lifted_limits(
+    alloc: Global,
+    unit: Unit,
+    point: &str,
+    view: &View<'_>,
+) -> Result<Vec<Finding>, AllocError> {
+    let mut findings = Vec::new(alloc);
+    for low in view.rows {
+        if let Some(high) = view.rows.iter().find(|high| lifts(high, low)) {
+            let message = lifted_message(alloc, unit, high, low)?;
+            findings.push(finding_at_end(alloc, Severity::Warning, point, message)?)?;
+        }
+    }
+    Ok(findings)
+}
+
+/// Whether a row's limit for the whole point may be higher than another's in whose place it counts:
+/// where both have a limit, the higher stack level counts alone (chapter 3.13).
+fn lifts(high: &Row, low: &Row) -> bool {
+    high.profile.purpose == Purpose::ChargePointMaxProfile
+        && low.profile.purpose == Purpose::ChargePointMaxProfile
+        && high.profile.stack_level > low.profile.stack_level
+        && highest_limit(high) > lowest_limit(low)
+}
+
+/// The highest limit of a profile's periods, in tenths.
+pub(crate) fn highest_limit(row: &Row) -> u32 {
+    let mut highest = 0;
+    for period in row.profile.schedule.periods.as_slice() {
+        highest = period.limit.max(highest);
+    }
+    highest
+}
+
+/// The lowest limit of a profile's periods, in tenths.
+fn lowest_limit(row: &Row) -> u32 {
+    let mut lowest = u32::MAX;
+    for period in row.profile.schedule.periods.as_slice() {
+        lowest = period.limit.min(lowest);
+    }
+    lowest
+}
+
+/// That connectors may draw more together than their point.
+fn excess_finding(
+    alloc: Global,
+    unit: Unit,
+    point: &str,
+    book: &PointBook,
+) -> Result<Option<Finding>, AllocError> {
+    let excess = match worst_excess(alloc, book) {
+        Ok(Some(excess)) => excess,
+        Ok(None) => return Ok(None),
+        Err(error) => return Err(error),
+    };
+    let severity = if excess.is_scheduled {
+        Severity::Warning
+    } else {
+        Severity::Remark
+    };
+    let message = excess_message(alloc, unit, &excess)?;
+    Ok(Some(finding_at_end(alloc, severity, point, message)?))
+}
+
+fn finding_at_end(
+    alloc: Global,
+    severity: Severity,
+    point: &str,
+    message: String,
+) -> Result<Finding, AllocError> {
+    Ok(Finding {
+        severity,
+        place: Location::End(String::from_str(alloc, point)?),
+        message,
+    })
+}
+
+/// That a profile counts nowhere.
+fn hidden_message(alloc: Global, row: &Row) -> Result<String, AllocError> {
+    let id = row.profile.id;
+    let level = row.profile.stack_level;
+    format!(in alloc;
+        "TxDefaultProfile {id} at connector 0 never counts: each connector has a TxDefaultProfile of its own at stack level {level}, which hides it also while that one has no limit"
+    )
+}
+
+/// That a ChargePointMaxProfile lets a point draw more than another one does.
+fn lifted_message(alloc: Global, unit: Unit, high: &Row, low: &Row) -> Result<String, AllocError> {
+    let unit = unit_name(unit);
+    let (above, below) = (high.profile.id, low.profile.id);
+    let most = tenths_text(alloc, u64::from(highest_limit(high)))?;
+    let least = tenths_text(alloc, u64::from(lowest_limit(low)))?;
+    format!(in alloc;
+        "ChargePointMaxProfile {above} allows up to {most} {unit}, and {below} only {least} {unit}: while {above} has a limit, {below} doesn't count, since its stack level is lower"
+    )
+}
+
+/// That the connectors may draw more together than their point.
+fn excess_message(alloc: Global, unit: Unit, excess: &Excess<'_>) -> Result<String, AllocError> {
+    let what = if excess.is_scheduled {
+        "schedules"
+    } else {
+        "ceilings"
+    };
+    let unit = unit_name(unit);
+    let together = tenths_text(alloc, excess.together)?;
+    let since = instant_text(alloc, excess.instant)?;
+    let limit = tenths_text(alloc, u64::from(excess.limit))?;
+    let id = excess.most.profile.id;
+    format!(in alloc;
+        "if all connectors charge, their {what} let them draw {together} {unit} together from {since} on, more than the {limit} {unit} of ChargePointMaxProfile {id}: nothing here divides that among them"
+    )
+}
