@@ -10,8 +10,9 @@ ghost use Rattle.std.specs.Prelude.{◌≤◌};
 mod last_line;
 
 use crate::last_line::say_fault;
+use call_command::call_site;
 use clap::error::ErrorKind;
-use client_commands::{call_site, run_point, show_status};
+use client_commands::{run_point, show_status};
 use command_io::{ProgramFault, Screen, as_printed, say_unread, summary_status};
 use command_line::job_of;
 use data_folder::{FolderFault, print_journal};

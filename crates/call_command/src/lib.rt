@@ -1,0 +1,11 @@
+//! The command that sends an operator's calls: `call`.
+#![tactic(auto)]
+
+mod calling;
+mod given_calls;
+mod sending;
+mod state_check;
+mod undoing;
+mod waiting_calls;
+
+pub use calling::call_site;
