@@ -34,9 +34,9 @@ DATA = re.compile(r"/tmp/central-data\b")
 PORT = re.compile(r"(?<=127\.0\.0\.1):9[01]\d\d\b")
 LISTEN = re.compile(r"--listen (\S+)")
 MOMENTS = re.compile(r'"(scheduleStart|currentTime|timestamp)":"[^"]*"')
-# On standard error. A point that runs beside may have got its next call by then, or not.
+# On standard error. A point that runs beside may have got its next call by then, or not; a slow machine tells its progress.
 JOURNAL_LENGTH = re.compile(
-    r"^central: (?:journal: \d+ lines, the last one of \S+|\S+ isn't connected: \d+ calls? waits?"
+    r"^central: (?:\d+ lines read|journal: \d+ lines, the last one of \S+|\S+ isn't connected: \d+ calls? waits?"
     r"|\S+ hasn't answered a call: .*|\d+ calls? to \S+ waits?.*: it may not have .* yet)\n?",
     re.MULTILINE,
 )
