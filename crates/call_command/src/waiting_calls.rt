@@ -1,8 +1,9 @@
 //! Which of the calls that a site has for its points wait.
 
 use command_io::{ProgramFault, read_digested_site};
-use data_folder::{Following, ScriptEnd, follow_journal};
+use data_folder::ScriptEnd;
 use jobs::Calling;
+use journal_reader::{Following, follow_journal};
 use operator_calls::Visit;
 use site_core::Outbox;
 use std::alloc::AllocGlobal;

@@ -2,10 +2,8 @@
 //! while the site is run; and which points booted.
 #![tactic(auto)]
 
-mod added_calls;
 mod boots_file;
 mod folder_fault;
-mod followed_journal;
 mod journal_file;
 mod journal_lines;
 mod journal_script;
@@ -21,11 +19,11 @@ mod system_clock;
 
 pub use boots_file::{open_boots, read_boots};
 pub use folder_fault::FolderFault;
-pub use followed_journal::{FollowedJournal, Following, follow_journal};
 pub use journal_file::JournalFile;
-pub use journal_script::{print_journal, read_journal_script};
-pub use named_file::or_stop;
-pub use opening::{OpenJournal, open_journal};
-pub use restoring::{Resumed, restore_shared};
+pub use journal_lines::{JournalLines, Lines};
+pub use journal_script::{ScriptLines, print_journal, read_journal_script, say_torn, unread};
+pub use named_file::{NamedFile, or_stop};
+pub use opening::{OpenJournal, open_journal, open_to_read};
+pub use restoring::{Resumed, restore_shared, say_other_site};
 pub use script_end::ScriptEnd;
 pub use system_clock::SystemClock;

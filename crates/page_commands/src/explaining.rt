@@ -9,12 +9,13 @@ use command_io::{
     ProgramFault, Screen, note_refused_lines, note_unzoned, now, page_status, print_page,
     read_digested_site, read_script_of, script_end, write_file,
 };
-use data_folder::{Following, ScriptEnd, follow_journal};
+use data_folder::ScriptEnd;
 use explain_pages::{
     ClockShift, ExplainedAsk, ZoneClock, not_counted, write_json, write_page, write_picture,
     write_table,
 };
 use jobs::{Explaining, Source, Start, read_duration};
+use journal_reader::{Following, follow_journal};
 use meaning::Ask;
 use ocpp_scalars::{Instant, write_instant};
 use point_book::PointBook;

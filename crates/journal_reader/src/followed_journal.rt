@@ -3,13 +3,10 @@
 ghost use Rattle.std.specs.Prelude.{◌≡◌};
 
 use crate::added_calls::AddedCalls;
-use crate::folder_fault::FolderFault;
-use crate::journal_lines::{JournalLines, Lines};
-use crate::journal_script::{ScriptLines, say_torn, unread};
-use crate::named_file::NamedFile;
-use crate::opening::open_to_read;
-use crate::restoring::say_other_site;
-use crate::script_end::ScriptEnd;
+use data_folder::{
+    FolderFault, JournalLines, Lines, NamedFile, ScriptEnd, ScriptLines, open_to_read,
+    say_other_site, say_torn, unread,
+};
 use ocpp_scalars::{Instant, push_instant};
 use ocppj_frame::ReadingMemory;
 use replay::Progress;

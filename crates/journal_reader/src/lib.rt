@@ -1,0 +1,7 @@
+//! The journal of a folder, followed line by line up to a moment, while the site is run or not.
+#![tactic(auto)]
+
+mod added_calls;
+mod followed_journal;
+
+pub use followed_journal::{FollowedJournal, Following, follow_journal};
