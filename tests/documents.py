@@ -33,30 +33,41 @@ HERE = os.path.dirname(os.path.dirname(os.path.abspath(__file__)))
 # The most that a page may have, in KB of 1,024 bytes. README is counted in lines.
 SIZES = {
     "docs/RUNNING.md": 17,
-    "docs/COMMANDS.md": 18,
-    "docs/PROTOCOL.md": 28,
-    "docs/DIFFERENCES.md": 21,
-    "docs/MEANING.md": 16,
-    "docs/ARCHITECTURE.md": 15,
-    "docs/WORKING.md": 18,
-    "docs/REVIEWING.md": 15,
+    "docs/COMMANDS.md": 17,
+    "docs/PROTOCOL.md": 26,
+    "docs/DIFFERENCES.md": 20,
+    "docs/MEANING.md": 11,
+    "docs/ARCHITECTURE.md": 16,
+    "docs/WORKING.md": 15,
+    "docs/REVIEWING.md": 9,
     "docs/PROOFS.md": 16,
-    "docs/DECISIONS.md": 17,
-    "bench/README.md": 12,
-    "examples/README.md": 15,
+    "docs/DECISIONS.md": 8,
+    "bench/README.md": 7,
+    "examples/README.md": 7,
     "examples/cookbook/README.md": 10,
     "examples/fleet/README.md": 7,
-    "tests/README.md": 8,
+    "tests/README.md": 4,
 }
 OTHER_SIZE = 8
-ALL_SIZE = 274
+ALL_SIZE = 240
 README_LINES = 110
 MEAN_WORDS = 25
 LONGEST_WORDS = 60
 # Words that a page should do without, each with its pattern and what stands in its place.
 WORDS = {
     "stands twice": (r"\b(?:stands?|stood) twice\b", "a duplicate field"),
-    "told again": (r"\b(?:told|tells?) again\b", "retransmitted"),
+    "told": (r"\b(?:told|tells?)\b(?! so or ended)", "answered, reported, printed, retransmitted"),
+    "whoever": (r"\bwhoever\b", "a client, a contributor"),
+    # The phrases left out stand in the section of the gate and that of cheap tests, which are written elsewhere.
+    "What ..": (
+        r"(?m)^(?:#+ )?What\b(?! (?:to watch$|keeps it cheap\b))|(?<=[.!?] )What\b(?! (?:fails ends|lies between)\b)",
+        "a sentence or a heading that begins with its subject",
+    ),
+    # Four sentences of the program have it of connectors.
+    "stands": (r"\bstands?\b(?! at (?:a |another )?connector)", "is, has"),
+    "anew": (r"\banew\b(?! since\b)", "again, re-.."),
+    "looked at": (r"\blooked at\b", "read, checked"),
+    "Excepted": (r"\bExcepted\b", "This excludes .."),
     "want of memory": (r"\bwant of memory\b", "out of memory, a failed allocation"),
     "so many": (r"\bso many\b", "N"),
     "stretch": (r"\bstretch(?:es)?\b", "an interval"),
