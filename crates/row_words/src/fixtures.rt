@@ -15,7 +15,7 @@ use transactions::Begin;
 pub const LONGEST_TAG: &str = "🔌🔌🔌🔌🔌🔌🔌🔌🔌🔌🔌🔌🔌🔌🔌🔌🔌🔌🔌🔌";
 
 /// Why there isn't what words tell of.
-#[derive(Clone, Copy, PartialEq, Eq)]
+#[derive(Clone, Copy, Debug, PartialEq, Eq)]
 pub enum UnreadWords {
     /// They can't be read.
     Words,

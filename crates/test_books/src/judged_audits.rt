@@ -83,10 +83,18 @@ fn expect(rt: &impl Abort, alloc: Global, book: &Arc<PointBook>, line: &str) {
     let job = job_of(rt, book, &mut words);
     let kept = job.share().expect(rt, "error");
     let judged = Judged::make(alloc, job, said_of(rt, alloc, words.rest()));
-    let verdict = format!(in alloc; "{:?}", judged.verdict()).expect(rt, "error");
-    same_text(rt, verdict.as_str(), wanted, line);
+    same_text(rt, name_of(judged.verdict()), wanted, line);
     holds(rt, !judged.short(), line);
     holds(rt, judged.audit().same(&kept), line);
+}
+
+fn name_of(verdict: Verdict) -> &'static str {
+    match verdict {
+        Verdict::Agrees => "Agrees",
+        Verdict::Differs => "Differs",
+        Verdict::Rejected => "Rejected",
+        Verdict::Unsettled => "Unsettled",
+    }
 }
 
 fn expect_all(rt: &impl Abort, alloc: Global, rows: &str, lines: &str) {
