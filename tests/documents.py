@@ -37,7 +37,7 @@ SIZES = {
     "docs/PROTOCOL.md": 26,
     "docs/DIFFERENCES.md": 20,
     "docs/MEANING.md": 11,
-    "docs/ARCHITECTURE.md": 16,
+    "docs/ARCHITECTURE.md": 17,
     "docs/WORKING.md": 15,
     "docs/REVIEWING.md": 9,
     "docs/PROOFS.md": 16,
