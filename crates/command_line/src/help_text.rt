@@ -1,249 +1,241 @@
-//! What the help says.
+//! The texts of the help.
 
-/// What `central --version` prints behind the name: the version, and the kit that proves it.
+/// Printed by `central --version` after the name: the version, and the kit that proves it.
 pub const VERSION: &str = "0.1.0\nproved in the logic dac8208d650f15bf of rattle-kit-13";
 
-/// What the program does.
+/// The program's description.
 pub const ABOUT: &str =
-    "A central system for smart charging by OCPP 1.6: it installs charging profiles, composes
-the schedules that they mean, and answers operators and charge points, over WebSocket or
-from a script.";
+    "A central system for OCPP 1.6 smart charging: it installs charging profiles, composes the
+schedules that they mean, and answers operators and charge points, over WebSocket or from
+a script.";
 
 /// The program's exit statuses.
 pub const STATUSES: &str = "Exit statuses:
-  0  the whole script was played, and no line of it has a fault; or all sessions have ended
-  1  the site file has a fault: 'central: site: NAME' on standard error; or a line of the journal of
-     --data is none, or doesn't fit the site: 'central: journal: line LINE: ..'; or a line of the file
-     of --keys is no key: 'central: keys: line LINE: ..'
-  2  the whole script was played, and lines '! LINE NAME' of the output name its faults; or, of 'show' and
-     'explain', lines were refused, or the journal ends in a torn one;
+  0  success: the whole script was played without a faulty line, or all sessions have ended
+  1  invalid input: the site file ('central: site: NAME' on standard error), a line of the journal of
+     --data ('central: journal: line LINE: ..') or a line of the file of --keys
+     ('central: keys: line LINE: ..')
+  2  the whole script was played, but lines are faulty ('! LINE NAME' in the output); 'show' and 'explain':
+     lines were refused, or the journal's last line is torn;
      or the script has more than 16,777,216 bytes: 'central: script: ScriptTooLong'
-  3  a file or a device can't be read or written: 'central: device: read' or 'central: device: write';
-     or the address can't be listened at, or no connection accepted there: 'central: device: socket';
-     or memory ran out: 'central: OutOfMemory'
-  4  the command line isn't one of these, or another process runs on the folder of --data";
+  3  I/O failed: a file or device ('central: device: read', 'central: device: write'), or listening at the
+     address or accepting a connection ('central: device: socket'); or out of memory
+     ('central: OutOfMemory')
+  4  usage error, or another process runs on the folder of --data";
 
-/// What `key` does.
-pub const KEY_ABOUT: &str =
-    "Makes a key, by which a point or an operator may come to a site that is run.";
+/// The description of `key`.
+pub const KEY_ABOUT: &str = "Generate a key for a charge point or an operator";
 
-/// What `--name` names.
-pub const KEY_NAME_HELP: &str = "The identity of a charge point, or an operator's name";
+/// Help of `--name`.
+pub const KEY_NAME_HELP: &str = "Identity of the charge point, or the operator's name";
 
-/// What `--operator` says.
+/// Help of `--operator`.
 pub const KEY_OPERATOR_HELP: &str =
-    "The key is an operator's, which opens /operator/ID for each point";
+    "Make an operator's key, which opens /operator/ID for every point";
 
-/// What `key` prints, and a call of it.
+/// Notes on `key`, with examples.
 pub const KEY_NOTES: &str =
-    "It prints a line for the file of 'central run --keys', which has a salt and a digest. The key itself
-it tells once, on standard error, as NAME:KEY, 40 hex digits. A charge point has it as its
-AuthorizationKey, an operator's client as its password (HTTP Basic). A user may have several lines:
-each key opens.
+    "Prints a line with a salt and a digest for the file of 'central run --keys'. The key itself is shown once,
+on standard error, as NAME:KEY (40 hex digits). A charge point stores it as its AuthorizationKey; an
+operator's client uses it as its password (HTTP Basic). A user may have several lines: each key opens.
 
 Example:
   central key --name CP1 >> site.keys
 
 The exit statuses are those of 'central --help'.";
 
-/// What `replay` does.
-pub const REPLAY_ABOUT: &str = "Plays a script of messages on a site, and prints the answers.";
+/// The description of `replay`.
+pub const REPLAY_ABOUT: &str = "Play a script of messages on a site, and print the answers";
 
-/// What `--site` names.
-pub const SITE_HELP: &str = "The site, a JSON file";
+/// Help of `--site`.
+pub const SITE_HELP: &str = "Site description, a JSON file";
 
-/// What `serve` does.
+/// The description of `serve`.
 pub const SERVE_ABOUT: &str =
-    "Serves a site over WebSocket: operators' programs and charge points connect.";
+    "Serve a site over WebSocket for a number of connections, in memory only";
 
-/// What `--listen` names.
-pub const LISTEN_HELP: &str = "The address to listen at: an IP address or a name, and a port";
+/// Help of `--listen`.
+pub const LISTEN_HELP: &str = "Listen address: an IP address or host name, and a port";
 
-/// What `--workers` counts.
-pub const WORKERS_HELP: &str = "How many workers compile schedules, from 1 to 8";
+/// Help of `--workers`.
+pub const WORKERS_HELP: &str = "Threads that compile schedules, 1 to 8";
 
-/// What `--sessions` counts.
-pub const SESSIONS_HELP: &str = "It ends after this number of connections, from 1 to 64";
+/// Help of `--sessions`.
+pub const SESSIONS_HELP: &str = "Exit after this number of connections, 1 to 64";
 
-/// Who connects to `serve`, and a call of it.
-pub const SERVE_NOTES: &str = "F is a site file; 'central replay --help' shows one. It prints
+/// Notes on `serve`, with an example.
+pub const SERVE_NOTES: &str = "F is a site file; 'central replay --help' shows one. Prints
   listening A                    once clients may connect
-  done changes V answers W       in the end: the number of changes made and of schedules handed out
-and each client offers the subprotocol ocpp1.6 at one of these paths:
-  /ID                            the charge point ID (/ocpp/ID and the like, too)
+  done changes V answers W       at the end: the number of changes and of schedules answered
+Each client offers the subprotocol ocpp1.6 at one of these paths:
+  /ID                            the charge point ID (also /ocpp/ID and the like)
   /operator/ID                   an operator of the charge point ID
-A client with neither is closed at once, and counts as a connection. There is no encryption and no
-password: put it behind a proxy that has both, and let it listen at the loopback address.
+Any other client is closed at once, and counts as a connection. There is no encryption and no password:
+listen at the loopback address, behind a proxy that has both.
 
-It keeps everything in memory: a restart begins empty. 'central run' is for a site that goes on.
+All state is in memory: a restart begins empty. Use 'central run' for a site that persists.
 
 Example:
   central serve --site site.json --listen 127.0.0.1:9000 --workers 2 --sessions 64
 
 The exit statuses are those of 'central --help'.";
 
-/// What `run` does.
-pub const RUN_ABOUT: &str =
-    "Runs a site over WebSocket, and goes on where it stopped when it is started again.";
+/// The description of `run`.
+pub const RUN_ABOUT: &str = "Run a site over WebSocket, and resume it after a restart";
 
-/// What `--data` of `run` names.
-pub const RUN_DATA_HELP: &str =
-    "The folder that keeps what the site has; made where it isn't there";
+/// Help of `--data` of `run`.
+pub const RUN_DATA_HELP: &str = "Folder that keeps the state of the site; created if missing";
 
-/// What `--seats` counts.
-pub const SEATS_HELP: &str =
-    "It serves so many connections at a time, from 1 to 1000; 256 if not said";
+/// Help of `--seats`.
+pub const SEATS_HELP: &str = "Maximum concurrent connections, 1 to 1000 [default: 256]";
 
-/// What `--workers` of `run` counts.
-pub const RUN_WORKERS_HELP: &str = "How many workers compile schedules, from 1 to 8; 2 if not said";
+/// Help of `--workers` of `run`.
+pub const RUN_WORKERS_HELP: &str = "Threads that compile schedules, 1 to 8 [default: 2]";
 
-/// What `--keys` names.
+/// Help of `--keys`.
 pub const KEYS_HELP: &str =
-    "The file of those who may come, by 'central key'; without it A has to be of this machine alone";
+    "File of keys, made by 'central key'; without it, A has to be a loopback address";
 
-/// What `--call-timeout` is.
+/// Help of `--call-timeout`.
 pub const CALL_TIMEOUT_HELP: &str =
-    "A point has so many seconds to reply to a call, or its connection is closed; 60 if not said";
+    "Close a point's connection if it doesn't answer a call within SECONDS [default: 60]";
 
-/// What `--status` of `run` names.
+/// Help of `--status` of `run`.
 pub const RUN_STATUS_HELP: &str =
-    "The address of the status port, which whoever reaches it may read: there are no passwords";
+    "Status port address. No authentication: anyone who can reach it can read it";
 
-/// What `--status-open` says.
-pub const STATUS_OPEN_HELP: &str =
-    "The status port may be at another address than of this machine alone";
+/// Help of `--status-open`.
+pub const STATUS_OPEN_HELP: &str = "Allow a status port address beyond loopback";
 
-/// What `run` prints and keeps, and a call of it.
-pub const RUN_NOTES: &str = "F is a site file; 'central replay --help' shows one. It prints
+/// Notes on `run`, with examples.
+pub const RUN_NOTES: &str = "F is a site file; 'central replay --help' shows one. Prints
   resumed P points, R profiles, T transactions, C calls waiting
   listening A                    once clients may connect
-Clients connect as to 'central serve', any number one after another. Above N at a time one is answered
-HTTP 503. Where a point connects anew, its older connection is closed.
+Clients connect as to 'central serve', any number one after another; above N at a time, one gets HTTP 503.
+If a point connects again, its older connection is closed.
 
-DIR/journal has a line for each step that changed something, written and synced before it is answered.
-A start makes these steps again, each with the number that it drew. A journal whose last line is torn
-is cut there: that was never answered. With another site file they are tried: the first line that doesn't
-fit is named. One process at a time runs on a folder. DIR/boots has the points that booted and have
-confirmed no install since: 'central check --data' says which of them may have forgotten their profiles.
-Where the device is full, what changes something is answered InternalError until there is room. Where
-the journal can't be written otherwise, the program ends with status 3. It may be killed at any moment.
+DIR/journal has a line for each change, written and synced before the change is acknowledged. A restart
+replays these lines; each has to draw the number that it drew before. A torn last line was never
+acknowledged, and is cut. With another site file, the first line that doesn't fit is named. Only one
+process runs on a folder. DIR/boots has the points that booted and have confirmed no install since:
+'central check --data' names those that may have forgotten their profiles. While the device is full,
+changes are answered InternalError. If the journal can't be written for another reason, the program
+exits with status 3. It may be killed at any moment.
 
 Example:
   central run --site site.json --data /var/lib/central --listen 127.0.0.1:9000
 
 The exit statuses are those of 'central --help'.";
 
-/// What `status` does.
-pub const STATUS_ABOUT: &str = "Shows how a site is that 'central run --status' runs.";
+/// The description of `status`.
+pub const STATUS_ABOUT: &str = "Show the state of a running site, from its status port";
 
-/// What `--url` of `status` names.
-pub const STATUS_URL_HELP: &str = "The status port, http://HOST:PORT";
+/// Help of `--url` of `status`.
+pub const STATUS_URL_HELP: &str = "Status port, http://HOST:PORT";
 
-/// What `status` prints, and a call of it.
+/// Notes on `status`, with examples.
 pub const STATUS_NOTES: &str =
-    "It prints a line for each point: since when it is connected, when its last message and its last
-BootNotification came, how many calls it confirmed, since when one is in flight, how many wait, since
-when the first of these does, and the last one that it rejected. Below it says which points may have
-forgotten their profiles.
+    "Prints a line for each point: connected since, time of the last message and of the last
+BootNotification, confirmed calls, in flight since, calls waiting, since when the first one waits, and the
+last rejected call. Below, it names points that may have forgotten their profiles.
 
 Example:
   central status --url http://127.0.0.1:9100
 
-Exit statuses: 0 the site is well; 2 it isn't, or is being restored; 3 nobody answers there as 'central
-run --status' does, or memory ran out; 4 the command line isn't one of these.";
+Exit statuses: 0 healthy; 2 unhealthy or being restored; 3 no status port of 'central run --status' answers
+there, or out of memory; 4 usage error.";
 
-/// What `journal` does.
-pub const JOURNAL_ABOUT: &str = "Prints the journal of a site that is run as a script.";
+/// The description of `journal`.
+pub const JOURNAL_ABOUT: &str = "Print the journal of a site as a script";
 
-/// What `--data` of `journal` names.
-pub const JOURNAL_DATA_HELP: &str = "The folder of 'central run'";
+/// Help of `--data` of `journal`.
+pub const JOURNAL_DATA_HELP: &str = "Folder of 'central run'";
 
-/// What `--data` of the commands that read a script names.
+/// Help of `--data` of the commands that read a script.
 pub const DATA_HELP: &str =
-    "Read the journal of this folder of 'central run' in place of standard input";
+    "Read the journal of this folder of 'central run' instead of standard input";
 
-/// What `--script` names.
-pub const SCRIPT_HELP: &str = "Read the script from this file in place of standard input";
+/// Help of `--script`.
+pub const SCRIPT_HELP: &str = "Read the script from this file instead of standard input";
 
-/// What is wrong where both are given.
+/// The error if both are given.
 pub const TWO_SCRIPTS: &str = "the argument '--data <DIR>' cannot be used with '--script <FILE>'";
 
-/// What `journal` prints, and a call of it.
+/// Notes on `journal`, with examples.
 pub const JOURNAL_NOTES: &str =
-    "The script is one for 'central replay': the messages that changed something, in the order in which
-they took effect. It may be printed while the site is run.
+    "Prints a script for 'central replay': the messages that changed something, in the order in which they took
+effect. It works while the site runs.
 
 Example:
   central journal --data /var/lib/central
 
 The exit statuses are those of 'central --help'.";
 
-/// What `call` does.
+/// The description of `call`.
 pub const CALL_ABOUT: &str =
-    "An operator's client: sends calls to a central system that serves, and prints the answers.";
+    "An operator's client: send calls to a central system, and print the answers";
 
-/// What `--url` of `call` names.
+/// Help of `--url` of `call`.
 pub const OPERATOR_URL_HELP: &str =
-    "The operator's URL, ws://HOST:PORT/operator/ID; with --all without /ID";
+    "Operator URL, ws://HOST:PORT/operator/ID; with --all without /ID";
 
-/// What `--login` names.
-pub const LOGIN_HELP: &str =
-    "A file that has NAME:KEY, where the central system wants to know who comes (HTTP Basic)";
+/// Help of `--login`.
+pub const LOGIN_HELP: &str = "File with NAME:KEY, for a central system with passwords (HTTP Basic)";
 
-/// What `--set-profile` names.
-pub const SET_PROFILE_HELP: &str = "Sends SetChargingProfile with the payload that this file holds";
+/// Help of `--set-profile`.
+pub const SET_PROFILE_HELP: &str = "Send SetChargingProfile with the payload in this file";
 
-/// What `--clear` says.
+/// Help of `--clear`.
 pub const CLEAR_HELP: &str =
-    "Sends ClearChargingProfile with this payload; {} clears all, fuse limits too";
+    "Send ClearChargingProfile with this payload; {} clears everything, fuse limits included";
 
-/// What the values of `--remote-start` are.
+/// Value names of `--remote-start`.
 pub static START_VALUES: [&str; 3] = ["CONNECTOR", "TAG", "FILE"];
 
-/// What `--remote-start` says.
+/// Help of `--remote-start`.
 pub const REMOTE_START_HELP: &str =
-    "Sends RemoteStartTransaction, with the TxProfile that FILE holds if it is given";
+    "Send RemoteStartTransaction, with the TxProfile in FILE if given";
 
-/// What the values of `--ask` and of `--audit` are.
+/// Value names of `--ask` and of `--audit`.
 pub static ASK_VALUES: [&str; 2] = ["CONNECTOR", "SECONDS"];
 
-/// What `--ask` says.
-pub const ASK_HELP: &str = "Sends GetCompositeSchedule; connector 0 is the whole point";
+/// Help of `--ask`.
+pub const ASK_HELP: &str = "Send GetCompositeSchedule; connector 0 is the whole point";
 
-/// What `--audit` says.
-pub const AUDIT_HELP: &str = "Sends AuditPoint: the point's own schedule is compared";
+/// Help of `--audit`.
+pub const AUDIT_HELP: &str = "Send AuditPoint: compare the point's own schedule with its profiles";
 
-/// What `--status` says.
-pub const STATUS_HELP: &str = "Sends PointStatus: what came of the audit";
+/// Help of `--status`.
+pub const STATUS_HELP: &str = "Send PointStatus: the verdict of the last audit";
 
-/// What `--all` says.
+/// Help of `--all`.
 pub const ALL_HELP: &str =
-    "The options' calls go to each point of the site, at U/ID; each line begins with the point";
+    "Send the calls to each point of the site, at U/ID; each output line begins with the point";
 
-/// What `--site` of `call` names.
-pub const ALL_SITE_HELP: &str = "The site of --all and of --data, a JSON file";
+/// Help of `--site` of `call`.
+pub const ALL_SITE_HELP: &str = "Site description of --all and --data, a JSON file";
 
-/// What `--data` of `call` names.
+/// Help of `--data` of `call`.
 pub const CALL_DATA_HELP: &str =
-    "The folder of 'central run' on this machine: calls are checked by what the point has";
+    "Folder of 'central run' on this machine: check calls by the point's state";
 
-/// What `--undo` says.
+/// Help of `--undo`.
 pub const UNDO_HELP: &str =
-    "Sends what brings the point back to the profiles that it had before this line of the journal";
+    "Restore the profiles that the point had before this line of the journal";
 
-/// What `--force` says.
-pub const FORCE_HELP: &str = "Sends calls in which a fault was found, too";
+/// Help of `--force`.
+pub const FORCE_HELP: &str = "Send faulty calls too";
 
-/// What `--dry-run` says.
-pub const DRY_RUN_HELP: &str = "Sends nothing, and prints what would be sent";
+/// Help of `--dry-run`.
+pub const DRY_RUN_HELP: &str = "Send nothing; print what would be sent";
 
-/// What `call` reads, and calls of it.
+/// Notes on `call`, with examples.
 pub const CALL_NOTES: &str =
-    "It sends what the options say, in this order, or without any the lines of standard input, one
-OCPP-J frame a line. After each it waits for the answer, and prints every message that comes until
-then. A line that is no CALL isn't sent: '! LINE NotACall'. Nor is a call that would be refused, whatever the
-point has: '! LINE HasFault', or '! OPTION HasFault'; --force sends it. Standard error says why. With --data it
-says what 'check' would find in the options' calls behind the journal, and what the point would refuse isn't sent.
+    "Sends the calls of the options, in this order, or, without any, the lines of standard input, one OCPP-J frame
+each. It waits for each answer, and prints every message until then. A line that is no CALL isn't sent
+('! LINE NotACall'), nor is a call that would always be refused ('! LINE HasFault' or '! OPTION HasFault';
+--force sends it). Standard error has the reason. With --data it prints the findings of 'check' for these calls
+after the journal, and holds back those that the point would refuse.
 
 Examples:
   central call --url ws://127.0.0.1:9000/operator/CP1 --ask 1 86400
@@ -262,116 +254,112 @@ and slow.json a profile by itself:
   {\"chargingProfileId\":6,\"stackLevel\":0,\"chargingProfilePurpose\":\"TxProfile\",\"chargingProfileKind\":\"Relative\",
    \"chargingSchedule\":{\"chargingRateUnit\":\"A\",\"chargingSchedulePeriod\":[{\"startPeriod\":0,\"limit\":6}]}}
 
-Exit statuses, of several the highest: 0 all was accepted; 2 an answer was an error or Rejected, or something
-wasn't sent; 3 nobody listens there in OCPP 1.6, the connection failed, a file or a device did, or memory ran
-out; 4 the command line isn't one of these. A fault of the site file is 1.";
+Exit statuses, the highest of several: 0 all accepted; 1 the site file is invalid; 2 an answer was an error or
+Rejected, or something wasn't sent; 3 no OCPP 1.6 server listens there, the connection, a file or a device
+failed, or out of memory; 4 usage error.";
 
-/// What `point` does.
-pub const POINT_ABOUT: &str =
-    "A simulated charge point: connects to a central system, and does what its lines say.";
+/// The description of `point`.
+pub const POINT_ABOUT: &str = "A simulated charge point that does what its input lines say";
 
-/// What `--url` of `point` names.
-pub const POINT_URL_HELP: &str = "The central system's URL, ws://HOST:PORT, to which /ID is added";
+/// Help of `--url` of `point`.
+pub const POINT_URL_HELP: &str = "URL of the central system, ws://HOST:PORT; /ID is added";
 
-/// What `--id` names.
-pub const ID_HELP: &str = "The point's identity, one of the site's";
+/// Help of `--id`.
+pub const ID_HELP: &str = "Identity of the point, one of the site's";
 
-/// What `point` reads and prints, and a call of it.
+/// Notes on `point`, with examples.
 pub const POINT_NOTES: &str =
     "The point has the ceilings of the site file F. It does what the lines of standard input say:
-  heartbeat                      sends a Heartbeat
-  start CONNECTOR TAG METER      sends a StartTransaction, with meterStart in Wh
-  stop CONNECTOR                 sends the StopTransaction of the connector's transaction
-  pause SECONDS                  waits, and answers what comes meanwhile
-and disconnects behind the last one. It answers the central system's calls from its own profiles and
-transactions, and a start that it is asked for comes before its next line. The central system sends the
-next call after each message of the point, so that a step or two may be needed until all have come.
-Standard output has a line
-  sent FRAME                     for each message that it sends
-  got FRAME                      for each that comes
-  ! LINE NAME                    for each line that says none of this (BadLine, BadText), or a step
-                                 that makes no call (NoCall): a stop without a transaction, say
+  heartbeat                      send a Heartbeat
+  start CONNECTOR TAG METER      send a StartTransaction, with meterStart in Wh
+  stop CONNECTOR                 send the StopTransaction of the connector's transaction
+  pause SECONDS                  wait, and answer calls meanwhile
+and disconnects after the last one. It answers the central system's calls from its own profiles and
+transactions; a requested start comes before its next line. The central system sends one call after each
+message of the point, so it may take several messages to receive them all. Standard output has a line
+  sent FRAME                     for each message sent
+  got FRAME                      for each message received
+  ! LINE NAME                    for each invalid line (BadLine, BadText), and for a step without a call
+                                 (NoCall), such as a stop without a transaction
 
 Example:
   central point --url ws://127.0.0.1:9000 --site site.json --id CP1
 
-Exit statuses: 0 all was done; 1 the site file has a fault; 2 lines have one; 3 nobody listens there in
-OCPP 1.6, the connection failed, a file or a device did, or memory ran out; 4 the command line isn't one
-of these, or the site has no such point.";
+Exit statuses: 0 all done; 1 the site file is invalid; 2 lines are faulty; 3 no OCPP 1.6 server listens there,
+the connection, a file or a device failed, or out of memory; 4 usage error, or unknown point.";
 
-/// What `explain` does.
-pub const EXPLAIN_ABOUT: &str = "Says what the limits of a connector are, and why, after a script.";
+/// The description of `explain`.
+pub const EXPLAIN_ABOUT: &str =
+    "Explain the limits of a connector, and their causes, after a script";
 
-/// What `--point` names.
-pub const POINT_HELP: &str = "The point's identity, one of the site's";
+/// Help of `--point`.
+pub const POINT_HELP: &str = "Identity of the point, one of the site's";
 
-/// What `--connector` names.
-pub const CONNECTOR_HELP: &str = "The connector, from 1 on, or 0 for the whole point";
+/// Help of `--connector`.
+pub const CONNECTOR_HELP: &str = "Connector number, or 0 for the whole point";
 
-/// What `--start` names.
-pub const START_HELP: &str = "From when on, such as 2025-01-03T12:00:00Z, or now";
+/// Help of `--start`.
+pub const START_HELP: &str = "First moment, such as 2025-01-03T12:00:00Z or now";
 
-/// What `--duration` says.
-pub const DURATION_HELP: &str =
-    "For how many seconds, from 1 to 2678400, or such as 5m, 8h, 2d, PT1H";
+/// Help of `--duration`.
+pub const DURATION_HELP: &str = "Seconds, 1 to 2678400, or a duration such as 5m, 8h, 2d, PT1H";
 
-/// What `--at` counts.
+/// Help of `--at`.
 pub const AT_HELP: &str =
-    "After so many lines of the script or of 'central journal', or at this instant, not after all";
+    "Stop after line N of the script or of 'central journal', or at this instant";
 
-/// What `--zone` names.
+/// Help of `--zone`.
 pub const ZONE_HELP: &str =
-    "The table has local times of this time zone, such as Europe/Berlin, in place of UTC";
+    "Show local times of this time zone in the table, such as Europe/Berlin [default: UTC]";
 
-/// What `--picture` names.
-pub const PICTURE_HELP: &str = "Write a picture too: FILE.svg, or a page with it: FILE.html";
+/// Help of `--picture`.
+pub const PICTURE_HELP: &str = "Also write a picture: FILE.svg, or a page with it: FILE.html";
 
-/// What `--json` asks for.
-pub const JSON_HELP: &str = "Print it for programs, as JSON";
+/// Help of `--json`.
+pub const JSON_HELP: &str = "Print JSON";
 
-/// What `explain` reads and prints.
+/// Notes on `explain`, with examples.
 pub const EXPLAIN_NOTES: &str =
-    "The script is standard input or the file of --script, as of 'central replay', or the journal of --data;
-its lines are played and not printed. Then the limits of the connector are printed, one line for each
-interval in which the limit and its cause stay the same: from, to, how long, the limit, and what sets it.
-Below stand the profiles of the point that never set it in this time, each with the reason.
+    "The script is standard input, the file of --script (see 'central replay'), or the journal of --data; its
+lines are played without output. Then each interval with one limit and one cause is a line: from, to, length,
+limit, cause. Below are the profiles of the point that never set the limit in this time, with the reason.
 
 Example:
   central explain --site site.json --point CP1 --connector 1 --start 2025-01-03T12:00:00Z --duration 86400 < script
 
-The exit statuses are those of 'central --help'; 4 also where the site has no such point, the point no such
-connector, or INSTANT, D or the NAME of a zone isn't one.";
+The exit statuses are those of 'central --help'; 4 also for an unknown point or connector, or an invalid
+INSTANT, D or zone NAME.";
 
-/// What `check` does.
-pub const CHECK_ABOUT: &str = "Says everything that is wrong with a site file and a script.";
+/// The description of `check`.
+pub const CHECK_ABOUT: &str = "Find mistakes in a site file and a script";
 
-/// What `--keys` of `check` names.
+/// Help of `--keys` of `check`.
 pub const CHECK_KEYS_HELP: &str =
-    "Check this file of keys too: whom each line lets in, and which points none does";
+    "Also check this file of keys: whom each line lets in, and points without a key";
 
-/// What `--trace` asks for.
-pub const TRACE_HELP: &str = "Show what each line of the script is answered";
+/// Help of `--trace`.
+pub const TRACE_HELP: &str = "Show the answer to each line of the script";
 
-/// What `check` reads and prints.
+/// Notes on `check`, with examples.
 pub const CHECK_NOTES: &str =
-    "The script is standard input or the file of --script, as of 'central replay', or the journal of --data;
-without one give it /dev/null. Each finding is a line: where it is, what was found, and what is wanted.
+    "The script is standard input, the file of --script (see 'central replay'), or the journal of --data; use
+/dev/null for none. Each finding is a line: where, what was found, what is expected.
 
 Examples:
   central check --site site.json < script
   central check --site site.json --keys site.keys < /dev/null
 
-Exit statuses: 0 nothing was found; 1 there are faults; 2 there are warnings alone; 3 a file or a device
-failed, or memory ran out; 4 the command line isn't one of these.";
+Exit statuses: 0 no findings; 1 faults; 2 only warnings; 3 a file or device failed, or out of memory;
+4 usage error.";
 
-/// What `show` does.
-pub const SHOW_ABOUT: &str = "Shows what each point of a site has after a script.";
+/// The description of `show`.
+pub const SHOW_ABOUT: &str = "Show the state of each point of a site after a script";
 
-/// What `show` reads and prints.
+/// Notes on `show`, with examples.
 pub const SHOW_NOTES: &str =
-    "The script is standard input or the file of --script, as of 'central replay', or the journal of --data;
-its lines are played and not printed. Then the profiles, transactions, audit, remote starts and waiting
-calls of each point are printed, and the requests that are held.
+    "The script is standard input, the file of --script (see 'central replay'), or the journal of --data; its
+lines are played without output. Prints the profiles, transactions, audit, remote starts and queued calls of
+each point, and the held requests.
 
 Examples:
   central show --site site.json < script
@@ -379,20 +367,20 @@ Examples:
 
 The exit statuses are those of 'central --help'.";
 
-/// The files of `replay`, and a call of it.
+/// Notes on `replay`, with an example.
 pub const REPLAY_EXAMPLE: &str = "F is a JSON file that describes the site, for example
   {\"unit\":\"A\",\"points\":[{\"id\":\"CP1\",\"ceiling\":63.0,\"connectors\":[32.0,32.0]}]}
 
 The script is standard input or the file of --script, one message a line:
   INSTANT operator ID FRAME    an operator's message for the point ID
   INSTANT point ID FRAME       a message of the point ID
-  INSTANT hold ID FRAME        an operator's request for a schedule, whose answer is held
+  INSTANT hold ID FRAME        an operator's request for a schedule, with its answer held
   INSTANT release N            the answer to the held request N
-INSTANT is the moment of the message, FRAME an OCPP-J frame. Standard output has a line
+INSTANT is the time of the message, FRAME an OCPP-J frame. Standard output has a line
   > FRAME                      for each answer
-  * ID FRAME                   for each call that is sent to the point ID
-  held N                       for each request that is held
-  ! LINE NAME                  for each line of the script that has a fault
+  * ID FRAME                   for each call sent to the point ID
+  held N                       for each held request
+  ! LINE NAME                  for each faulty line of the script
 
 Example:
   central replay --site site.json < script
