@@ -10,7 +10,9 @@ use server_core::{
     LONGEST_SILENCE, Pace, SILENCE_BEFORE_CALL, SILENCE_BEFORE_PING, TICK, seconds_since,
 };
 use server_ports::{IncomingStream, SeatWorld};
-use session::{Context, Ended, Heard, SentCall, SessionCore, WatchedSocket, send_call, serve_next};
+use session::{
+    Context, Ended, Heard, SentCall, SessionCore, WatchedSocket, answer_next, send_call,
+};
 use std::rt::Clock;
 use std::sync::Wait;
 use std::time::Instant;
@@ -46,7 +48,7 @@ struct SentMoment {
 
 /// Serves messages until the socket is closed or fails, the client is silent for too long, or a call
 /// to it has no reply in time. Returns how it ended.
-pub(crate) fn attend_session<W: SeatWorld>(
+pub(crate) fn run_session<W: SeatWorld>(
     context: &Context<'_, W>,
     watch: &SessionWatch<'_, W>,
     socket: &mut WebSocket<IncomingStream<'_, W::Runtime>, NoMask>,
@@ -91,7 +93,7 @@ fn attend_next<W: SeatWorld>(
 ) -> Result<(), Ended>
     ensures { KeepsPass pass.old pass.new }
 {
-    let heard = serve_next(context, watched, core, pass)?;
+    let heard = answer_next(context, watched, core, pass)?;
     let is_last = !watched.has_kept();
     let socket = watched.websocket();
     let sent = match heard {

@@ -12,7 +12,7 @@ use world::World;
 
 /// Serves a connection from its handshake until it ends. Gives back the pass, which counts no less
 /// than before.
-pub(crate) fn serve_connection<W: World, S: Read + Write + Drop>(
+pub(crate) fn run_connection<W: World, S: Read + Write + Drop>(
     context: &Context<'_, W>,
     stream: S,
     pass: Pass<W::Changes, W::Answers>,

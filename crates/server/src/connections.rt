@@ -2,7 +2,7 @@
 
 ghost use Rattle.std.specs.Prelude.{◌≡◌, ◌≤◌, IfOk, length, vec_len, vec_capacity};
 
-use crate::connection::serve_connection;
+use crate::connection::run_connection;
 use server_ports::SharedWorld;
 use session::Context;
 use std::alloc::AllocError;
@@ -39,7 +39,7 @@ enum Session<C: Ledger, A: Ledger> {
 
 /// Accepts a connection for each pass, and serves it on a thread of its own, or on this one where
 /// no thread can be made. Ends when all have ended, and gives back all passes.
-pub(crate) fn serve_connections<W: SharedWorld>(
+pub(crate) fn run_connections<W: SharedWorld>(
     context: &Context<'_, W>,
     listener: TcpListener,
     passes: Vec<Pass<W::Changes, W::Answers>>,
@@ -108,7 +108,7 @@ fn begin<'s, W: SharedWorld, E>(
     };
     // An answer leaves at once. Where that can't be set, it leaves later.
     let _ = stream.set_nodelay(true);
-    match scope.spawn(move || serve_connection(context, stream, pass)) {
+    match scope.spawn(move || run_connection(context, stream, pass)) {
         Ok(session) => Session::Running(session),
         Err(unmade) => Session::Ended((unmade.value)()),
     }

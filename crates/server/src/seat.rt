@@ -2,7 +2,7 @@
 
 ghost use Rattle.session.specs.Serving.{KeepsPass};
 
-use crate::attending::attend_session;
+use crate::attending::run_session;
 use crate::connection::{Admitted, admit, close_at_once};
 use crate::session_watch::SessionWatch;
 use compile_pool::Jobs;
@@ -12,7 +12,7 @@ use server_ports::{
     ClientRequest, Entry, IncomingStream, SeatContext, SeatWorld, Unshaken, note_operator,
     note_unknown, note_unshaken, shake_hands,
 };
-use session::{Context, Peer, attach_session, end_session};
+use session::{Context, Peer, claim_link, release_link};
 use std::alloc::{AllocError, Global};
 use std::marker::Sync;
 use std::net::TcpStream;
@@ -56,14 +56,14 @@ pub fn keep_seat<W: SeatWorld>(
         let Ok(stream) = streams.recv(&seats.rt) else {
             return pass;
         };
-        pass = serve_incoming(seats, &context, stream, pass);
+        pass = run_incoming(seats, &context, stream, pass);
         seats.free.add(&seats.rt);
     }
     unreachable!()
 }
 
 /// Serves a connection from its handshake until it ends. Gives back the pass.
-fn serve_incoming<W: SeatWorld>(
+fn run_incoming<W: SeatWorld>(
     seats: &SeatContext<W>,
     context: &Context<'_, W>,
     stream: TcpStream,
@@ -92,7 +92,7 @@ fn serve_incoming<W: SeatWorld>(
             if let Peer::Operator { .. } = admitted.core.peer() {
                 note_operator(seats, &asked, from);
             }
-            serve_admitted(seats, context, socket, admitted, pass)
+            run_admitted(seats, context, socket, admitted, pass)
         }
         Ok(None) => {
             note_unknown(seats, &asked, from);
@@ -146,7 +146,7 @@ fn limits() -> WebSocketConfig {
 
 /// Serves a session after its handshake. A point's older connection is shut once this one has its
 /// link, and this one is shut once a later one has. Gives back the pass.
-fn serve_admitted<W: SeatWorld>(
+fn run_admitted<W: SeatWorld>(
     seats: &SeatContext<W>,
     context: &Context<'_, W>,
     socket: SeatSocket<'_, W::Runtime>,
@@ -161,7 +161,7 @@ fn serve_admitted<W: SeatWorld>(
     let Some(share) = socket.get_ref().share() else {
         return pass;
     };
-    if attach_session(context, &mut core, &mut pass).is_err() {
+    if claim_link(context, &mut core, &mut pass).is_err() {
         let _ = socket.close(None);
         return pass;
     }
@@ -174,12 +174,12 @@ fn serve_admitted<W: SeatWorld>(
     }
     let watch = SessionWatch { seats, place, link };
     watch.begin(&core);
-    let ended = attend_session(context, &watch, &mut socket, &core, &mut pass);
+    let ended = run_session(context, &watch, &mut socket, &core, &mut pass);
     watch.end(&core, ended);
     // What its messages took in memory is free before its place is.
     let mut stream = socket.into_inner();
     stream.end();
-    end_session(context, core);
+    release_link(context, core);
     // Of its last message, too, for which perhaps no text leaves.
     let _ = context.journal.write_out();
     if let Some(link) = link {

@@ -2,7 +2,7 @@
 
 ghost use Rattle.std.specs.Prelude.{◌≡◌, ◌≤◌, IfOk, length};
 
-use crate::connections::{Served, serve_connections};
+use crate::connections::{Served, run_connections};
 use compile_pool::{MAX_JOBS, Open, run_pool};
 use crossbeam_channel::bounded;
 use journal_writer::NoJournal;
@@ -48,7 +48,7 @@ pub fn serve<R: Threads + Wait + Sync, M: Moments + Sync>(
         clock,
     };
     let (changes, answers) = (Blank::new(sessions), Blank::new(sessions));
-    serve_counted::<Brand, Brand, R, M>(rt, plan, site, listener, (changes, answers))
+    run_counted::<Brand, Brand, R, M>(rt, plan, site, listener, (changes, answers))
 }
 
 /// How a site is served.
@@ -61,7 +61,7 @@ struct Plan<'a, M> {
 }
 
 /// Serves a site, whose changes and answers these two ledgers count.
-fn serve_counted<
+fn run_counted<
     C: Ledger + Send + Sync,
     A: Ledger + Send + Sync,
     R: Threads + Wait + Sync,
@@ -91,7 +91,7 @@ fn serve_counted<
     let Ok((shared, passes)) = made else {
         return Err(ServeFault::OutOfMemory);
     };
-    let Ok(served) = serve_beside_workers(rt, plan, listener, &shared, passes) else {
+    let Ok(served) = run_beside_workers(rt, plan, listener, &shared, passes) else {
         return Err(ServeFault::OutOfMemory);
     };
     // Each session has given its pass back, so none is missing.
@@ -107,7 +107,7 @@ fn serve_counted<
 
 /// Serves the connections while workers compile on threads of their own. Where no thread can be
 /// made for these, the sessions find nobody to send their jobs to.
-fn serve_beside_workers<
+fn run_beside_workers<
     C: Ledger + Send + Sync,
     A: Ledger + Send + Sync,
     R: Threads + Wait + Sync,
@@ -146,7 +146,7 @@ fn serve_beside_workers<
             let context: Context<'_, Unrecorded<C, A, R, M>> = Context::unrecorded(
                 rt, alloc, shared, &jobs, clock, &journal, &reading,
             );
-            let served = serve_connections(&context, listener, passes);
+            let served = run_connections(&context, listener, passes);
             shared.lock(rt).finish();
             shared.wake();
             drop(jobs);

@@ -18,13 +18,13 @@ mod watched_socket;
 use crate::context::Context;
 use crate::session_core::SessionCore;
 use calls::lose;
-pub use calls::{attach_session, send_call};
+pub use calls::{claim_link, send_call};
 use crossbeam_channel::Sender;
 pub use ended::{Breach, Ended};
 pub use heard::{Heard, SentCall, Told};
 use journal_writer::{Journal, NoJournal};
 use ocpp_scalars::Moments;
-pub use served_text::{Served, serve_next, serve_sent_text};
+pub use served_text::{Served, answer_message, answer_next};
 use std::alloc::Global;
 use std::io::{Read, Write};
 use std::sync::ledger::Ledger;
@@ -76,24 +76,24 @@ pub fn serve_session<W: World, S: Read + Write + Drop, K: MaskKeys + Drop>(
     ensures { KeepsPass pass result.1 }
 {
     let (mut socket, mut core, mut pass) = (socket, core, pass);
-    if let Err(ended) = attach_session(context, &mut core, &mut pass) {
+    if let Err(ended) = claim_link(context, &mut core, &mut pass) {
         let _ = socket.close(None);
         return (ended, pass);
     }
-    let ended = serve_texts(context, &mut socket, &core, &mut pass);
-    end_session(context, core);
+    let ended = answer_texts(context, &mut socket, &core, &mut pass);
+    release_link(context, core);
     (ended, pass)
 }
 
 /// Ends a session that has its link: a point's link is lost, and noted so.
-pub fn end_session<W: World>(context: &Context<'_, W>, core: SessionCore) {
+pub fn release_link<W: World>(context: &Context<'_, W>, core: SessionCore) {
     lose(context, core);
     // What couldn't be kept now is kept before the next message that leaves, or none leaves.
     let _ = context.journal.write_out();
 }
 
 /// Serves messages until the socket is closed or fails.
-fn serve_texts<W: World, S: Read + Write + Drop, K: MaskKeys + Drop>(
+fn answer_texts<W: World, S: Read + Write + Drop, K: MaskKeys + Drop>(
     context: &Context<'_, W>,
     socket: &mut WebSocket<S, K>,
     core: &SessionCore,
@@ -102,7 +102,7 @@ fn serve_texts<W: World, S: Read + Write + Drop, K: MaskKeys + Drop>(
     ensures { KeepsPass pass.old pass.new }
 {
     for _text in context.rt.forever() {
-        match serve_next(context, socket, core, pass) {
+        match answer_next(context, socket, core, pass) {
             Ok(Heard::Message { .. } | Heard::Control { .. }) => {}
             // Nobody waits here for a stream that gives up.
             Ok(Heard::Nothing) => return Ended::Broken,

@@ -9,7 +9,7 @@ use crossbeam_channel::{Sender, bounded};
 use journal_writer::NoJournal;
 use ocpp_scalars::{Instant, Moments};
 use profile::Unit;
-use session::{Context, Ended, Heard, SessionCore, WatchedSocket, serve_next, serve_session};
+use session::{Context, Ended, Heard, SessionCore, WatchedSocket, answer_next, serve_session};
 use site_core::PointId;
 use site_rules::read_site;
 use std::alloc::Global;
@@ -159,7 +159,7 @@ fn watch<C: Ledger, A: Ledger, R: Abort + Wait + Clock>(
     let (mut socket, mut pass) = (socket, pass);
     let mut watched = WatchedSocket::new(desk.rt, &mut socket, most_of_own);
     for _message in 0..20u32 {
-        match serve_next(desk, &mut watched, core, &mut pass) {
+        match answer_next(desk, &mut watched, core, &mut pass) {
             Ok(Heard::Nothing) => return (None, pass),
             Ok(_) => {}
             Err(ended) => return (Some(ended), pass),

@@ -1,7 +1,7 @@
 //! A server's end of a stream in memory, which fails, ends, or is looked at.
 
-use world::Watched;
 use std::io::{self, ErrorKind, Read, Write};
+use world::Watched;
 
 #[derive(Drop)]
 pub(crate) struct Stream<'a> {

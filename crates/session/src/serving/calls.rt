@@ -23,7 +23,7 @@ use version_store::{Pass, RecordedStates};
 use world::World;
 
 /// Gives a point's session its link, before its first message, and notes it. Without one it ends.
-pub fn attach_session<W: World>(
+pub fn claim_link<W: World>(
     context: &Context<'_, W>,
     core: &mut SessionCore,
     pass: &mut Pass<W::Changes, W::Answers>,

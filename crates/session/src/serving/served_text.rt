@@ -37,7 +37,7 @@ use world::World;
 /// Waits for the next WebSocket message, and serves it if it is a text message. Where nothing comes
 /// for as long as the stream lets a read wait, says so. An error ends the session. The client of a
 /// socket that is looked at meanwhile may be gone before the answer is there: then none is sent.
-pub fn serve_next<W: World, S: SessionSocket>(
+pub fn answer_next<W: World, S: SessionSocket>(
     context: &Context<'_, W>,
     socket: &mut S,
     core: &SessionCore,
@@ -58,7 +58,7 @@ pub fn serve_next<W: World, S: SessionSocket>(
         return Err(Ended::Broken);
     };
     let frame = text.as_str();
-    let Served { answer, told, seen } = serve_sent_text(context, socket, core, pass, now, frame)?;
+    let Served { answer, told, seen } = answer_message(context, socket, core, pass, now, frame)?;
     socket.still_there()?;
     if let Some(answer) = &answer {
         let cleared = clear_to_leave(context.journal, answer.as_str(), &seen)?;
@@ -84,7 +84,7 @@ pub struct Served<N: ChronicleName> {
 /// point had when this very request was taken, and for what was asked. The answer to another request
 /// is never handed on: it ends the session. A step that couldn't be noted isn't made: the message is
 /// answered as one that memory ran out for.
-pub fn serve_sent_text<W: World, Q: Waiting>(
+pub fn answer_message<W: World, Q: Waiting>(
     context: &Context<'_, W>,
     waiting: &mut Q,
     core: &SessionCore,

@@ -1,6 +1,6 @@
 -- The answer to a message whose step was made, and to one whose step can't be noted.
 use Rattle.session.proofs.ServedLemmas.{asks_taken, text_served, unmade_if}
-use Rattle.session.proofs.serving.served_text.serve_sent_text.Goals as goal
+use Rattle.session.proofs.serving.served_text.answer_message.Goals as goal
 
 pub returns-in-Err-clause-served : goal.returns-in-Err-clause-served
 returns-in-Err-clause-served g c =

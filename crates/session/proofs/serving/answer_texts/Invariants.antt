@@ -1,6 +1,6 @@
 -- What the session counts so far is no less than what it counted before its first message.
 use Rattle.session.specs.Serving.{KeepsPass}
-use Rattle.session.proofs.serving.serve_texts.Given as goal
+use Rattle.session.proofs.serving.answer_texts.Given as goal
 
 abbrev pub invariant-loop-text : goal.invariant-loop-text
 invariant-loop-text g l = KeepsPass l.initial.pass l.pass

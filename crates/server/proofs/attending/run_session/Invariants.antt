@@ -1,6 +1,6 @@
 -- What the session counts so far is no less than what it counted before its first message.
 use Rattle.session.specs.Serving.{KeepsPass}
-use Rattle.server.proofs.attending.attend_session.Given as goal
+use Rattle.server.proofs.attending.run_session.Given as goal
 
 abbrev pub invariant-loop-message : goal.invariant-loop-message
 invariant-loop-message g l = KeepsPass l.initial.pass l.pass

@@ -1,7 +1,7 @@
 -- A link that a point got is noted.
 use Rattle.std.proofs.Common.{rules}
 use Rattle.session.proofs.NotingLemmas.{attached_noted}
-use Rattle.session.proofs.serving.calls.attach_session.Goals as goal
+use Rattle.session.proofs.serving.calls.claim_link.Goals as goal
 
 pub note_made-requires : goal.note_made-requires
 note_made-requires g c =
