@@ -15,7 +15,7 @@ mod site_json;
 mod site_parts;
 mod site_point;
 mod site_points;
-mod site_sentence;
+mod site_sentences;
 mod text_place;
 mod words;
 
@@ -27,6 +27,6 @@ pub use json_outline::{Label, Outline, Part, outline_of};
 pub use similar::{is_similar, similar_name};
 pub use site_check::check_site;
 pub use site_fields::text_of;
-pub use site_sentence::site_sentence;
+pub use site_sentences::site_sentence;
 pub use text_place::place_in_text;
 pub use words::{excerpt, instant_text, tenths_text};
