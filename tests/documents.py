@@ -266,7 +266,7 @@ def limit_in_words_problems(top, files):
     help_text = text_of(top, "crates/command_line/src/help_text.rt")
     options = re.findall(r"pub const (?:\w+_HELP|STATUSES): &str =\s*\"(?:[^\"\\]|\\.)*\";", help_text, re.DOTALL)
     sources = (
-        "crates/findings/src/site_sentence.rt", "crates/message_findings/src/sentences.rt", "crates/message_findings/src/field_fault.rt",
+        "crates/findings/src/site_sentences.rt", "crates/message_findings/src/sentences.rt", "crates/message_findings/src/field_fault.rt",
     )
     texts = {**{source: text_of(top, source) for source in sources}, "the help": "\n".join(options)}
     for where, text in texts.items():
@@ -328,7 +328,7 @@ def refusal_problems(top, files):
 
 # The functions with the tables of sentences, and the pages in which their tables may stand.
 SENTENCES = (
-    ("crates/findings/src/site_sentence.rt", ("site_sentence",)),
+    ("crates/findings/src/site_sentences.rt", ("site_sentence",)),
     ("crates/message_findings/src/sentences.rt", ("sentence", "line_sentence", "call_sentence", "never_sentence")),
     ("crates/explain_pages/src/words.rt", ("sentence", "why_not_sentence")),
 )
