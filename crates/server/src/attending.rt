@@ -4,6 +4,7 @@ ghost use Rattle.session.specs.Serving.{KeepsPass};
 
 use crate::session_watch::SessionWatch;
 use bytes::Bytes;
+use chronicle::ChronicleName;
 use journal_writer::Journal;
 use ocpp_scalars::Moments;
 use server_core::{
@@ -15,6 +16,7 @@ use session::{
 };
 use std::rt::Clock;
 use std::sync::Wait;
+use std::sync::ledger::Ledger;
 use std::time::Instant;
 use tungstenite::{Message, NoMask, WebSocket};
 use version_store::Pass;
@@ -48,12 +50,19 @@ struct SentMoment {
 
 /// Serves messages until the socket is closed or fails, the client is silent for too long, or a call
 /// to it has no reply in time. Returns how it ended.
-pub(crate) fn run_session<W: SeatWorld>(
-    context: &Context<'_, W>,
-    watch: &SessionWatch<'_, W>,
-    socket: &mut WebSocket<IncomingStream<'_, W::Runtime>, NoMask>,
+pub(crate) fn run_session<
+    C: Ledger,
+    A: Ledger,
+    R: Wait + Clock,
+    M: Moments,
+    J: Journal<N>,
+    N: ChronicleName,
+>(
+    context: &Context<'_, SeatWorld<C, A, R, M, J, N>>,
+    watch: &SessionWatch<'_, C, A, R, M, J, N>,
+    socket: &mut WebSocket<IncomingStream<'_, R>, NoMask>,
     core: &SessionCore,
-    pass: &mut Pass<W::Changes, W::Answers>,
+    pass: &mut Pass<C, A>,
 ) -> Ended
     ensures { KeepsPass pass.old pass.new }
 {
@@ -83,13 +92,13 @@ pub(crate) fn run_session<W: SeatWorld>(
 }
 
 /// Serves the next message, or does what is due where none comes. An error ends the session.
-fn attend_next<W: SeatWorld>(
-    context: &Context<'_, W>,
-    watch: &SessionWatch<'_, W>,
-    watched: &mut WatchedSocket<'_, IncomingStream<'_, W::Runtime>, NoMask, W::Runtime>,
+fn attend_next<C: Ledger, A: Ledger, R: Wait + Clock, M: Moments, J: Journal<N>, N: ChronicleName>(
+    context: &Context<'_, SeatWorld<C, A, R, M, J, N>>,
+    watch: &SessionWatch<'_, C, A, R, M, J, N>,
+    watched: &mut WatchedSocket<'_, IncomingStream<'_, R>, NoMask, R>,
     core: &SessionCore,
     attention: &mut Attention,
-    pass: &mut Pass<W::Changes, W::Answers>,
+    pass: &mut Pass<C, A>,
 ) -> Result<(), Ended>
     ensures { KeepsPass pass.old pass.new }
 {
@@ -159,9 +168,16 @@ fn keep_alive<R: Wait + Clock>(
 
 /// Sends the call that waits for a point, which has nothing to say itself. Returns which. A
 /// point that has just connected is left the time for its BootNotification.
-fn send_to_silent<W: SeatWorld>(
-    context: &Context<'_, W>,
-    socket: &mut WebSocket<IncomingStream<'_, W::Runtime>, NoMask>,
+fn send_to_silent<
+    C: Ledger,
+    A: Ledger,
+    R: Wait + Clock,
+    M: Moments,
+    J: Journal<N>,
+    N: ChronicleName,
+>(
+    context: &Context<'_, SeatWorld<C, A, R, M, J, N>>,
+    socket: &mut WebSocket<IncomingStream<'_, R>, NoMask>,
     core: &SessionCore,
     attention: &mut Attention,
 ) -> Result<Option<SentCall>, Ended> {
@@ -187,9 +203,9 @@ impl Attention {
     }
 
     /// The number of the last call, where it has no reply, though it was sent long enough ago.
-    fn overdue<W: SeatWorld>(
+    fn overdue<C: Ledger, A: Ledger, R: Wait + Clock, M: Moments, J: Journal<N>, N: ChronicleName>(
         &mut self,
-        context: &Context<'_, W>,
+        context: &Context<'_, SeatWorld<C, A, R, M, J, N>>,
         core: &SessionCore,
     ) -> Option<u64> {
         let call = self.sent?;

@@ -3,10 +3,15 @@
 ghost use Rattle.std.specs.Prelude.{◌≡◌, ◌≤◌, IfOk, length, vec_len, vec_capacity};
 
 use crate::connection::run_connection;
-use server_ports::SharedWorld;
+use chronicle::ChronicleName;
+use journal_writer::Journal;
+use ocpp_scalars::Moments;
+use server_ports::SeatWorld;
 use session::Context;
 use std::alloc::AllocError;
+use std::marker::{Send, Sync};
 use std::net::TcpListener;
+use std::sync::Wait;
 use std::sync::ledger::Ledger;
 use std::thread;
 use std::thread::{JoinHandle, Scope, Threads};
@@ -39,11 +44,18 @@ enum Session<C: Ledger, A: Ledger> {
 
 /// Accepts a connection for each pass, and serves it on a thread of its own, or on this one where
 /// no thread can be made. Ends when all have ended, and gives back all passes.
-pub(crate) fn run_connections<W: SharedWorld>(
-    context: &Context<'_, W>,
+pub(crate) fn run_connections<
+    C: Ledger + Send + Sync,
+    A: Ledger + Send + Sync,
+    R: Threads + Wait + Sync,
+    M: Moments + Sync,
+    J: Journal<N> + Sync,
+    N: ChronicleName + Send + Sync,
+>(
+    context: &Context<'_, SeatWorld<C, A, R, M, J, N>>,
     listener: TcpListener,
-    passes: Vec<Pass<W::Changes, W::Answers>>,
-) -> Result<Served<W::Changes, W::Answers>, AllocError>
+    passes: Vec<Pass<C, A>>,
+) -> Result<Served<C, A>, AllocError>
     ensures { IfOk result (λ served. length served.passes.items ≡ length passes.items) }
 {
     let count = passes.len();
@@ -53,7 +65,7 @@ pub(crate) fn run_connections<W: SharedWorld>(
     Ok(thread::scope(
         thread::scope_env(),
         context.rt,
-        |scope| -> Served<W::Changes, W::Answers>
+        |scope| -> Served<C, A>
             requires { (vec_len sessions ≡ 0) × (length passes.items ≤ vec_capacity sessions)
                 × (vec_len ended ≡ 0) × (length passes.items ≤ vec_capacity ended) }
             ensures { length result.passes.items ≡ length passes.items }
@@ -69,13 +81,22 @@ pub(crate) fn run_connections<W: SharedWorld>(
 
 /// Begins a session for each pass, in room for them. Then the listener is closed: nobody is to wait
 /// for a connection that is never accepted.
-fn begin_all<'s, W: SharedWorld, E>(
+fn begin_all<
+    's,
+    E,
+    C: Ledger + Send + Sync,
+    A: Ledger + Send + Sync,
+    R: Wait + Sync,
+    M: Moments + Sync,
+    J: Journal<N> + Sync,
+    N: ChronicleName + Send + Sync,
+>(
     scope: &Scope<'s, E>,
-    context: &'s Context<'_, W>,
+    context: &'s Context<'_, SeatWorld<C, A, R, M, J, N>>,
     listener: TcpListener,
-    passes: Vec<Pass<W::Changes, W::Answers>>,
-    room: Vec<Session<W::Changes, W::Answers>>,
-) -> Begun<W::Changes, W::Answers>
+    passes: Vec<Pass<C, A>>,
+    room: Vec<Session<C, A>>,
+) -> Begun<C, A>
     requires empty { vec_len room ≡ 0 }
     requires room { length passes.items ≤ vec_capacity room }
     ensures { length result.sessions.items ≡ length passes.items }
@@ -92,13 +113,22 @@ fn begin_all<'s, W: SharedWorld, E>(
 }
 
 /// Begins the session of a pass with the next connection.
-fn begin<'s, W: SharedWorld, E>(
+fn begin<
+    's,
+    E,
+    C: Ledger + Send + Sync,
+    A: Ledger + Send + Sync,
+    R: Wait + Sync,
+    M: Moments + Sync,
+    J: Journal<N> + Sync,
+    N: ChronicleName + Send + Sync,
+>(
     scope: &Scope<'s, E>,
-    context: &'s Context<'_, W>,
+    context: &'s Context<'_, SeatWorld<C, A, R, M, J, N>>,
     listener: &TcpListener,
-    pass: Pass<W::Changes, W::Answers>,
+    pass: Pass<C, A>,
     is_accepting: &mut bool,
-) -> Session<W::Changes, W::Answers> {
+) -> Session<C, A> {
     if !*is_accepting {
         return Session::Ended(pass);
     }

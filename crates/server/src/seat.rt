@@ -5,9 +5,11 @@ ghost use Rattle.session.specs.Serving.{KeepsPass};
 use crate::attending::run_session;
 use crate::connection::{Admitted, admit, close_at_once};
 use crate::session_watch::SessionWatch;
+use chronicle::ChronicleName;
 use compile_pool::Jobs;
 use crossbeam_channel::Receiver;
 use journal_writer::Journal;
+use ocpp_scalars::Moments;
 use server_ports::{
     ClientRequest, Entry, IncomingStream, SeatContext, SeatWorld, Unshaken, note_operator,
     note_unknown, note_unshaken, shake_hands,
@@ -18,6 +20,7 @@ use std::marker::Sync;
 use std::net::TcpStream;
 use std::rt::Clock;
 use std::sync::Wait;
+use std::sync::ledger::Ledger;
 use std::thread;
 use std::thread::Threads;
 use tungstenite::{NoMask, WebSocket, WebSocketConfig};
@@ -34,23 +37,22 @@ type SeatSocket<'a, R> = WebSocket<IncomingStream<'a, R>, NoMask>;
 
 /// Serves one connection after another, each with the seat's pass, until no more are sent. Gives
 /// back the pass, which counts no less than before.
-pub fn keep_seat<W: SeatWorld>(
-    seats: &SeatContext<W>,
+pub fn keep_seat<
+    C: Ledger,
+    A: Ledger,
+    R: Threads + Wait + Clock + Sync,
+    M: Moments,
+    J: Journal<N>,
+    N: ChronicleName,
+>(
+    seats: &SeatContext<C, A, R, M, J, N>,
     jobs: Jobs<'_>,
     streams: &Receiver<TcpStream>,
-    pass: Pass<W::Changes, W::Answers>,
-) -> Pass<W::Changes, W::Answers>
+    pass: Pass<C, A>,
+) -> Pass<C, A>
     ensures { KeepsPass pass result }
 {
-    let context = Context {
-        rt: &seats.rt,
-        alloc: seats.alloc,
-        shared: &seats.shared,
-        jobs,
-        clock: &seats.clock,
-        journal: &seats.journal,
-        reading: &seats.reading,
-    };
+    let context = context_of(seats, jobs);
     let mut pass = pass;
     for _connection in seats.rt.forever() {
         let Ok(stream) = streams.recv(&seats.rt) else {
@@ -62,13 +64,44 @@ pub fn keep_seat<W: SeatWorld>(
     unreachable!()
 }
 
+/// What the sessions of a seat have at hand.
+fn context_of<
+    's,
+    C: Ledger + 's,
+    A: Ledger + 's,
+    R: Wait + 's,
+    M: Moments + 's,
+    J: Journal<N> + 's,
+    N: ChronicleName + 's,
+>(
+    seats: &'s SeatContext<C, A, R, M, J, N>,
+    jobs: Jobs<'s>,
+) -> Context<'s, SeatWorld<C, A, R, M, J, N>> {
+    Context {
+        rt: &seats.rt,
+        alloc: seats.alloc,
+        shared: &seats.shared,
+        jobs,
+        clock: &seats.clock,
+        journal: &seats.journal,
+        reading: &seats.reading,
+    }
+}
+
 /// Serves a connection from its handshake until it ends. Gives back the pass.
-fn run_incoming<W: SeatWorld>(
-    seats: &SeatContext<W>,
-    context: &Context<'_, W>,
+fn run_incoming<
+    C: Ledger,
+    A: Ledger,
+    R: Threads + Wait + Clock + Sync,
+    M: Moments,
+    J: Journal<N>,
+    N: ChronicleName,
+>(
+    seats: &SeatContext<C, A, R, M, J, N>,
+    context: &Context<'_, SeatWorld<C, A, R, M, J, N>>,
     stream: TcpStream,
-    pass: Pass<W::Changes, W::Answers>,
-) -> Pass<W::Changes, W::Answers>
+    pass: Pass<C, A>,
+) -> Pass<C, A>
     ensures { KeepsPass pass result }
 {
     let from = stream.peer_addr().ok();
@@ -104,10 +137,18 @@ fn run_incoming<W: SeatWorld>(
 }
 
 /// Shakes hands with a client. While that lasts, it may have to give way.
-fn shake_in_time<'a, W: SeatWorld>(
-    seats: &SeatContext<W>,
-    stream: IncomingStream<'a, W::Runtime>,
-) -> Result<(SeatSocket<'a, W::Runtime>, ClientRequest), Unshaken> {
+fn shake_in_time<
+    'a,
+    C: Ledger,
+    A: Ledger,
+    R: Threads + Wait + Clock + Sync,
+    M,
+    J,
+    N: ChronicleName,
+>(
+    seats: &SeatContext<C, A, R, M, J, N>,
+    stream: IncomingStream<'a, R>,
+) -> Result<(SeatSocket<'a, R>, ClientRequest), Unshaken> {
     let entry = Entry::Guarded {
         keys: seats.options.keys.as_ref(),
         address: seats.options.address.as_str(),
@@ -146,13 +187,13 @@ fn limits() -> WebSocketConfig {
 
 /// Serves a session after its handshake. A point's older connection is shut once this one has its
 /// link, and this one is shut once a later one has. Gives back the pass.
-fn run_admitted<W: SeatWorld>(
-    seats: &SeatContext<W>,
-    context: &Context<'_, W>,
-    socket: SeatSocket<'_, W::Runtime>,
+fn run_admitted<C: Ledger, A: Ledger, R: Wait + Clock, M: Moments, J: Journal<N>, N: ChronicleName>(
+    seats: &SeatContext<C, A, R, M, J, N>,
+    context: &Context<'_, SeatWorld<C, A, R, M, J, N>>,
+    socket: SeatSocket<'_, R>,
     admitted: Admitted,
-    pass: Pass<W::Changes, W::Answers>,
-) -> Pass<W::Changes, W::Answers>
+    pass: Pass<C, A>,
+) -> Pass<C, A>
     ensures { KeepsPass pass result }
 {
     let Admitted { mut core, place } = admitted;

@@ -5,15 +5,18 @@ ghost use Rattle.std.specs.Prelude.{◌≡◌, ◌≤◌, ◌+◌, true, IfOk, l
 use crate::seat::keep_seat;
 use chronicle::{ChronicleName, Unnamed};
 use crossbeam_channel::{Receiver, bounded};
-use server_ports::{
-    JobSenders, SeatContext, SeatWorld, ServeFault, accept_connections, begin_workers,
-};
+use journal_writer::Journal;
+use ocpp_scalars::Moments;
+use server_ports::{JobSenders, SeatContext, ServeFault, accept_connections, begin_workers};
 use site_rules::Site;
 use std::alloc::{AllocError, Global};
+use std::marker::{Send, Sync};
 use std::net::{TcpListener, TcpStream};
-use std::sync::Arc;
+use std::rt::Clock;
 use std::sync::ledger::{Blank, Ledger};
+use std::sync::{Arc, Wait};
 use std::thread;
+use std::thread::Threads;
 use version_store::{Pass, Shared};
 
 /// The most connections at a time.
@@ -72,10 +75,17 @@ impl<C: Ledger, A: Ledger, N: ChronicleName> SeatedBook<C, A, N> {
 /// and serves one connection after another. Workers on other threads compile. It goes on when this
 /// returns, for as long as the program runs. Returns how many seats there are: fewer where a thread
 /// couldn't be made, and one at least.
-pub fn run_seats<W: SeatWorld + 'static>(
-    context: &Arc<SeatContext<W>, Global>,
+pub fn run_seats<
+    C: Ledger + Send + Sync + Drop + 'static,
+    A: Ledger + Send + Sync + Drop + 'static,
+    R: Threads + Wait + Clock + Eprint + Copy + Send + Sync + Drop + 'static,
+    M: Moments + Send + Sync + Drop + 'static,
+    J: Journal<N> + Send + Sync + Drop + 'static,
+    N: ChronicleName + Send + Sync + Drop + 'static,
+>(
+    context: &Arc<SeatContext<C, A, R, M, J, N>, Global>,
     listener: TcpListener,
-    passes: Vec<Pass<W::Changes, W::Answers>>,
+    passes: Vec<Pass<C, A>>,
     workers: usize,
 ) -> Result<usize, ServeFault>
     requires workers { 1 ≤ workers }
@@ -107,9 +117,14 @@ pub fn run_seats<W: SeatWorld + 'static>(
 }
 
 /// Begins the thread that writes lines for people to standard error.
-fn begin_writer<W: SeatWorld + 'static>(
-    context: &Arc<SeatContext<W>, Global>,
-) -> Result<(), ServeFault> {
+fn begin_writer<
+    C: Ledger + Send + Sync + Drop + 'static,
+    A: Ledger + Send + Sync + Drop + 'static,
+    R: Wait + Threads + Eprint + Send + Sync + Drop + 'static,
+    M: Send + Sync + Drop + 'static,
+    J: Send + Sync + Drop + 'static,
+    N: ChronicleName + Send + Sync + Drop + 'static,
+>(context: &Arc<SeatContext<C, A, R, M, J, N>, Global>) -> Result<(), ServeFault> {
     let own = Arc::try_clone(context)?;
     let writer = thread::Builder::new().spawn(&context.rt, move || own.notices.write_all(&own.rt));
     match writer {
@@ -119,11 +134,18 @@ fn begin_writer<W: SeatWorld + 'static>(
 }
 
 /// Begins a seat for each pass. Returns how many threads could be made for them.
-fn begin_seats<W: SeatWorld + 'static>(
-    context: &Arc<SeatContext<W>, Global>,
+fn begin_seats<
+    C: Ledger + Send + Sync + Drop + 'static,
+    A: Ledger + Send + Sync + Drop + 'static,
+    R: Threads + Wait + Clock + Copy + Send + Sync + Drop + 'static,
+    M: Moments + Send + Sync + Drop + 'static,
+    J: Journal<N> + Send + Sync + Drop + 'static,
+    N: ChronicleName + Send + Sync + Drop + 'static,
+>(
+    context: &Arc<SeatContext<C, A, R, M, J, N>, Global>,
     jobs: &JobSenders,
     queue: &Receiver<TcpStream>,
-    passes: Vec<Pass<W::Changes, W::Answers>>,
+    passes: Vec<Pass<C, A>>,
 ) -> Result<usize, ServeFault>
     ensures { IfOk result (λ seats. seats ≤ length passes.items) }
 {
@@ -139,11 +161,18 @@ fn begin_seats<W: SeatWorld + 'static>(
 }
 
 /// Begins a seat. False where no thread can be made for it.
-fn begin_seat<W: SeatWorld + 'static>(
-    context: &Arc<SeatContext<W>, Global>,
+fn begin_seat<
+    C: Ledger + Send + Sync + Drop + 'static,
+    A: Ledger + Send + Sync + Drop + 'static,
+    R: Threads + Wait + Clock + Copy + Send + Sync + Drop + 'static,
+    M: Moments + Send + Sync + Drop + 'static,
+    J: Journal<N> + Send + Sync + Drop + 'static,
+    N: ChronicleName + Send + Sync + Drop + 'static,
+>(
+    context: &Arc<SeatContext<C, A, R, M, J, N>, Global>,
     jobs: &JobSenders,
     queue: &Receiver<TcpStream>,
-    pass: Pass<W::Changes, W::Answers>,
+    pass: Pass<C, A>,
 ) -> Result<bool, ServeFault> {
     let own = Arc::try_clone(context)?;
     let (jobs, queue) = (jobs.share()?, queue.clone()?);

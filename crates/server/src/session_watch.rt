@@ -1,24 +1,36 @@
 //! What a session is seen to do: for the status of its site, and as lines for people.
 
+use chronicle::ChronicleName;
+use journal_writer::Journal;
 use messages::ActionKind;
 use ocpp_scalars::{Instant, Moments};
 use server_core::{Rejected, Reply};
-use server_ports::{SeatContext, SeatWorld};
+use server_ports::SeatContext;
 use session::{Breach, Ended, SentCall, SessionCore, Told};
 use site_status::{Boot, CallNumbers, SentMoment, Sighting};
 use std::alloc::{AllocError, Global};
+use std::rt::Clock;
+use std::sync::Wait;
+use std::sync::ledger::Ledger;
 
 /// Whoever watches a session of a point or of an operator.
 #[derive(Drop)]
-pub(crate) struct SessionWatch<'a, W: SeatWorld> {
-    pub(crate) seats: &'a SeatContext<W>,
+pub(crate) struct SessionWatch<'a, C: Ledger, A: Ledger, R, M, J, N: ChronicleName> {
+    pub(crate) seats: &'a SeatContext<C, A, R, M, J, N>,
     /// The place of its point in the site.
     pub(crate) place: usize,
     /// The link of a point. An operator has none.
     pub(crate) link: Option<u64>,
 }
 
-impl<W: SeatWorld> SessionWatch<'_, W> {
+impl<
+    C: Ledger,
+    A: Ledger,
+    R: Wait + Clock,
+    M: Moments,
+    J: Journal<N>,
+    N: ChronicleName,
+> SessionWatch<'_, C, A, R, M, J, N> {
     /// It has begun.
     pub(crate) fn begin(&self, core: &SessionCore) {
         let seats = self.seats;

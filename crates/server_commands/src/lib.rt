@@ -5,7 +5,6 @@ mod kept_boots;
 mod key_making;
 mod running;
 mod serving;
-mod site_world;
 
 pub use key_making::make_key;
 pub use running::run_file;

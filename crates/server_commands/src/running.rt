@@ -4,16 +4,15 @@ ghost use Rattle.std.specs.Prelude.{◌≡◌, ◌≤◌, ◌+◌, true};
 
 use crate::kept_boots::KeptBoots;
 use crate::serving::stop_of;
-use crate::site_world::SiteWorld;
 use chronicle::{ChronicleName, Unnamed};
 use command_io::{ProgramFault, read_digested_site, read_key_file};
 use data_folder::{
-    FolderFault, OpenJournal, Resumed, SystemClock, open_journal, or_stop, restore_shared,
+    FolderFault, JournalFile, OpenJournal, Resumed, SystemClock, open_journal, or_stop,
+    restore_shared,
 };
 use jobs::{MAX_SEATS, MAX_WORKERS, Running};
 use server::{
-    SeatContext, SeatOptions, SeatWorld, SeatedBook, StatusPort, begin_boots, begin_status,
-    run_seats,
+    SeatContext, SeatOptions, SeatedBook, StatusPort, begin_boots, begin_status, run_seats,
 };
 use site_keys::Keys;
 use site_rules::Site;
@@ -28,6 +27,7 @@ use std::sync::ledger::{Blank, Ledger};
 use std::sync::{Arc, Wait};
 use std::thread;
 use std::thread::Threads;
+use version_store::Shared;
 
 // The command line lets in as many as the server does.
 const _: () = prove!(MAX_SEATS == server::MAX_SEATS);
@@ -218,9 +218,7 @@ fn run_counted<
     let port = begin_port(rt, status, status_address)?;
     let (journal, resumed) = restore_shared(rt, opened, &digest, &shared, restoring, syncs)?;
     print_resumed(rt, &resumed)?;
-    let clock = SystemClock { rt: *rt };
-    let context = SeatContext::make(*rt, rt.alloc(), shared, clock, journal, options)?;
-    let context: Arc<SeatContext<SiteWorld<C, A, N, R>>, Global> = Arc::new(rt.alloc(), context)?;
+    let context = context_of(rt, shared, journal, options)?;
     context.resume_rejections(resumed.rejected);
     begin_lines(rt, &context)?;
     keep_boots(&context, boots)?;
@@ -236,11 +234,26 @@ fn run_counted<
 }
 
 /// Begins to tell how the site is, where that is wanted. It is told that it is being restored, too.
-fn begin_port<W: SeatWorld<Runtime: AllocGlobal> + 'static>(
-    rt: &W::Runtime,
+fn begin_port<
+    C: Ledger + Send + Sync + Drop + 'static,
+    A: Ledger + Send + Sync + Drop + 'static,
+    N: ChronicleName + Send + Sync + Drop + 'static,
+    R: Eprint
+        + AllocGlobal
+        + Clock
+        + RandomSource
+        + Threads
+        + Wait
+        + Copy
+        + Send
+        + Sync
+        + Drop
+        + 'static,
+>(
+    rt: &R,
     status: Option<TcpListener>,
     address: Option<&str>,
-) -> Result<Arc<StatusPort<W>, Global>, ProgramFault> {
+) -> Result<Arc<StatusPort<C, A, R, SystemClock<R>, JournalFile<R, N>, N>, Global>, ProgramFault> {
     let address = owned(rt.alloc(), address)?;
     let port = Arc::new(rt.alloc(), StatusPort::new(*rt, rt.alloc(), address))?;
     if let Some(listener) = status {
@@ -264,18 +277,11 @@ fn begin_lines<
     C: Ledger + Send + Sync + Drop + 'static,
     A: Ledger + Send + Sync + Drop + 'static,
     N: ChronicleName + Send + Sync + Drop + 'static,
-    R: Eprint
-        + AllocGlobal
-        + Clock
-        + RandomSource
-        + Threads
-        + Wait
-        + Copy
-        + Send
-        + Sync
-        + Drop
-        + 'static,
->(rt: &R, context: &Arc<SeatContext<SiteWorld<C, A, N, R>>, Global>) -> Result<(), ProgramFault> {
+    R: Eprint + AllocGlobal + Clock + Threads + Wait + Copy + Send + Sync + Drop + 'static,
+>(
+    rt: &R,
+    context: &Arc<SeatContext<C, A, R, SystemClock<R>, JournalFile<R, N>, N>, Global>,
+) -> Result<(), ProgramFault> {
     let own = Arc::try_clone(context)?;
     let writer = thread::Builder::new().spawn(rt, move || own.journal().write_lines());
     match writer {
@@ -285,8 +291,13 @@ fn begin_lines<
 }
 
 /// Goes on with the boots that the folder keeps, and begins to keep those that come.
-fn keep_boots<W: SeatWorld + 'static>(
-    context: &Arc<SeatContext<W>, Global>,
+fn keep_boots<
+    C: Ledger + Send + Sync + Drop + 'static,
+    A: Ledger + Send + Sync + Drop + 'static,
+    N: ChronicleName + Send + Sync + Drop + 'static,
+    R: Eprint + AllocGlobal + Clock + Threads + Wait + Copy + Send + Sync + Drop + 'static,
+>(
+    context: &Arc<SeatContext<C, A, R, SystemClock<R>, JournalFile<R, N>, N>, Global>,
     kept: KeptBoots,
 ) -> Result<(), ProgramFault> {
     let KeptBoots { boots, file } = kept;
@@ -298,6 +309,24 @@ fn keep_boots<W: SeatWorld + 'static>(
         Ok(()) => Ok(()),
         Err(fault) => Err(stop_of(fault)),
     }
+}
+
+/// What the threads share that serve this book.
+fn context_of<
+    C: Ledger,
+    A: Ledger,
+    N: ChronicleName,
+    R: Clock + Wait + Eprint + AllocGlobal + Copy + Drop,
+>(
+    rt: &R,
+    shared: Shared<C, A, N>,
+    journal: JournalFile<R, N>,
+    options: SeatOptions,
+) -> Result<Arc<SeatContext<C, A, R, SystemClock<R>, JournalFile<R, N>, N>, Global>, AllocError> {
+    let alloc = rt.alloc();
+    let clock = SystemClock { rt: *rt };
+    let context = SeatContext::make(*rt, alloc, shared, clock, journal, options)?;
+    Ok(Arc::new(alloc, context)?)
 }
 
 fn print_resumed<R: Print>(rt: &R, resumed: &Resumed) -> Result<(), ProgramFault> {

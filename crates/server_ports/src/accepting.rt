@@ -1,11 +1,15 @@
 //! Connections are accepted: each for a free seat, or it is answered that there is none.
 
 use crate::seat_context::SeatContext;
-use crate::seat_world::SeatWorld;
+use chronicle::ChronicleName;
 use crossbeam_channel::Sender;
+use ocpp_scalars::Moments;
 use server_core::Seldom;
 use std::io::{Read, Write};
 use std::net::{Shutdown, TcpListener, TcpStream};
+use std::rt::Clock;
+use std::sync::Wait;
+use std::sync::ledger::Ledger;
 use std::thread;
 use std::time::Duration;
 
@@ -28,8 +32,8 @@ const NO_SEAT: &[u8] =
 
 /// Accepts connections for ever, and sends each to a free seat. Where none is free, it is answered
 /// so and closed.
-pub fn accept_connections<W: SeatWorld>(
-    seats: &SeatContext<W>,
+pub fn accept_connections<C: Ledger, A: Ledger, R: Wait + Clock, M: Moments, J, N: ChronicleName>(
+    seats: &SeatContext<C, A, R, M, J, N>,
     listener: &TcpListener,
     streams: &Sender<TcpStream>,
 ) {
@@ -54,7 +58,9 @@ pub fn accept_connections<W: SeatWorld>(
 
 /// Takes a seat for a connection. Where none is free, the handshake that lasts longest gives way, once
 /// it has had its time.
-fn take_seat<W: SeatWorld>(seats: &SeatContext<W>) -> bool {
+fn take_seat<C: Ledger, A: Ledger, R: Wait + Clock, M, J, N: ChronicleName>(
+    seats: &SeatContext<C, A, R, M, J, N>,
+) -> bool {
     let rt = &seats.rt;
     if seats.free.take(rt) {
         return true;
@@ -74,8 +80,8 @@ fn take_seat<W: SeatWorld>(seats: &SeatContext<W>) -> bool {
 
 /// The next connection. None where it couldn't be accepted, after a pause: a file descriptor may be
 /// free then.
-fn accept_next<W: SeatWorld>(
-    seats: &SeatContext<W>,
+fn accept_next<C: Ledger, A: Ledger, R: Wait + Clock, M: Moments, J, N: ChronicleName>(
+    seats: &SeatContext<C, A, R, M, J, N>,
     listener: &TcpListener,
     failed: &mut Seldom,
 ) -> Option<TcpStream> {
@@ -95,7 +101,10 @@ fn accept_next<W: SeatWorld>(
 }
 
 /// Says that all seats are taken.
-fn say_full<W: SeatWorld>(seats: &SeatContext<W>, full: &mut Seldom) {
+fn say_full<C: Ledger, A: Ledger, R: Wait + Clock, M: Moments, J, N: ChronicleName>(
+    seats: &SeatContext<C, A, R, M, J, N>,
+    full: &mut Seldom,
+) {
     if full.is_due(&seats.rt) {
         seats.notices.say(&seats.rt, &seats.clock, "seats", FULL);
     }

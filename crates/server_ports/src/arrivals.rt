@@ -3,14 +3,18 @@
 use crate::handshake::{ClientRequest, Unshaken};
 use crate::request_words::{push_path, said_of_operator};
 use crate::seat_context::SeatContext;
-use crate::seat_world::SeatWorld;
+use chronicle::ChronicleName;
+use ocpp_scalars::Moments;
 use std::alloc::{AllocError, Global};
 use std::net::SocketAddr;
+use std::rt::Clock;
+use std::sync::Wait;
+use std::sync::ledger::Ledger;
 
 /// Says that a connection wasn't let in. One that failed by itself, as a probe of the port does, is
 /// none of these.
-pub fn note_unshaken<W: SeatWorld>(
-    seats: &SeatContext<W>,
+pub fn note_unshaken<C: Ledger, A: Ledger, R: Wait + Clock, M: Moments, J, N: ChronicleName>(
+    seats: &SeatContext<C, A, R, M, J, N>,
     unshaken: Unshaken,
     from: Option<SocketAddr>,
 ) {
@@ -21,8 +25,8 @@ pub fn note_unshaken<W: SeatWorld>(
 
 /// Says that a connection was closed since the site has no point of its path, or since its client
 /// didn't offer OCPP 1.6.
-pub fn note_unknown<W: SeatWorld>(
-    seats: &SeatContext<W>,
+pub fn note_unknown<C: Ledger, A: Ledger, R: Wait + Clock, M: Moments, J, N: ChronicleName>(
+    seats: &SeatContext<C, A, R, M, J, N>,
     asked: &ClientRequest,
     from: Option<SocketAddr>,
 ) {
@@ -33,8 +37,8 @@ pub fn note_unknown<W: SeatWorld>(
 
 /// Says that an operator has come, from where and as whom: what is in the journal by then tells no
 /// more than that it was an operator.
-pub fn note_operator<W: SeatWorld>(
-    seats: &SeatContext<W>,
+pub fn note_operator<C: Ledger, A: Ledger, R: Wait + Clock, M: Moments, J, N: ChronicleName>(
+    seats: &SeatContext<C, A, R, M, J, N>,
     asked: &ClientRequest,
     from: Option<SocketAddr>,
 ) {
@@ -51,8 +55,8 @@ fn push_unknown(what: &mut String, asked: &ClientRequest) -> Result<(), AllocErr
     push_path(what, asked.path.as_str())
 }
 
-fn note_refused<W: SeatWorld>(
-    seats: &SeatContext<W>,
+fn note_refused<C: Ledger, A: Ledger, R: Wait + Clock, M: Moments, J, N: ChronicleName>(
+    seats: &SeatContext<C, A, R, M, J, N>,
     from: Option<SocketAddr>,
     what: Result<String, AllocError>,
 ) {
@@ -61,8 +65,8 @@ fn note_refused<W: SeatWorld>(
 }
 
 /// Says what became of whoever has this address.
-fn say_from<W: SeatWorld>(
-    seats: &SeatContext<W>,
+fn say_from<C: Ledger, A: Ledger, R: Wait + Clock, M: Moments, J, N: ChronicleName>(
+    seats: &SeatContext<C, A, R, M, J, N>,
     from: Option<SocketAddr>,
     what: Result<String, AllocError>,
 ) {

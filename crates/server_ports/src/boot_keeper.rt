@@ -1,13 +1,18 @@
 //! The boots of points, which are kept over a restart of the program.
 
 use crate::seat_context::SeatContext;
-use crate::seat_world::SeatWorld;
 use crate::serve_fault::ServeFault;
+use chronicle::ChronicleName;
+use journal_writer::Journal;
+use ocpp_scalars::Moments;
 use site_rules::Site;
 use site_status::{Boot, BootLine, push_boot_line};
 use std::alloc::{AllocError, Global};
-use std::marker::Send;
-use std::sync::Arc;
+use std::marker::{Send, Sync};
+use std::rt::Clock;
+use std::sync::ledger::Ledger;
+use std::sync::{Arc, Wait};
+use std::thread::Threads;
 use std::time::Duration;
 use std::{io, thread};
 
@@ -22,10 +27,15 @@ pub trait BootKeeper {
 
 /// Begins the thread that keeps the boots of points, each time that they change. No session waits for
 /// it. It goes on when this returns, for as long as the program runs.
-pub fn begin_boots<W: SeatWorld + 'static, K: BootKeeper + Send + Drop + 'static>(
-    context: &Arc<SeatContext<W>, Global>,
-    keeper: K,
-) -> Result<(), ServeFault> {
+pub fn begin_boots<
+    C: Ledger + Send + Sync + Drop + 'static,
+    A: Ledger + Send + Sync + Drop + 'static,
+    R: Threads + Wait + Clock + Send + Sync + Drop + 'static,
+    M: Moments + Send + Sync + Drop + 'static,
+    J: Journal<N> + Send + Sync + Drop + 'static,
+    K: BootKeeper + Send + Drop + 'static,
+    N: ChronicleName + Send + Sync + Drop + 'static,
+>(context: &Arc<SeatContext<C, A, R, M, J, N>, Global>, keeper: K) -> Result<(), ServeFault> {
     let own = Arc::try_clone(context)?;
     let begun = thread::Builder::new().spawn(&context.rt, move || keep_boots(&own, &keeper));
     match begun {
@@ -36,7 +46,15 @@ pub fn begin_boots<W: SeatWorld + 'static, K: BootKeeper + Send + Drop + 'static
 
 /// Keeps the boots of points for ever. Where they can't be kept, that is said once until they are, and
 /// it is tried again at the next change.
-fn keep_boots<W: SeatWorld, K: BootKeeper>(seats: &SeatContext<W>, keeper: &K) {
+fn keep_boots<
+    C: Ledger,
+    A: Ledger,
+    R: Wait + Clock,
+    M: Moments,
+    J: Journal<N>,
+    K: BootKeeper,
+    N: ChronicleName,
+>(seats: &SeatContext<C, A, R, M, J, N>, keeper: &K) {
     let mut is_said = false;
     for _change in seats.rt.forever() {
         seats.watch.changed_boots().wait(&seats.rt);
@@ -54,7 +72,10 @@ fn keep_boots<W: SeatWorld, K: BootKeeper>(seats: &SeatContext<W>, keeper: &K) {
 
 /// Keeps the boots of points as they are now. The book is locked to be copied, and nothing is locked
 /// while the lines are made and kept.
-fn keep_now<W: SeatWorld, K: BootKeeper>(seats: &SeatContext<W>, keeper: &K) -> io::Result<()> {
+fn keep_now<C: Ledger, A: Ledger, R: Wait, M, J, K: BootKeeper, N: ChronicleName>(
+    seats: &SeatContext<C, A, R, M, J, N>,
+    keeper: &K,
+) -> io::Result<()> {
     let boots = seats.watch.boots(&seats.rt, seats.alloc)?;
     let book = seats.shared.lock(&seats.rt);
     let copied = book.present().copy();
@@ -80,7 +101,10 @@ fn boot_lines(alloc: Global, site: &Site, boots: &[Option<Boot>]) -> Result<Stri
 }
 
 /// Says that the boots can't be kept.
-fn say_unkept<W: SeatWorld>(seats: &SeatContext<W>, error: &io::Error) {
+fn say_unkept<C: Ledger, A: Ledger, R: Wait, M: Moments, J, N: ChronicleName>(
+    seats: &SeatContext<C, A, R, M, J, N>,
+    error: &io::Error,
+) {
     let what = format!(in seats.alloc; "they can't be kept over a restart: {error}");
     seats
         .notices

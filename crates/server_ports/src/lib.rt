@@ -27,7 +27,7 @@ pub use incoming_stream::IncomingStream;
 pub use own_host::is_own_host;
 pub use path::{PathPeer, peer_of_path};
 pub use seat_context::{SeatContext, SeatOptions};
-pub use seat_world::{SeatWorld, SharedWorld};
+pub use seat_world::SeatWorld;
 pub use serve_fault::ServeFault;
 pub use status_port::{StatusPort, begin_status};
 pub use workers::{JobSenders, begin_workers};

@@ -1,6 +1,6 @@
 //! What all seats of a site share.
 
-use crate::seat_world::SeatWorld;
+use chronicle::ChronicleName;
 use journal_writer::Journal;
 use ocpp_scalars::Moments;
 use server_core::{
@@ -10,8 +10,9 @@ use site_keys::Keys;
 use site_status::{Boot, RejectedCalls, resumed_boot};
 use std::alloc::{AllocError, Global};
 use std::rt::Clock;
-use std::sync::{Arc, Mutex};
-use version_store::Shared;
+use std::sync::ledger::Ledger;
+use std::sync::{Arc, Mutex, Wait};
+use version_store::{NoName, Shared};
 
 /// What whoever runs a site may choose.
 #[derive(Drop)]
@@ -27,12 +28,12 @@ pub struct SeatOptions {
 
 /// What all threads share that serve a site.
 #[derive(Drop)]
-pub struct SeatContext<W: SeatWorld> {
-    pub rt: W::Runtime,
+pub struct SeatContext<C: Ledger, A: Ledger, R, M, J, N: ChronicleName = NoName> {
+    pub rt: R,
     pub alloc: Global,
-    pub shared: Arc<Shared<W::Changes, W::Answers, W::Name>, Global>,
-    pub clock: W::Clock,
-    pub journal: W::Journal,
+    pub shared: Arc<Shared<C, A, N>, Global>,
+    pub clock: M,
+    pub journal: J,
     pub present: PresentStreams,
     pub free: FreeSeats,
     pub long_messages: LongMessages,
@@ -45,16 +46,23 @@ pub struct SeatContext<W: SeatWorld> {
     pub reading: Mutex<()>,
 }
 
-impl<W: SeatWorld> SeatContext<W> {
+impl<
+    C: Ledger,
+    A: Ledger,
+    R: Wait + Clock + Drop,
+    M: Moments + Drop,
+    J: Journal<N> + Drop,
+    N: ChronicleName,
+> SeatContext<C, A, R, M, J, N> {
     /// What threads share that serve this book, by this clock and with this journal.
     pub fn make(
-        rt: W::Runtime,
+        rt: R,
         alloc: Global,
-        shared: Shared<W::Changes, W::Answers, W::Name>,
-        clock: W::Clock,
-        journal: W::Journal,
+        shared: Shared<C, A, N>,
+        clock: M,
+        journal: J,
         options: SeatOptions,
-    ) -> Result<SeatContext<W>, AllocError> {
+    ) -> Result<SeatContext<C, A, R, M, J, N>, AllocError> {
         let book = shared.lock(&rt);
         let copied = book.present().copy();
         drop(book);
@@ -108,7 +116,7 @@ impl<W: SeatWorld> SeatContext<W> {
     }
 
     /// The journal of what is served.
-    pub fn journal(&self) -> &W::Journal {
+    pub fn journal(&self) -> &J {
         &self.journal
     }
 }

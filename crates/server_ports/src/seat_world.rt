@@ -1,39 +1,30 @@
-//! Worlds whose sessions are served on threads.
+//! The world of the sessions that a site's threads serve.
 
+use chronicle::ChronicleName;
+use journal_writer::Journal;
 use ocpp_scalars::Moments;
-use site_status::WatchedJournal;
-use std::marker::{Send, Sync};
-use std::random::RandomSource;
-use std::rt::Clock;
+use std::marker::PhantomData;
 use std::sync::Wait;
 use std::sync::ledger::Ledger;
-use std::thread::Threads;
-use world::{Unrecorded, World};
+use world::World;
 
-/// A world that threads share.
-pub trait SharedWorld: World<
-    Changes: Send + Sync,
-    Answers: Send + Sync,
-    Name: Send + Sync,
-    Runtime: Threads + Sync,
-    Clock: Sync,
-    Journal: Sync,
-> {}
+/// A world of these types. Threads need to know of each that it may be sent to them, which they can't
+/// learn of a world's.
+pub struct SeatWorld<C, A, R, M, J, N> {
+    _types: PhantomData<(C, A, R, M, J, N)>,
+}
 
-impl<
-    C: Ledger + Send + Sync,
-    A: Ledger + Send + Sync,
-    R: Threads + Wait + Sync,
-    M: Moments + Sync,
-> SharedWorld for Unrecorded<C, A, R, M> {}
+impl<C: Ledger, A: Ledger, R: Wait, M: Moments, J: Journal<N>, N: ChronicleName> World
+    for SeatWorld<C, A, R, M, J, N> {
+    type Changes = C;
 
-/// A world that threads share for as long as the program runs, and whose journal is watched.
-pub trait SeatWorld: World<
-    Changes: Send + Sync + Drop + 'static,
-    Answers: Send + Sync + Drop + 'static,
-    Name: Send + Sync + Drop + 'static,
-    Runtime: Threads + Clock + RandomSource + Eprint + Copy + Send + Sync + Drop + 'static,
-    Clock: Send + Sync + Drop + 'static,
-    Journal: WatchedJournal + Send + Sync + Drop + 'static,
->
-    + 'static {}
+    type Answers = A;
+
+    type Name = N;
+
+    type Runtime = R;
+
+    type Clock = M;
+
+    type Journal = J;
+}

@@ -1,15 +1,22 @@
 //! The status port of a site: read-only, over HTTP/1.1, with a few threads of its own.
 
 use crate::seat_context::SeatContext;
-use crate::seat_world::SeatWorld;
 use crate::serve_fault::ServeFault;
 use crate::status_service::StatusService;
+use chronicle::ChronicleName;
 use http_server::{Config, Connection, serve};
+use ocpp_scalars::Moments;
 use server_core::{LONGEST_STATUS, StatusStream};
+use site_status::WatchedJournal;
 use std::alloc::{AllocError, Global};
 use std::hash::RandomState;
+use std::marker::{Send, Sync};
 use std::net::{TcpListener, TcpStream};
-use std::sync::{Arc, Mutex};
+use std::random::RandomSource;
+use std::rt::Clock;
+use std::sync::ledger::Ledger;
+use std::sync::{Arc, Mutex, Wait};
+use std::thread::Threads;
 use std::time::{Duration, Instant};
 use std::{io, thread};
 
@@ -27,23 +34,30 @@ const LONGEST_BODY: usize = 0;
 
 /// What the threads of a status port share.
 #[derive(Drop)]
-pub struct StatusPort<W: SeatWorld> {
-    pub rt: W::Runtime,
+pub struct StatusPort<C: Ledger, A: Ledger, R, M, J, N: ChronicleName> {
+    pub rt: R,
     pub alloc: Global,
     /// The address that is listened at, as it was given, where only requests for this machine are
     /// answered. None where it is open to others, who may have any name for it.
     pub address: Option<String>,
     /// What is watched. None while the site is being restored.
-    pub seats: Mutex<Option<SharedSeats<W>>>,
+    pub seats: Mutex<Option<SharedSeats<C, A, R, M, J, N>>>,
 }
 
 /// What the seats of a site share.
-pub type SharedSeats<W> = Arc<SeatContext<W>, Global>;
+pub type SharedSeats<C, A, R, M, J, N> = Arc<SeatContext<C, A, R, M, J, N>, Global>;
 
-impl<W: SeatWorld> StatusPort<W> {
+impl<C: Ledger, A: Ledger, R: Wait + Drop, M: Drop, J: Drop, N: ChronicleName> StatusPort<
+    C,
+    A,
+    R,
+    M,
+    J,
+    N,
+> {
     /// The port of a site that is being restored, at this address if it answers only requests for this
     /// machine.
-    pub fn new(rt: W::Runtime, alloc: Global, address: Option<String>) -> StatusPort<W> {
+    pub fn new(rt: R, alloc: Global, address: Option<String>) -> StatusPort<C, A, R, M, J, N> {
         StatusPort {
             rt,
             alloc,
@@ -53,14 +67,17 @@ impl<W: SeatWorld> StatusPort<W> {
     }
 
     /// The site is restored: from now on this is watched.
-    pub fn watch(&self, seats: &SharedSeats<W>) -> Result<(), AllocError> {
+    pub fn watch(
+        &self,
+        seats: &Arc<SeatContext<C, A, R, M, J, N>, Global>,
+    ) -> Result<(), AllocError> {
         let seats = Arc::try_clone(seats)?;
         *self.seats.lock(&self.rt) = Some(seats);
         Ok(())
     }
 
     /// What is watched, if the site is restored.
-    pub fn seats(&self) -> Result<Option<SharedSeats<W>>, AllocError> {
+    pub fn seats(&self) -> Result<Option<SharedSeats<C, A, R, M, J, N>>, AllocError> {
         let seats = self.seats.lock(&self.rt);
         match &*seats {
             Some(seats) => Ok(Some(Arc::try_clone(seats)?)),
@@ -70,8 +87,15 @@ impl<W: SeatWorld> StatusPort<W> {
 }
 
 /// Begins to answer at a status port. It goes on when this returns, for as long as the program runs.
-pub fn begin_status<W: SeatWorld + 'static>(
-    port: &Arc<StatusPort<W>, Global>,
+pub fn begin_status<
+    C: Ledger + Send + Sync + Drop + 'static,
+    A: Ledger + Send + Sync + Drop + 'static,
+    R: Threads + Wait + Clock + RandomSource + Copy + Send + Sync + Drop + 'static,
+    M: Moments + Send + Sync + Drop + 'static,
+    J: WatchedJournal + Send + Sync + Drop + 'static,
+    N: ChronicleName + Send + Sync + Drop + 'static,
+>(
+    port: &Arc<StatusPort<C, A, R, M, J, N>, Global>,
     listener: TcpListener,
 ) -> Result<(), ServeFault> {
     let Ok(listener) = Arc::new(port.alloc, listener) else {
@@ -90,7 +114,14 @@ pub fn begin_status<W: SeatWorld + 'static>(
 }
 
 /// Answers one connection after another.
-fn answer_all<W: SeatWorld>(port: &StatusPort<W>, listener: &TcpListener) {
+fn answer_all<
+    C: Ledger,
+    A: Ledger,
+    R: Wait + Clock + RandomSource + Drop,
+    M: Moments + Drop,
+    J: WatchedJournal + Drop,
+    N: ChronicleName,
+>(port: &StatusPort<C, A, R, M, J, N>, listener: &TcpListener) {
     for _connection in port.rt.forever() {
         match listener.accept() {
             Ok((stream, _)) => {
@@ -103,7 +134,14 @@ fn answer_all<W: SeatWorld>(port: &StatusPort<W>, listener: &TcpListener) {
 }
 
 /// Answers the request of a connection, within the deadline.
-fn answer_connection<W: SeatWorld>(port: &StatusPort<W>, stream: &TcpStream) -> io::Result<()> {
+fn answer_connection<
+    C: Ledger,
+    A: Ledger,
+    R: Wait + Clock + RandomSource + Drop,
+    M: Moments + Drop,
+    J: WatchedJournal + Drop,
+    N: ChronicleName,
+>(port: &StatusPort<C, A, R, M, J, N>, stream: &TcpStream) -> io::Result<()> {
     let now = Instant::now(&port.rt)?;
     let Some(deadline) = now.checked_add(Duration::from_secs(LONGEST_STATUS)) else {
         return Ok(());

@@ -2,9 +2,9 @@
 
 use crate::own_host::is_for_this_machine;
 use crate::seat_context::SeatContext;
-use crate::seat_world::SeatWorld;
 use crate::status_port::StatusPort;
 use bytes::Bytes;
+use chronicle::ChronicleName;
 use http::{HeaderName, HeaderValue, Method, Request, StatusCode};
 use http_server::{Response, Service};
 use ocpp_scalars::Moments;
@@ -14,14 +14,23 @@ use site_status::{
     answer_of, health_answer, nothing_there, status_path,
 };
 use std::alloc::{AllocError, Global};
+use std::sync::Wait;
+use std::sync::ledger::Ledger;
 
 /// Answers the requests of a status port.
 #[derive(Drop)]
-pub struct StatusService<'a, W: SeatWorld> {
-    pub port: &'a StatusPort<W>,
+pub struct StatusService<'a, C: Ledger, A: Ledger, R, M, J, N: ChronicleName> {
+    pub port: &'a StatusPort<C, A, R, M, J, N>,
 }
 
-impl<W: SeatWorld> Service for StatusService<'_, W> {
+impl<
+    C: Ledger,
+    A: Ledger,
+    R: Wait + Drop,
+    M: Moments + Drop,
+    J: WatchedJournal + Drop,
+    N: ChronicleName,
+> Service for StatusService<'_, C, A, R, M, J, N> {
     ghost answers = { λ _ _ _ _. Unit {0} };
 
     fn call(
@@ -58,7 +67,14 @@ impl<W: SeatWorld> Service for StatusService<'_, W> {
     }
 }
 
-impl<W: SeatWorld> StatusService<'_, W> {
+impl<
+    C: Ledger,
+    A: Ledger,
+    R: Wait + Drop,
+    M: Moments + Drop,
+    J: WatchedJournal + Drop,
+    N: ChronicleName,
+> StatusService<'_, C, A, R, M, J, N> {
     /// Whether a request is for this machine, where that is wanted.
     fn is_for_us(&self, request: &Request<Bytes>) -> bool {
         match &self.port.address {
@@ -86,8 +102,8 @@ impl<W: SeatWorld> StatusService<'_, W> {
 }
 
 /// What is answered at a path that wants to know what the site has.
-fn answer_by<W: SeatWorld>(
-    seats: &SeatContext<W>,
+fn answer_by<C: Ledger, A: Ledger, R: Wait, M: Moments, J, N: ChronicleName>(
+    seats: &SeatContext<C, A, R, M, J, N>,
     journal: JournalReport,
     path: StatusPath<'_>,
 ) -> Result<StatusAnswer, AllocError> {

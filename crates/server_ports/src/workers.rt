@@ -3,13 +3,16 @@
 ghost use Rattle.std.specs.Prelude.{◌≡◌, ◌≤◌, ◌+◌, ◌/◌};
 
 use crate::seat_context::SeatContext;
-use crate::seat_world::SeatWorld;
 use crate::serve_fault::ServeFault;
+use chronicle::ChronicleName;
 use compile_pool::{Jobs, MAX_JOBS, Open, run_pool};
 use crossbeam_channel::{Sender, bounded};
 use std::alloc::{AllocError, Global};
-use std::sync::Arc;
+use std::marker::{Send, Sync};
+use std::sync::ledger::Ledger;
+use std::sync::{Arc, Wait};
 use std::thread;
+use std::thread::Threads;
 use version_store::Job;
 
 /// So many long jobs wait for their workers at most, of the requests that may be open at a time. The
@@ -41,8 +44,15 @@ impl JobSenders {
 /// Begins the workers on threads of their own. Half of them take short jobs, and half of them long
 /// ones: one at least takes each. Where no thread can be made nobody takes the jobs, and sessions
 /// compile themselves.
-pub fn begin_workers<W: SeatWorld + 'static>(
-    context: &Arc<SeatContext<W>, Global>,
+pub fn begin_workers<
+    C: Ledger + Send + Sync + Drop + 'static,
+    A: Ledger + Send + Sync + Drop + 'static,
+    R: Threads + Wait + Copy + Send + Sync + Drop + 'static,
+    M: Send + Sync + Drop + 'static,
+    J: Send + Sync + Drop + 'static,
+    N: ChronicleName + Send + Sync + Drop + 'static,
+>(
+    context: &Arc<SeatContext<C, A, R, M, J, N>, Global>,
     workers: usize,
 ) -> Result<JobSenders, ServeFault>
     requires { 1 ≤ workers }
@@ -56,8 +66,15 @@ pub fn begin_workers<W: SeatWorld + 'static>(
 }
 
 /// Begins so many workers that take the same jobs, of which so many may wait. Returns the way to them.
-fn begin_pool<W: SeatWorld + 'static>(
-    context: &Arc<SeatContext<W>, Global>,
+fn begin_pool<
+    C: Ledger + Send + Sync + Drop + 'static,
+    A: Ledger + Send + Sync + Drop + 'static,
+    R: Threads + Wait + Copy + Send + Sync + Drop + 'static,
+    M: Send + Sync + Drop + 'static,
+    J: Send + Sync + Drop + 'static,
+    N: ChronicleName + Send + Sync + Drop + 'static,
+>(
+    context: &Arc<SeatContext<C, A, R, M, J, N>, Global>,
     workers: usize,
     most_waiting: usize,
 ) -> Result<Sender<Job>, ServeFault>
