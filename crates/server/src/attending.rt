@@ -102,7 +102,7 @@ fn attend_next<C: Ledger, A: Ledger, R: Wait + Clock, M: Moments, J: Journal<N>,
 ) -> Result<(), Ended>
     ensures { KeepsPass pass.old pass.new }
 {
-    let heard = answer_next(context, watched, core, pass)?;
+    let heard = answer_next(&*context, watched, core, pass)?;
     let is_last = !watched.has_kept();
     let socket = watched.websocket();
     let sent = match heard {
