@@ -156,16 +156,16 @@ fn watch<C: Ledger, A: Ledger, R: Abort + Wait + Clock>(
     core: &SessionCore,
     pass: Pass<C, A>,
 ) -> (Option<Ended>, Pass<C, A>) {
-    let (mut socket, mut pass) = (socket, pass);
-    let mut watched = WatchedSocket::new(desk.rt, &mut socket, most_of_own);
+    let (rt, mut socket, mut pass) = (desk.rt, socket, pass);
+    let mut watched = WatchedSocket::new(rt, &mut socket, most_of_own);
     for _message in 0..20u32 {
-        match answer_next(desk, &mut watched, core, &mut pass) {
+        match answer_next(&*desk, &mut watched, core, &mut pass) {
             Ok(Heard::Nothing) => return (None, pass),
             Ok(_) => {}
             Err(ended) => return (Some(ended), pass),
         }
     }
-    desk.rt.panic("it goes on")
+    rt.panic("it goes on")
 }
 
 /// Sends the job of a request.
