@@ -23,7 +23,7 @@ import time
 # Processor minutes from nothing, by that clock. CI ends a run at 180 minutes, perhaps on two cores on which `transactions`
 # takes three times as long: 95 x 3 / 2 are 143 minutes, and the rest is for empty lanes and for the tests behind the gate.
 BUDGET = 95
-# The gate is above the budget still: some 118, as measured on 2026-11-30. A run fails that is above this.
+# The gate is above the budget still: partial runs of 2026-11-30 sum up to some 118. A run above this fails.
 MOST = 130
 CLOCK = 0.5
 
