@@ -1,7 +1,7 @@
 //! What is said of calls by what their points have, before they are sent.
 
 use command_io::{ProgramFault, now};
-use data_folder::read_journal_script;
+use journal_file::read_journal_script;
 use operator_calls::{CallScript, Caller, GivenCall, Visit, script_of_calls};
 use replay::ReplayFault;
 use site_checks::PlayedCalls;

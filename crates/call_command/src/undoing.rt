@@ -1,7 +1,7 @@
 //! What undoes the line of a journal, read and said.
 
 use command_io::ProgramFault;
-use data_folder::read_journal_script;
+use journal_file::read_journal_script;
 use operator_calls::{
     Caller, GivenCall, LostProfile, UNDO, Undo, Visit, line_at, point_of_line, undo_to,
 };

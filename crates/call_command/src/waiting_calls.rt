@@ -1,7 +1,7 @@
 //! Which of the calls that a site has for its points wait.
 
 use command_io::{ProgramFault, read_digested_site};
-use data_folder::ScriptEnd;
+use journal_file::ScriptEnd;
 use jobs::Calling;
 use journal_reader::{Following, follow_journal};
 use operator_calls::Visit;

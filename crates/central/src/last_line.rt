@@ -1,7 +1,7 @@
 //! The line that says why the program stops.
 
 use command_io::ProgramFault;
-use data_folder::FolderFault;
+use journal_file::FolderFault;
 use std::alloc::AllocGlobal;
 use std::marker::{Send, Sync};
 use std::rt::Clock;

@@ -15,7 +15,7 @@ use clap::error::ErrorKind;
 use client_commands::{run_point, show_status};
 use command_io::{ProgramFault, Screen, as_printed, say_unread, summary_status};
 use command_line::job_of;
-use data_folder::{FolderFault, print_journal};
+use journal_file::{FolderFault, print_journal};
 use jobs::{Job, Running};
 use page_commands::{check_file, explain_file, replay_file, show_file};
 use server_commands::{make_key, run_file, serve_file};

@@ -3,7 +3,7 @@
 use client::{Address, TerminalPoint, connect};
 use client_lines::Lines;
 use command_io::{ProgramFault, read_login, read_site_file};
-use data_folder::SystemClock;
+use journal_file::SystemClock;
 use jobs::Pointing;
 use sim_point_core::SimPoint;
 use site_rules::Site;

@@ -5,10 +5,10 @@ use Rattle.std.specs.Prelude.{ℕ, ◌==◌, if◌then◌else◌}
 use Rattle.replay.specs.declared.script.run.ReplayFault.{ReplayFault}
 use Rattle.replay.specs.declared.script.run.ReplayFault.TheVariants as replay_fault
 use Rattle.replay.specs.declared.script.run.Summary.{Summary}
-use Rattle.site_journal.specs.declared.restore_fault.RestoreFault.{RestoreFault}
-use Rattle.site_journal.specs.declared.restore_fault.RestoreFault.TheVariants as restore_fault
-use Rattle.data_folder.specs.declared.folder_fault.FolderFault.{FolderFault}
-use Rattle.data_folder.specs.declared.folder_fault.FolderFault.TheVariants as folder_fault
+use Rattle.journal.specs.declared.restore_fault.RestoreFault.{RestoreFault}
+use Rattle.journal.specs.declared.restore_fault.RestoreFault.TheVariants as restore_fault
+use Rattle.journal_file.specs.declared.folder_fault.FolderFault.{FolderFault}
+use Rattle.journal_file.specs.declared.folder_fault.FolderFault.TheVariants as folder_fault
 use Rattle.client_lines.specs.declared.fault.ClientFault.{ClientFault}
 use Rattle.client_lines.specs.declared.fault.ClientFault.TheVariants as client_fault
 use Rattle.command_io.specs.declared.program_fault.ProgramFault.{ProgramFault}

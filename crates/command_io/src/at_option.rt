@@ -2,7 +2,7 @@
 
 use crate::program_fault::ProgramFault;
 use crate::unzoned::note_unzoned;
-use data_folder::ScriptEnd;
+use journal_file::ScriptEnd;
 use ocpp_scalars::read_instant;
 
 /// How far `--at` says that a script is played: a number of lines, or a moment. Says where that has

@@ -1,7 +1,7 @@
 //! The file of those who may come.
 
 use crate::program_fault::ProgramFault;
-use data_folder::or_stop;
+use journal_file::or_stop;
 use replay::{InputFault, read_all};
 use site_keys::Keys;
 use std::alloc::AllocGlobal;

@@ -1,7 +1,7 @@
 //! The present moment.
 
 use crate::program_fault::ProgramFault;
-use data_folder::SystemClock;
+use journal_file::SystemClock;
 use ocpp_scalars::{Instant, Moments};
 use std::rt::Clock;
 

@@ -1,7 +1,7 @@
 //! Pages that the program prints or writes to files.
 
 use crate::program_fault::ProgramFault;
-use data_folder::or_stop;
+use journal_file::or_stop;
 use replay::Playing;
 use std::io::Write;
 use std::rt::Files;

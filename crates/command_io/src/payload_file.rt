@@ -1,7 +1,7 @@
 //! The file of a payload, opened and read.
 
 use crate::program_fault::ProgramFault;
-use data_folder::or_stop;
+use journal_file::or_stop;
 use std::alloc::AllocGlobal;
 use std::fs;
 use std::fs::File;

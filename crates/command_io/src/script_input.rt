@@ -4,7 +4,7 @@ ghost use Rattle.std.specs.Prelude.{◌≤◌, IfOk, vec_len};
 ghost use Rattle.replay.specs.Limits.{max_script_bytes};
 
 use crate::program_fault::ProgramFault;
-use data_folder::{or_stop, read_journal_script};
+use journal_file::{or_stop, read_journal_script};
 use jobs::Source;
 use replay::{InputFault, MAX_SCRIPT_BYTES, ReplayFault, read_all};
 use std::alloc::AllocGlobal;

@@ -5,7 +5,7 @@ ghost use Rattle.ocpp_scalars.specs.declared.refusal.Refusal.{Refusal};
 ghost use Rattle.site_core.specs.Right.{IsRight};
 ghost use Rattle.compile_pool.specs.Wait.{CountsOneAnswer};
 
-use chronicle::ChronicleName;
+use ghost_list::ListName;
 use ocpp_scalars::Refusal;
 use std::sync::Wait;
 use std::sync::ledger::Ledger;
@@ -13,7 +13,7 @@ use version_store::{Answer, Pass, Shared};
 
 /// Waits until the request of a number has its answer, and collects it (chapter 5.7). The refusal
 /// is `UnknownRequest`, where the request isn't kept, or another session has collected it.
-pub fn wait_answer<C: Ledger, A: Ledger, R: Wait, N: ChronicleName>(
+pub fn wait_answer<C: Ledger, A: Ledger, R: Wait, N: ListName>(
     rt: &R,
     shared: &Shared<C, A, N>,
     pass: &mut Pass<C, A>,

@@ -7,7 +7,7 @@ ghost use Rattle.version_store.specs.Answers.{awaits};
 ghost use Rattle.compile_pool.specs.Workers.{IsOfJob, PostsOrDrops};
 
 use crate::gate::Gate;
-use chronicle::ChronicleName;
+use ghost_list::ListName;
 use crossbeam_channel::Receiver;
 use meaning::Ask;
 use point_book::PointBook;
@@ -32,7 +32,7 @@ fn compile_job(alloc: Global, job: Job) -> (u64, Compiled)
 
 /// Posts what was compiled. What the book refuses is dropped: its request was answered or handed
 /// out meanwhile.
-fn post_or_drop<C: Ledger, A: Ledger, N: ChronicleName>(
+fn post_or_drop<C: Ledger, A: Ledger, N: ListName>(
     book: &mut Book<C, A, N>,
     number: u64,
     compiled: Compiled,
@@ -44,7 +44,7 @@ fn post_or_drop<C: Ledger, A: Ledger, N: ChronicleName>(
 
 /// Compiles a job outside the lock, posts the answer under it, and wakes who waits. So does a
 /// worker, and a session whose job can't be sent to one.
-pub fn answer_job<C: Ledger, A: Ledger, R: Wait, N: ChronicleName>(
+pub fn answer_job<C: Ledger, A: Ledger, R: Wait, N: ListName>(
     rt: &R,
     alloc: Global,
     shared: &Shared<C, A, N>,
@@ -59,7 +59,7 @@ pub fn answer_job<C: Ledger, A: Ledger, R: Wait, N: ChronicleName>(
 
 /// Answers a request that nobody waits for any more by that memory ran out, which is right for each,
 /// so that no worker begins it. It keeps an answer that it has.
-pub fn answer_unmade<C: Ledger, A: Ledger, R: Wait, N: ChronicleName>(
+pub fn answer_unmade<C: Ledger, A: Ledger, R: Wait, N: ListName>(
     rt: &R,
     shared: &Shared<C, A, N>,
     number: u64,
@@ -73,7 +73,7 @@ pub fn answer_unmade<C: Ledger, A: Ledger, R: Wait, N: ChronicleName>(
 
 /// A job that is to be compiled, since its request has no answer yet. Else it comes back as an
 /// error: its session has ended, or the central system is stopped.
-fn job_to_begin<C: Ledger, A: Ledger, N: ChronicleName>(
+fn job_to_begin<C: Ledger, A: Ledger, N: ListName>(
     book: &Book<C, A, N>,
     job: Job,
 ) -> Result<Job, Job>
@@ -90,7 +90,7 @@ fn job_to_begin<C: Ledger, A: Ledger, N: ChronicleName>(
 
 /// Answers jobs, one after the other, until all senders of the channel are gone. One that nobody
 /// waits for any more is dropped.
-pub fn worker<C: Ledger, A: Ledger, R: Wait, G: Gate, N: ChronicleName>(
+pub fn worker<C: Ledger, A: Ledger, R: Wait, G: Gate, N: ListName>(
     rt: &R,
     alloc: Global,
     jobs: &Receiver<Job>,
@@ -117,7 +117,7 @@ pub fn run_pool<
     A: Ledger + Send + Sync,
     R: Threads + Wait + Sync,
     G: Gate + Sync,
-    N: ChronicleName + Send + Sync,
+    N: ListName + Send + Sync,
 >(
     rt: &R,
     alloc: Global,

@@ -3,7 +3,7 @@
 ghost use Rattle.std.specs.Prelude.{◌≡◌};
 
 use crate::added_calls::AddedCalls;
-use data_folder::{
+use journal_file::{
     FolderFault, JournalLines, Lines, NamedFile, ScriptEnd, ScriptLines, open_to_read,
     say_other_site, say_torn, unread,
 };
@@ -12,7 +12,7 @@ use ocppj_frame::ReadingMemory;
 use replay::Progress;
 use show_pages::{PointCalls, Standing};
 use site_core::Machine;
-use site_journal::{Line, Noted, Unrestored, read_bytes, restore, split_line};
+use journal::{Line, Noted, Unrestored, read_bytes, restore, split_line};
 use site_rules::Site;
 use std::alloc::{AllocError, AllocGlobal, Global};
 use std::fs::File;

@@ -9,7 +9,7 @@ use command_io::{
     ProgramFault, Screen, note_refused_lines, note_unzoned, now, page_status, print_page,
     read_digested_site, read_script_of, script_end, write_file,
 };
-use data_folder::ScriptEnd;
+use journal_file::ScriptEnd;
 use explain_pages::{
     ClockShift, ExplainedAsk, ZoneClock, not_counted, write_json, write_page, write_picture,
     write_table,

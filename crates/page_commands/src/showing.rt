@@ -4,7 +4,7 @@ use command_io::{
     ProgramFault, note_refused_lines, page_status, print_page, read_digested_site, read_script_of,
     script_end,
 };
-use data_folder::ScriptEnd;
+use journal_file::ScriptEnd;
 use jobs::{Showing, Source};
 use journal_reader::{Following, follow_journal};
 use show_pages::{Depth, Standing, standing_json, standing_text, trace_script};

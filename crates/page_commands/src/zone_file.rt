@@ -1,7 +1,7 @@
 //! The file of a time zone, in the system's database.
 
 use command_io::ProgramFault;
-use data_folder::or_stop;
+use journal_file::or_stop;
 use explain_pages::ClockShift;
 use jobs::Explaining;
 use meaning::Ask;

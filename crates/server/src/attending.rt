@@ -4,8 +4,8 @@ ghost use Rattle.session.specs.Serving.{KeepsPass};
 
 use crate::session_watch::SessionWatch;
 use bytes::Bytes;
-use chronicle::ChronicleName;
-use journal_writer::Journal;
+use ghost_list::ListName;
+use journal::Journal;
 use ocpp_scalars::Moments;
 use server_core::{
     LONGEST_SILENCE, Pace, SILENCE_BEFORE_CALL, SILENCE_BEFORE_PING, TICK, seconds_since,
@@ -56,7 +56,7 @@ pub(crate) fn run_session<
     R: Wait + Clock,
     M: Moments,
     J: Journal<N>,
-    N: ChronicleName,
+    N: ListName,
 >(
     context: &Context<'_, SeatWorld<C, A, R, M, J, N>>,
     watch: &SessionWatch<'_, C, A, R, M, J, N>,
@@ -92,7 +92,7 @@ pub(crate) fn run_session<
 }
 
 /// Serves the next message, or does what is due where none comes. An error ends the session.
-fn attend_next<C: Ledger, A: Ledger, R: Wait + Clock, M: Moments, J: Journal<N>, N: ChronicleName>(
+fn attend_next<C: Ledger, A: Ledger, R: Wait + Clock, M: Moments, J: Journal<N>, N: ListName>(
     context: &Context<'_, SeatWorld<C, A, R, M, J, N>>,
     watch: &SessionWatch<'_, C, A, R, M, J, N>,
     watched: &mut WatchedSocket<'_, IncomingStream<'_, R>, NoMask, R>,
@@ -168,14 +168,7 @@ fn keep_alive<R: Wait + Clock>(
 
 /// Sends the call that waits for a point, which has nothing to say itself. Returns which. A
 /// point that has just connected is left the time for its BootNotification.
-fn send_to_silent<
-    C: Ledger,
-    A: Ledger,
-    R: Wait + Clock,
-    M: Moments,
-    J: Journal<N>,
-    N: ChronicleName,
->(
+fn send_to_silent<C: Ledger, A: Ledger, R: Wait + Clock, M: Moments, J: Journal<N>, N: ListName>(
     context: &Context<'_, SeatWorld<C, A, R, M, J, N>>,
     socket: &mut WebSocket<IncomingStream<'_, R>, NoMask>,
     core: &SessionCore,
@@ -203,7 +196,7 @@ impl Attention {
     }
 
     /// The number of the last call, where it has no reply, though it was sent long enough ago.
-    fn overdue<C: Ledger, A: Ledger, R: Wait + Clock, M: Moments, J: Journal<N>, N: ChronicleName>(
+    fn overdue<C: Ledger, A: Ledger, R: Wait + Clock, M: Moments, J: Journal<N>, N: ListName>(
         &mut self,
         context: &Context<'_, SeatWorld<C, A, R, M, J, N>>,
         core: &SessionCore,

@@ -2,8 +2,8 @@
 
 ghost use Rattle.session.specs.Serving.{KeepsPass};
 
-use chronicle::ChronicleName;
-use journal_writer::Journal;
+use ghost_list::ListName;
+use journal::Journal;
 use ocpp_scalars::Moments;
 use server_ports::{ClientRequest, Entry, PathPeer, SeatWorld, peer_of_path, shake_hands};
 use session::{Context, SessionCore, serve_session};
@@ -23,7 +23,7 @@ pub(crate) fn run_connection<
     R: Wait,
     M: Moments,
     J: Journal<N>,
-    N: ChronicleName,
+    N: ListName,
 >(context: &Context<'_, SeatWorld<C, A, R, M, J, N>>, stream: S, pass: Pass<C, A>) -> Pass<C, A>
     ensures { KeepsPass pass result }
 {
@@ -52,7 +52,7 @@ pub(crate) struct Admitted {
 }
 
 /// The session that a client asks for, if it speaks OCPP 1.6 and names a point of the site.
-pub(crate) fn admit<C: Ledger, A: Ledger, R: Wait, M: Moments, J: Journal<N>, N: ChronicleName>(
+pub(crate) fn admit<C: Ledger, A: Ledger, R: Wait, M: Moments, J: Journal<N>, N: ListName>(
     context: &Context<'_, SeatWorld<C, A, R, M, J, N>>,
     asked: &ClientRequest,
 ) -> Result<Option<Admitted>, AllocError> {

@@ -3,8 +3,8 @@
 ghost use Rattle.std.specs.Prelude.{◌≡◌, ◌≤◌, IfOk, length, vec_len, vec_capacity};
 
 use crate::connection::run_connection;
-use chronicle::ChronicleName;
-use journal_writer::Journal;
+use ghost_list::ListName;
+use journal::Journal;
 use ocpp_scalars::Moments;
 use server_ports::SeatWorld;
 use session::Context;
@@ -50,7 +50,7 @@ pub(crate) fn run_connections<
     R: Threads + Wait + Sync,
     M: Moments + Sync,
     J: Journal<N> + Sync,
-    N: ChronicleName + Send + Sync,
+    N: ListName + Send + Sync,
 >(
     context: &Context<'_, SeatWorld<C, A, R, M, J, N>>,
     listener: TcpListener,
@@ -89,7 +89,7 @@ fn begin_all<
     R: Wait + Sync,
     M: Moments + Sync,
     J: Journal<N> + Sync,
-    N: ChronicleName + Send + Sync,
+    N: ListName + Send + Sync,
 >(
     scope: &Scope<'s, E>,
     context: &'s Context<'_, SeatWorld<C, A, R, M, J, N>>,
@@ -121,7 +121,7 @@ fn begin<
     R: Wait + Sync,
     M: Moments + Sync,
     J: Journal<N> + Sync,
-    N: ChronicleName + Send + Sync,
+    N: ListName + Send + Sync,
 >(
     scope: &Scope<'s, E>,
     context: &'s Context<'_, SeatWorld<C, A, R, M, J, N>>,

@@ -5,10 +5,10 @@ ghost use Rattle.session.specs.Serving.{KeepsPass};
 use crate::attending::run_session;
 use crate::connection::{Admitted, admit, close_at_once};
 use crate::session_watch::SessionWatch;
-use chronicle::ChronicleName;
 use compile_pool::Jobs;
 use crossbeam_channel::Receiver;
-use journal_writer::Journal;
+use ghost_list::ListName;
+use journal::Journal;
 use ocpp_scalars::Moments;
 use server_ports::{
     ClientRequest, Entry, IncomingStream, SeatContext, SeatWorld, Unshaken, note_operator,
@@ -43,7 +43,7 @@ pub fn keep_seat<
     R: Threads + Wait + Clock + Sync,
     M: Moments,
     J: Journal<N>,
-    N: ChronicleName,
+    N: ListName,
 >(
     seats: &SeatContext<C, A, R, M, J, N>,
     jobs: Jobs<'_>,
@@ -72,7 +72,7 @@ fn context_of<
     R: Wait + 's,
     M: Moments + 's,
     J: Journal<N> + 's,
-    N: ChronicleName + 's,
+    N: ListName + 's,
 >(
     seats: &'s SeatContext<C, A, R, M, J, N>,
     jobs: Jobs<'s>,
@@ -95,7 +95,7 @@ fn run_incoming<
     R: Threads + Wait + Clock + Sync,
     M: Moments,
     J: Journal<N>,
-    N: ChronicleName,
+    N: ListName,
 >(
     seats: &SeatContext<C, A, R, M, J, N>,
     context: &Context<'_, SeatWorld<C, A, R, M, J, N>>,
@@ -137,15 +137,7 @@ fn run_incoming<
 }
 
 /// Shakes hands with a client. While that lasts, it may have to give way.
-fn shake_in_time<
-    'a,
-    C: Ledger,
-    A: Ledger,
-    R: Threads + Wait + Clock + Sync,
-    M,
-    J,
-    N: ChronicleName,
->(
+fn shake_in_time<'a, C: Ledger, A: Ledger, R: Threads + Wait + Clock + Sync, M, J, N: ListName>(
     seats: &SeatContext<C, A, R, M, J, N>,
     stream: IncomingStream<'a, R>,
 ) -> Result<(SeatSocket<'a, R>, ClientRequest), Unshaken> {
@@ -187,7 +179,7 @@ fn limits() -> WebSocketConfig {
 
 /// Serves a session after its handshake. A point's older connection is shut once this one has its
 /// link, and this one is shut once a later one has. Gives back the pass.
-fn run_admitted<C: Ledger, A: Ledger, R: Wait + Clock, M: Moments, J: Journal<N>, N: ChronicleName>(
+fn run_admitted<C: Ledger, A: Ledger, R: Wait + Clock, M: Moments, J: Journal<N>, N: ListName>(
     seats: &SeatContext<C, A, R, M, J, N>,
     context: &Context<'_, SeatWorld<C, A, R, M, J, N>>,
     socket: SeatSocket<'_, R>,

@@ -3,9 +3,9 @@
 ghost use Rattle.std.specs.Prelude.{◌≡◌, ◌≤◌, ◌+◌, true, IfOk, length};
 
 use crate::seat::keep_seat;
-use chronicle::{ChronicleName, Unnamed};
 use crossbeam_channel::{Receiver, bounded};
-use journal_writer::Journal;
+use ghost_list::{ListName, Unnamed};
+use journal::Journal;
 use ocpp_scalars::Moments;
 use server_ports::{JobSenders, SeatContext, ServeFault, accept_connections, begin_workers};
 use site_rules::Site;
@@ -27,7 +27,7 @@ const SEAT_STACK: usize = 2 * 1_048_576;
 
 /// The book of a site that is to be served by seats, and its passes.
 #[derive(Drop)]
-pub struct SeatedBook<C: Ledger, A: Ledger, N: ChronicleName> {
+pub struct SeatedBook<C: Ledger, A: Ledger, N: ListName> {
     pub shared: Shared<C, A, N>,
     /// The pass of whoever restores the book before it is served.
     pub restoring: Pass<C, A>,
@@ -35,9 +35,9 @@ pub struct SeatedBook<C: Ledger, A: Ledger, N: ChronicleName> {
     pub seats: Vec<Pass<C, A>>,
 }
 
-impl<C: Ledger, A: Ledger, N: ChronicleName> SeatedBook<C, A, N> {
+impl<C: Ledger, A: Ledger, N: ListName> SeatedBook<C, A, N> {
     /// The book of a site where nothing was done yet, with so many seats. The two ledgers are to
-    /// count its changes and its answers, and the chronicle records its states.
+    /// count its changes and its answers, and the ghost list records its states.
     pub fn make(
         alloc: Global,
         blanks: (Blank, Blank),
@@ -81,7 +81,7 @@ pub fn run_seats<
     R: Threads + Wait + Clock + Eprint + Copy + Send + Sync + Drop + 'static,
     M: Moments + Send + Sync + Drop + 'static,
     J: Journal<N> + Send + Sync + Drop + 'static,
-    N: ChronicleName + Send + Sync + Drop + 'static,
+    N: ListName + Send + Sync + Drop + 'static,
 >(
     context: &Arc<SeatContext<C, A, R, M, J, N>, Global>,
     listener: TcpListener,
@@ -123,7 +123,7 @@ fn begin_writer<
     R: Wait + Threads + Eprint + Send + Sync + Drop + 'static,
     M: Send + Sync + Drop + 'static,
     J: Send + Sync + Drop + 'static,
-    N: ChronicleName + Send + Sync + Drop + 'static,
+    N: ListName + Send + Sync + Drop + 'static,
 >(context: &Arc<SeatContext<C, A, R, M, J, N>, Global>) -> Result<(), ServeFault> {
     let own = Arc::try_clone(context)?;
     let writer = thread::Builder::new().spawn(&context.rt, move || own.notices.write_all(&own.rt));
@@ -140,7 +140,7 @@ fn begin_seats<
     R: Threads + Wait + Clock + Copy + Send + Sync + Drop + 'static,
     M: Moments + Send + Sync + Drop + 'static,
     J: Journal<N> + Send + Sync + Drop + 'static,
-    N: ChronicleName + Send + Sync + Drop + 'static,
+    N: ListName + Send + Sync + Drop + 'static,
 >(
     context: &Arc<SeatContext<C, A, R, M, J, N>, Global>,
     jobs: &JobSenders,
@@ -167,7 +167,7 @@ fn begin_seat<
     R: Threads + Wait + Clock + Copy + Send + Sync + Drop + 'static,
     M: Moments + Send + Sync + Drop + 'static,
     J: Journal<N> + Send + Sync + Drop + 'static,
-    N: ChronicleName + Send + Sync + Drop + 'static,
+    N: ListName + Send + Sync + Drop + 'static,
 >(
     context: &Arc<SeatContext<C, A, R, M, J, N>, Global>,
     jobs: &JobSenders,

@@ -5,7 +5,7 @@ ghost use Rattle.std.specs.Prelude.{◌≡◌, ◌≤◌, IfOk, length};
 use crate::connections::{Served, run_connections};
 use compile_pool::{Jobs, MAX_JOBS, Open, run_pool};
 use crossbeam_channel::{Sender, bounded};
-use journal_writer::NoJournal;
+use journal::NoJournal;
 use ocpp_scalars::Moments;
 use server_ports::{SeatWorld, ServeFault};
 use session::Context;

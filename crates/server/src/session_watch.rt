@@ -1,7 +1,7 @@
 //! What a session is seen to do: for the status of its site, and as lines for people.
 
-use chronicle::ChronicleName;
-use journal_writer::Journal;
+use ghost_list::ListName;
+use journal::Journal;
 use messages::ActionKind;
 use ocpp_scalars::{Instant, Moments};
 use server_core::{Rejected, Reply};
@@ -15,7 +15,7 @@ use std::sync::ledger::Ledger;
 
 /// Whoever watches a session of a point or of an operator.
 #[derive(Drop)]
-pub(crate) struct SessionWatch<'a, C: Ledger, A: Ledger, R, M, J, N: ChronicleName> {
+pub(crate) struct SessionWatch<'a, C: Ledger, A: Ledger, R, M, J, N: ListName> {
     pub(crate) seats: &'a SeatContext<C, A, R, M, J, N>,
     /// The place of its point in the site.
     pub(crate) place: usize,
@@ -23,14 +23,15 @@ pub(crate) struct SessionWatch<'a, C: Ledger, A: Ledger, R, M, J, N: ChronicleNa
     pub(crate) link: Option<u64>,
 }
 
-impl<
-    C: Ledger,
-    A: Ledger,
-    R: Wait + Clock,
-    M: Moments,
-    J: Journal<N>,
-    N: ChronicleName,
-> SessionWatch<'_, C, A, R, M, J, N> {
+impl<C: Ledger, A: Ledger, R: Wait + Clock, M: Moments, J: Journal<N>, N: ListName> SessionWatch<
+    '_,
+    C,
+    A,
+    R,
+    M,
+    J,
+    N,
+> {
     /// It has begun.
     pub(crate) fn begin(&self, core: &SessionCore) {
         let seats = self.seats;

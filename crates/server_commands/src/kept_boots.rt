@@ -1,6 +1,6 @@
 //! The boots that are kept in the folder of a site.
 
-use data_folder::{open_boots, read_boots};
+use journal_file::{open_boots, read_boots};
 use server::BootKeeper;
 use site_rules::Site;
 use site_status::Boot;

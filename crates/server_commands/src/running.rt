@@ -4,9 +4,9 @@ ghost use Rattle.std.specs.Prelude.{◌≡◌, ◌≤◌, ◌+◌, true};
 
 use crate::kept_boots::KeptBoots;
 use crate::serving::stop_of;
-use chronicle::{ChronicleName, Unnamed};
+use ghost_list::{ListName, Unnamed};
 use command_io::{ProgramFault, read_digested_site, read_key_file};
-use data_folder::{
+use journal_file::{
     FolderFault, JournalFile, OpenJournal, Resumed, SystemClock, open_journal, or_stop,
     restore_shared,
 };
@@ -162,11 +162,11 @@ fn listen<R: Eprint + Net<Listener = TcpListener, Stream = TcpStream>>(
 }
 
 /// Runs a site, whose changes and answers these two ledgers count, and whose states and syncs are
-/// recorded in these two chronicles.
+/// recorded in these two ghost lists.
 fn run_counted<
     C: Ledger + Send + Sync + Drop + 'static,
     A: Ledger + Send + Sync + Drop + 'static,
-    N: ChronicleName + Send + Sync + Drop + 'static,
+    N: ListName + Send + Sync + Drop + 'static,
     R: Files<File = File>
         + Print
         + Eprint
@@ -185,14 +185,14 @@ fn run_counted<
     rt: &R,
     plan: Plan<'_>,
     blanks: (Blank, Blank),
-    chronicles: (Unnamed, Unnamed),
+    ghost_lists: (Unnamed, Unnamed),
 ) -> Result<(), ProgramFault>
     requires workers { 1 ≤ plan.workers }
     requires changes { (blanks.0.name ≡ C.name) × (blanks.0.parts ≡ C.parts)
         × (blanks.0.parts ≡ plan.seats + 1) }
     requires answers { (blanks.1.name ≡ A.name) × (blanks.1.parts ≡ A.parts)
         × (blanks.1.parts ≡ plan.seats + 1) }
-    requires chronicles { (chronicles.0.name ≡ N.name) × (chronicles.1.name ≡ N.companion) }
+    requires ghost_lists { (ghost_lists.0.name ≡ N.name) × (ghost_lists.1.name ≡ N.companion) }
     requires recorded { N.is_recorded ≡ true }
 {
     let Plan {
@@ -208,7 +208,7 @@ fn run_counted<
         status,
         status_address,
     } = plan;
-    let (states, syncs) = chronicles;
+    let (states, syncs) = ghost_lists;
     let book: SeatedBook<C, A, N> = SeatedBook::make(rt.alloc(), blanks, site, seats, states)?;
     let SeatedBook {
         shared,
@@ -237,7 +237,7 @@ fn run_counted<
 fn begin_port<
     C: Ledger + Send + Sync + Drop + 'static,
     A: Ledger + Send + Sync + Drop + 'static,
-    N: ChronicleName + Send + Sync + Drop + 'static,
+    N: ListName + Send + Sync + Drop + 'static,
     R: Eprint
         + AllocGlobal
         + Clock
@@ -276,7 +276,7 @@ fn owned(alloc: Global, text: Option<&str>) -> Result<Option<String>, AllocError
 fn begin_lines<
     C: Ledger + Send + Sync + Drop + 'static,
     A: Ledger + Send + Sync + Drop + 'static,
-    N: ChronicleName + Send + Sync + Drop + 'static,
+    N: ListName + Send + Sync + Drop + 'static,
     R: Eprint + AllocGlobal + Clock + Threads + Wait + Copy + Send + Sync + Drop + 'static,
 >(
     rt: &R,
@@ -294,7 +294,7 @@ fn begin_lines<
 fn keep_boots<
     C: Ledger + Send + Sync + Drop + 'static,
     A: Ledger + Send + Sync + Drop + 'static,
-    N: ChronicleName + Send + Sync + Drop + 'static,
+    N: ListName + Send + Sync + Drop + 'static,
     R: Eprint + AllocGlobal + Clock + Threads + Wait + Copy + Send + Sync + Drop + 'static,
 >(
     context: &Arc<SeatContext<C, A, R, SystemClock<R>, JournalFile<R, N>, N>, Global>,
@@ -315,7 +315,7 @@ fn keep_boots<
 fn context_of<
     C: Ledger,
     A: Ledger,
-    N: ChronicleName,
+    N: ListName,
     R: Clock + Wait + Eprint + AllocGlobal + Copy + Drop,
 >(
     rt: &R,

@@ -3,7 +3,7 @@
 ghost use Rattle.std.specs.Prelude.{◌≤◌};
 
 use command_io::{ProgramFault, read_site_file};
-use data_folder::SystemClock;
+use journal_file::SystemClock;
 use jobs::{MAX_SESSIONS, Serving};
 use server::{ServeFault, serve};
 use site_rules::Site;

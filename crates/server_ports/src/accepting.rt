@@ -1,8 +1,8 @@
 //! Connections are accepted: each for a free seat, or it is answered that there is none.
 
 use crate::seat_context::SeatContext;
-use chronicle::ChronicleName;
 use crossbeam_channel::Sender;
+use ghost_list::ListName;
 use ocpp_scalars::Moments;
 use server_core::Seldom;
 use std::io::{Read, Write};
@@ -32,7 +32,7 @@ const NO_SEAT: &[u8] =
 
 /// Accepts connections for ever, and sends each to a free seat. Where none is free, it is answered
 /// so and closed.
-pub fn accept_connections<C: Ledger, A: Ledger, R: Wait + Clock, M: Moments, J, N: ChronicleName>(
+pub fn accept_connections<C: Ledger, A: Ledger, R: Wait + Clock, M: Moments, J, N: ListName>(
     seats: &SeatContext<C, A, R, M, J, N>,
     listener: &TcpListener,
     streams: &Sender<TcpStream>,
@@ -58,7 +58,7 @@ pub fn accept_connections<C: Ledger, A: Ledger, R: Wait + Clock, M: Moments, J, 
 
 /// Takes a seat for a connection. Where none is free, the handshake that lasts longest gives way, once
 /// it has had its time.
-fn take_seat<C: Ledger, A: Ledger, R: Wait + Clock, M, J, N: ChronicleName>(
+fn take_seat<C: Ledger, A: Ledger, R: Wait + Clock, M, J, N: ListName>(
     seats: &SeatContext<C, A, R, M, J, N>,
 ) -> bool {
     let rt = &seats.rt;
@@ -80,7 +80,7 @@ fn take_seat<C: Ledger, A: Ledger, R: Wait + Clock, M, J, N: ChronicleName>(
 
 /// The next connection. None where it couldn't be accepted, after a pause: a file descriptor may be
 /// free then.
-fn accept_next<C: Ledger, A: Ledger, R: Wait + Clock, M: Moments, J, N: ChronicleName>(
+fn accept_next<C: Ledger, A: Ledger, R: Wait + Clock, M: Moments, J, N: ListName>(
     seats: &SeatContext<C, A, R, M, J, N>,
     listener: &TcpListener,
     failed: &mut Seldom,
@@ -101,7 +101,7 @@ fn accept_next<C: Ledger, A: Ledger, R: Wait + Clock, M: Moments, J, N: Chronicl
 }
 
 /// Says that all seats are taken.
-fn say_full<C: Ledger, A: Ledger, R: Wait + Clock, M: Moments, J, N: ChronicleName>(
+fn say_full<C: Ledger, A: Ledger, R: Wait + Clock, M: Moments, J, N: ListName>(
     seats: &SeatContext<C, A, R, M, J, N>,
     full: &mut Seldom,
 ) {

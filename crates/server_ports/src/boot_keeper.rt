@@ -2,8 +2,8 @@
 
 use crate::seat_context::SeatContext;
 use crate::serve_fault::ServeFault;
-use chronicle::ChronicleName;
-use journal_writer::Journal;
+use ghost_list::ListName;
+use journal::Journal;
 use ocpp_scalars::Moments;
 use site_rules::Site;
 use site_status::{Boot, BootLine, push_boot_line};
@@ -34,7 +34,7 @@ pub fn begin_boots<
     M: Moments + Send + Sync + Drop + 'static,
     J: Journal<N> + Send + Sync + Drop + 'static,
     K: BootKeeper + Send + Drop + 'static,
-    N: ChronicleName + Send + Sync + Drop + 'static,
+    N: ListName + Send + Sync + Drop + 'static,
 >(context: &Arc<SeatContext<C, A, R, M, J, N>, Global>, keeper: K) -> Result<(), ServeFault> {
     let own = Arc::try_clone(context)?;
     let begun = thread::Builder::new().spawn(&context.rt, move || keep_boots(&own, &keeper));
@@ -53,7 +53,7 @@ fn keep_boots<
     M: Moments,
     J: Journal<N>,
     K: BootKeeper,
-    N: ChronicleName,
+    N: ListName,
 >(seats: &SeatContext<C, A, R, M, J, N>, keeper: &K) {
     let mut is_said = false;
     for _change in seats.rt.forever() {
@@ -72,7 +72,7 @@ fn keep_boots<
 
 /// Keeps the boots of points as they are now. The book is locked to be copied, and nothing is locked
 /// while the lines are made and kept.
-fn keep_now<C: Ledger, A: Ledger, R: Wait, M, J, K: BootKeeper, N: ChronicleName>(
+fn keep_now<C: Ledger, A: Ledger, R: Wait, M, J, K: BootKeeper, N: ListName>(
     seats: &SeatContext<C, A, R, M, J, N>,
     keeper: &K,
 ) -> io::Result<()> {
@@ -101,7 +101,7 @@ fn boot_lines(alloc: Global, site: &Site, boots: &[Option<Boot>]) -> Result<Stri
 }
 
 /// Says that the boots can't be kept.
-fn say_unkept<C: Ledger, A: Ledger, R: Wait, M: Moments, J, N: ChronicleName>(
+fn say_unkept<C: Ledger, A: Ledger, R: Wait, M: Moments, J, N: ListName>(
     seats: &SeatContext<C, A, R, M, J, N>,
     error: &io::Error,
 ) {

@@ -1,7 +1,7 @@
 //! What all seats of a site share.
 
-use chronicle::ChronicleName;
-use journal_writer::Journal;
+use ghost_list::ListName;
+use journal::Journal;
 use ocpp_scalars::Moments;
 use server_core::{
     AheadClients, FreeSeats, LongMessages, Notices, PresentStreams, SiteWatch, UnfinishedHandshakes,
@@ -28,7 +28,7 @@ pub struct SeatOptions {
 
 /// What all threads share that serve a site.
 #[derive(Drop)]
-pub struct SeatContext<C: Ledger, A: Ledger, R, M, J, N: ChronicleName = NoName> {
+pub struct SeatContext<C: Ledger, A: Ledger, R, M, J, N: ListName = NoName> {
     pub rt: R,
     pub alloc: Global,
     pub shared: Arc<Shared<C, A, N>, Global>,
@@ -52,7 +52,7 @@ impl<
     R: Wait + Clock + Drop,
     M: Moments + Drop,
     J: Journal<N> + Drop,
-    N: ChronicleName,
+    N: ListName,
 > SeatContext<C, A, R, M, J, N> {
     /// What threads share that serve this book, by this clock and with this journal.
     pub fn make(

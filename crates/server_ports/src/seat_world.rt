@@ -1,7 +1,7 @@
 //! The world of the sessions that a site's threads serve.
 
-use chronicle::ChronicleName;
-use journal_writer::Journal;
+use ghost_list::ListName;
+use journal::Journal;
 use ocpp_scalars::Moments;
 use std::marker::PhantomData;
 use std::sync::Wait;
@@ -14,7 +14,7 @@ pub struct SeatWorld<C, A, R, M, J, N> {
     _types: PhantomData<(C, A, R, M, J, N)>,
 }
 
-impl<C: Ledger, A: Ledger, R: Wait, M: Moments, J: Journal<N>, N: ChronicleName> World
+impl<C: Ledger, A: Ledger, R: Wait, M: Moments, J: Journal<N>, N: ListName> World
     for SeatWorld<C, A, R, M, J, N> {
     type Changes = C;
 

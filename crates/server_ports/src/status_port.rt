@@ -3,7 +3,7 @@
 use crate::seat_context::SeatContext;
 use crate::serve_fault::ServeFault;
 use crate::status_service::StatusService;
-use chronicle::ChronicleName;
+use ghost_list::ListName;
 use http_server::{Config, Connection, serve};
 use ocpp_scalars::Moments;
 use server_core::{LONGEST_STATUS, StatusStream};
@@ -34,7 +34,7 @@ const LONGEST_BODY: usize = 0;
 
 /// What the threads of a status port share.
 #[derive(Drop)]
-pub struct StatusPort<C: Ledger, A: Ledger, R, M, J, N: ChronicleName> {
+pub struct StatusPort<C: Ledger, A: Ledger, R, M, J, N: ListName> {
     pub rt: R,
     pub alloc: Global,
     /// The address that is listened at, as it was given, where only requests for this machine are
@@ -47,7 +47,7 @@ pub struct StatusPort<C: Ledger, A: Ledger, R, M, J, N: ChronicleName> {
 /// What the seats of a site share.
 pub type SharedSeats<C, A, R, M, J, N> = Arc<SeatContext<C, A, R, M, J, N>, Global>;
 
-impl<C: Ledger, A: Ledger, R: Wait + Drop, M: Drop, J: Drop, N: ChronicleName> StatusPort<
+impl<C: Ledger, A: Ledger, R: Wait + Drop, M: Drop, J: Drop, N: ListName> StatusPort<
     C,
     A,
     R,
@@ -93,7 +93,7 @@ pub fn begin_status<
     R: Threads + Wait + Clock + RandomSource + Copy + Send + Sync + Drop + 'static,
     M: Moments + Send + Sync + Drop + 'static,
     J: WatchedJournal + Send + Sync + Drop + 'static,
-    N: ChronicleName + Send + Sync + Drop + 'static,
+    N: ListName + Send + Sync + Drop + 'static,
 >(
     port: &Arc<StatusPort<C, A, R, M, J, N>, Global>,
     listener: TcpListener,
@@ -120,7 +120,7 @@ fn answer_all<
     R: Wait + Clock + RandomSource + Drop,
     M: Moments + Drop,
     J: WatchedJournal + Drop,
-    N: ChronicleName,
+    N: ListName,
 >(port: &StatusPort<C, A, R, M, J, N>, listener: &TcpListener) {
     for _connection in port.rt.forever() {
         match listener.accept() {
@@ -140,7 +140,7 @@ fn answer_connection<
     R: Wait + Clock + RandomSource + Drop,
     M: Moments + Drop,
     J: WatchedJournal + Drop,
-    N: ChronicleName,
+    N: ListName,
 >(port: &StatusPort<C, A, R, M, J, N>, stream: &TcpStream) -> io::Result<()> {
     let now = Instant::now(&port.rt)?;
     let Some(deadline) = now.checked_add(Duration::from_secs(LONGEST_STATUS)) else {

@@ -4,7 +4,7 @@ use crate::own_host::is_for_this_machine;
 use crate::seat_context::SeatContext;
 use crate::status_port::StatusPort;
 use bytes::Bytes;
-use chronicle::ChronicleName;
+use ghost_list::ListName;
 use http::{HeaderName, HeaderValue, Method, Request, StatusCode};
 use http_server::{Response, Service};
 use ocpp_scalars::Moments;
@@ -19,7 +19,7 @@ use std::sync::ledger::Ledger;
 
 /// Answers the requests of a status port.
 #[derive(Drop)]
-pub struct StatusService<'a, C: Ledger, A: Ledger, R, M, J, N: ChronicleName> {
+pub struct StatusService<'a, C: Ledger, A: Ledger, R, M, J, N: ListName> {
     pub port: &'a StatusPort<C, A, R, M, J, N>,
 }
 
@@ -29,7 +29,7 @@ impl<
     R: Wait + Drop,
     M: Moments + Drop,
     J: WatchedJournal + Drop,
-    N: ChronicleName,
+    N: ListName,
 > Service for StatusService<'_, C, A, R, M, J, N> {
     ghost answers = { λ _ _ _ _. Unit {0} };
 
@@ -73,7 +73,7 @@ impl<
     R: Wait + Drop,
     M: Moments + Drop,
     J: WatchedJournal + Drop,
-    N: ChronicleName,
+    N: ListName,
 > StatusService<'_, C, A, R, M, J, N> {
     /// Whether a request is for this machine, where that is wanted.
     fn is_for_us(&self, request: &Request<Bytes>) -> bool {
@@ -102,7 +102,7 @@ impl<
 }
 
 /// What is answered at a path that wants to know what the site has.
-fn answer_by<C: Ledger, A: Ledger, R: Wait, M: Moments, J, N: ChronicleName>(
+fn answer_by<C: Ledger, A: Ledger, R: Wait, M: Moments, J, N: ListName>(
     seats: &SeatContext<C, A, R, M, J, N>,
     journal: JournalReport,
     path: StatusPath<'_>,

@@ -4,9 +4,9 @@ ghost use Rattle.std.specs.Prelude.{◌≡◌, ◌≤◌, ◌+◌, ◌/◌};
 
 use crate::seat_context::SeatContext;
 use crate::serve_fault::ServeFault;
-use chronicle::ChronicleName;
 use compile_pool::{Jobs, MAX_JOBS, Open, run_pool};
 use crossbeam_channel::{Sender, bounded};
+use ghost_list::ListName;
 use std::alloc::{AllocError, Global};
 use std::marker::{Send, Sync};
 use std::sync::ledger::Ledger;
@@ -50,7 +50,7 @@ pub fn begin_workers<
     R: Threads + Wait + Copy + Send + Sync + Drop + 'static,
     M: Send + Sync + Drop + 'static,
     J: Send + Sync + Drop + 'static,
-    N: ChronicleName + Send + Sync + Drop + 'static,
+    N: ListName + Send + Sync + Drop + 'static,
 >(
     context: &Arc<SeatContext<C, A, R, M, J, N>, Global>,
     workers: usize,
@@ -72,7 +72,7 @@ fn begin_pool<
     R: Threads + Wait + Copy + Send + Sync + Drop + 'static,
     M: Send + Sync + Drop + 'static,
     J: Send + Sync + Drop + 'static,
-    N: ChronicleName + Send + Sync + Drop + 'static,
+    N: ListName + Send + Sync + Drop + 'static,
 >(
     context: &Arc<SeatContext<C, A, R, M, J, N>, Global>,
     workers: usize,

@@ -18,18 +18,18 @@ use Rattle.site_core.specs.Step.{Made}
 use Rattle.version_store.specs.Passes.{PassState}
 use Rattle.version_store.specs.Store.{StoreState, IsStore}
 use Rattle.version_store.specs.Calls.{Calls, Makes, sending}
-use Rattle.site_journal.specs.Entry.{EntryState, IsEntryOf}
-use Rattle.site_journal.specs.Line.{NotedState, noted_state}
-use Rattle.site_journal.specs.Line as kinds
-use Rattle.site_journal.specs.declared.line.Noted.{Noted}
-use Rattle.site_journal.specs.MadeStep.{IsOfMadeStep}
-use Rattle.site_journal.specs.NotedStep.{ChangesAreRestored, ConfirmsAreRestored, VerdictsAreRestored, LinksAreRestored, SendsAreRestored, LossesAreRestored, IsStep, LeadsTo, line_at, noted_by}
-use Rattle.site_journal.specs.Restore.{is_change, number_drawn}
+use Rattle.journal.specs.Entry.{EntryState, IsEntryOf}
+use Rattle.journal.specs.Line.{NotedState, noted_state}
+use Rattle.journal.specs.Line as kinds
+use Rattle.journal.specs.declared.line.Noted.{Noted}
+use Rattle.journal.specs.MadeStep.{IsOfMadeStep}
+use Rattle.journal.specs.NotedStep.{ChangesAreRestored, ConfirmsAreRestored, VerdictsAreRestored, LinksAreRestored, SendsAreRestored, LossesAreRestored, IsStep, LeadsTo, line_at, noted_by}
+use Rattle.journal.specs.Restore.{is_change, number_drawn}
 use Rattle.texts.specs.declared.asked.Asked.TheVariants as asked
 use Rattle.texts.specs.Asked.{asked_of}
 use Rattle.texts.specs.Said.{said_of}
 use Rattle.texts.specs.SentText.{Sent, sent}
-use Rattle.journal_writer.specs.declared.journal.JournalFault.{JournalFault}
+use Rattle.journal.specs.declared.journal.JournalFault.{JournalFault}
 use Rattle.session.specs.declared.outcome.Outcome.TheVariants as outcomes
 use Rattle.session.specs.declared.outcome.Performed.{Performed}
 use Rattle.session.specs.declared.outcome.Performed.TheVariants.{Outcome}

@@ -16,8 +16,8 @@ use Rattle.site_core.specs.Audit.{AuditState, unjudged}
 use Rattle.site_core.specs.Equal.{AreOne, same_request}
 use Rattle.site_core.specs.State.{MachineState, point_at, audit_at, audit_job, audit_job_at}
 use Rattle.site_core.specs.Step.{Made, found_place, judges, judges_audit, made_at, of_audit}
-use Rattle.site_journal.specs.Line.{verdict}
-use Rattle.site_journal.specs.NotedStep.{VerdictsAreRestored, IsStep, LeadsTo, line_at}
+use Rattle.journal.specs.Line.{verdict}
+use Rattle.journal.specs.NotedStep.{VerdictsAreRestored, IsStep, LeadsTo, line_at}
 use Rattle.texts.specs.Said.{said_of}
 use Rattle.texts.specs.SentText.{Sent}
 

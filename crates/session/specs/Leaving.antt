@@ -10,7 +10,7 @@ use Rattle.version_store.specs.Passes.{PassState}
 use Rattle.version_store.specs.Recording.{IsAt}
 use Rattle.version_store.specs.Store.{StoreState, IsStore}
 use Rattle.texts.specs.SentText.{Sent}
-use Rattle.journal_writer.specs.Account.{Covers, ReceiptState}
+use Rattle.journal.specs.Account.{Covers, ReceiptState}
 use Rattle.session.specs.Served.{IsServed, seen_at}
 use Rattle.session.specs.Session.{SessionState}
 

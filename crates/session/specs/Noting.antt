@@ -7,9 +7,9 @@ use Rattle.site_core.specs.declared.step.Step.TheVariants as steps
 use Rattle.site_core.specs.State.{MachineState}
 use Rattle.version_store.specs.Passes.{PassState}
 use Rattle.version_store.specs.Store.{StoreState, IsStore}
-use Rattle.site_journal.specs.Entry.{EntryState, IsEntryOf}
-use Rattle.site_journal.specs.Line.{NotedState}
-use Rattle.site_journal.specs.NotedStep.{line_at, noted_by}
+use Rattle.journal.specs.Entry.{EntryState, IsEntryOf}
+use Rattle.journal.specs.Line.{NotedState}
+use Rattle.journal.specs.NotedStep.{line_at, noted_by}
 use Rattle.texts.specs.declared.asked.Asked.TheVariants as asked
 use Rattle.texts.specs.Asked.{asked_of}
 use Rattle.texts.specs.SentText.{Sent}

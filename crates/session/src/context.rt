@@ -2,7 +2,7 @@
 
 use compile_pool::Jobs;
 use crossbeam_channel::Sender;
-use journal_writer::NoJournal;
+use journal::NoJournal;
 use ocpp_scalars::Moments;
 use std::alloc::Global;
 use std::sync::ledger::Ledger;

@@ -22,7 +22,7 @@ pub use calls::{claim_link, send_call};
 use crossbeam_channel::Sender;
 pub use ended::{Breach, Ended};
 pub use heard::{Heard, SentCall, Told};
-use journal_writer::{Journal, NoJournal};
+use journal::{Journal, NoJournal};
 use ocpp_scalars::Moments;
 pub use served_text::{Served, answer_message, answer_next};
 use std::alloc::Global;

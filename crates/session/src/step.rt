@@ -8,7 +8,7 @@ ghost use Rattle.session.specs.Perform.{IsOfText, Performs};
 ghost use Rattle.session.specs.Serving.{KeepsPass};
 
 use crate::outcome::{Outcome, Performed};
-use chronicle::ChronicleName;
+use ghost_list::ListName;
 use ocpp_scalars::Refusal;
 use site_core::{Reply, Step, Take};
 use std::sync::ledger::Ledger;
@@ -16,7 +16,7 @@ use version_store::{Book, Pass};
 
 /// Makes the one call on the book that a step of a message stands for. A request for a schedule has
 /// seen what its session has, whatever the step names.
-pub fn perform<C: Ledger, A: Ledger, N: ChronicleName>(
+pub fn perform<C: Ledger, A: Ledger, N: ListName>(
     book: &mut Book<C, A, N>,
     pass: &mut Pass<C, A>,
     step: Step,
@@ -44,7 +44,7 @@ pub fn perform<C: Ledger, A: Ledger, N: ChronicleName>(
 }
 
 /// Keeps a request for a schedule, which has seen what its session has.
-fn perform_take<C: Ledger, A: Ledger, N: ChronicleName>(
+fn perform_take<C: Ledger, A: Ledger, N: ListName>(
     book: &mut Book<C, A, N>,
     pass: &mut Pass<C, A>,
     take: Take,

@@ -1,7 +1,7 @@
 //! Texts that are lines of a journal, or first lines, and others.
 
 use crate::same::same_text;
-use site_journal::{push_header, push_line, read_bytes, read_header};
+use journal::{push_header, push_line, read_bytes, read_header};
 use std::alloc::Global;
 use std::process::Abort;
 

@@ -1,4 +1,4 @@
-//! Tests of `site_journal` by its public names alone: texts that are lines of a journal or aren't,
+//! Tests of `journal` by its public names alone: texts that are lines of a journal or aren't,
 //! and books that are restored from journals, of one by hand and of random days.
 #![tactic(auto)]
 

@@ -8,7 +8,7 @@ use messages::Side;
 use ocpp_scalars::Instant;
 use ocppj_frame::ReadingMemory;
 use site_core::{Machine, PointId, Step};
-use site_journal::{Entry, Line, Noted, noted_by, number_drawn, restore};
+use journal::{Entry, Line, Noted, noted_by, number_drawn, restore};
 use site_rules::read_site;
 use std::alloc::Global;
 use std::marker::Brand;

@@ -5,7 +5,7 @@ ghost use Rattle.std.specs.Prelude.{◌≡◌};
 use crate::journal_texts::{CHANGED, JOURNAL, SITE, STATES};
 use crate::same::{holds, same_text};
 use site_core::PointId;
-use site_journal::{Line, Noted, UNREAD_REPLY, lose_links, push_line, restore};
+use journal::{Line, Noted, UNREAD_REPLY, lose_links, push_line, restore};
 use site_rules::read_site;
 use std::alloc::Global;
 use std::marker::Brand;

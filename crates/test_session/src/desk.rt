@@ -6,7 +6,7 @@ use crate::clients::{client_bytes, heard};
 use crate::named_texts::SITE;
 use crate::streams::Stream;
 use crossbeam_channel::{Sender, bounded};
-use journal_writer::NoJournal;
+use journal::NoJournal;
 use ocpp_scalars::{Instant, Moments};
 use profile::Unit;
 use session::{Context, Ended, Heard, SessionCore, WatchedSocket, answer_next, serve_session};

@@ -23,7 +23,7 @@ use crate::recorded_states::{NoName, RecordedStates, StateRecorder};
 use crate::recorder::make_recorded;
 use crate::stored_event::StoredEvent;
 use crate::totals::Totals;
-use chronicle::{ChronicleName, Unnamed};
+use ghost_list::{ListName, Unnamed};
 use site_core::{Machine, Refused, Reply, Step};
 use site_rules::Site;
 use std::alloc::{AllocError, Global};
@@ -34,14 +34,14 @@ use std::sync::ledger::{Blank, Ledger};
 /// adds one event, and none is ever refused because the history is full. A pass fits only the book
 /// that it was made with, and the two ledgers see to that.
 #[derive(Drop)]
-pub struct Book<C: Ledger, A: Ledger, N: ChronicleName = NoName> {
+pub struct Book<C: Ledger, A: Ledger, N: ListName = NoName> {
     history: History,
     ledgers: Ledgers<C, A>,
     /// Who records its changes.
     recorder: StateRecorder<N>,
 }
 
-impl<C: Ledger, A: Ledger, N: ChronicleName> Model for Book<C, A, N> {
+impl<C: Ledger, A: Ledger, N: ListName> Model for Book<C, A, N> {
     ghost use Rattle.std.specs.Prelude.{◌≡◌};
     ghost use Rattle.version_store.specs.Recording.{IsAt};
     ghost use Rattle.version_store.specs.Store.{StoreState};
@@ -83,8 +83,8 @@ impl<C: Ledger, A: Ledger> Book<C, A> {
     }
 }
 
-impl<C: Ledger, A: Ledger, N: ChronicleName> Book<C, A, N> {
-    /// The same, whose states are recorded in a chronicle.
+impl<C: Ledger, A: Ledger, N: ListName> Book<C, A, N> {
+    /// The same, whose states are recorded in a ghost list.
     pub fn make_with(
         alloc: Global,
         changes: Blank,
@@ -150,7 +150,7 @@ impl<C: Ledger, A: Ledger, N: ChronicleName> Book<C, A, N> {
     }
 }
 
-impl<C: Ledger, A: Ledger, N: ChronicleName> Book<C, A, N> {
+impl<C: Ledger, A: Ledger, N: ListName> Book<C, A, N> {
     /// What is recorded of its states by now.
     pub fn recorded(&self) -> RecordedStates<N>
         ensures { IsAt N.is_recorded result self.now.present }

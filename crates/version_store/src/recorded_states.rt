@@ -5,15 +5,15 @@ ghost use mathlib.Core.List.{IsPrefix};
 ghost use Rattle.site_core.specs.State.{opening};
 ghost use Rattle.version_store.specs.Recording.{IsAt, IsNextOf, forget, opening_states};
 
-use chronicle::{Chronicle, ChronicleName, EntryFrom, Front, Unnamed};
+use ghost_list::{EntryFrom, Front, GhostList, ListName, Unnamed};
 use site_core::Machine;
 use site_rules::Site;
 use std::marker::Model;
 
-/// The name of no chronicle, for books whose states aren't recorded.
+/// The name of no ghost list, for books whose states aren't recorded.
 pub struct NoName;
 
-impl ChronicleName for NoName {
+impl ListName for NoName {
     ghost use Rattle.std.specs.Prelude.{false};
 
     ghost name = { 0 };
@@ -37,15 +37,15 @@ impl EntryFrom<Site, Machine> for Opened {
     ghost entry = { λ site. forget (opening site) };
 }
 
-/// Records the states of a book in the chronicle N: the first one, and that after each change. At
+/// Records the states of a book in the ghost list N: the first one, and that after each change. At
 /// run time it counts them. Or it records nothing.
 #[derive(Drop)]
-pub(crate) struct StateRecorder<N: ChronicleName> {
-    states: Option<Chronicle<Machine, N>>,
+pub(crate) struct StateRecorder<N: ListName> {
+    states: Option<GhostList<Machine, N>>,
     count: u64,
 }
 
-impl<N: ChronicleName> Model for StateRecorder<N> {
+impl<N: ListName> Model for StateRecorder<N> {
     ghost use Rattle.std.specs.Prelude.{◌≡◌, List, is_some, option_map};
     ghost use Rattle.site_core.specs.State.{MachineState};
     ghost use Rattle.version_store.specs.Recording.{IsCountOf, or_none};
@@ -60,12 +60,12 @@ impl<N: ChronicleName> Model for StateRecorder<N> {
 
 /// What was recorded of a book by some moment.
 #[derive(Drop)]
-pub struct RecordedStates<N: ChronicleName> {
+pub struct RecordedStates<N: ListName> {
     states: Option<Front<Machine, N>>,
     count: u64,
 }
 
-impl<N: ChronicleName> Model for RecordedStates<N> {
+impl<N: ListName> Model for RecordedStates<N> {
     ghost use Rattle.std.specs.Prelude.{◌≡◌, List, is_some, option_map};
     ghost use Rattle.site_core.specs.State.{MachineState};
     ghost use Rattle.version_store.specs.Recording.{IsCountOf, or_none};
@@ -78,7 +78,7 @@ impl<N: ChronicleName> Model for RecordedStates<N> {
         × IsCountOf (or_none (option_map (λ f. f.entries) r.states)) r.count };
 }
 
-impl<N: ChronicleName> StateRecorder<N> {
+impl<N: ListName> StateRecorder<N> {
     /// Records nothing.
     pub(crate) fn nothing() -> StateRecorder<N>
         requires { N.is_recorded ≡ false }
@@ -130,7 +130,7 @@ impl<N: ChronicleName> StateRecorder<N> {
     }
 }
 
-impl<N: ChronicleName> RecordedStates<N> {
+impl<N: ListName> RecordedStates<N> {
     /// Whether states are recorded.
     pub fn is_recorded(&self) -> bool
         ensures { result ≡ N.is_recorded }

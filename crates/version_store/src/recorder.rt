@@ -9,11 +9,11 @@ ghost use Rattle.version_store.specs.Store.{may_fold};
 
 use crate::history::History;
 use crate::recorded_states::StateRecorder;
-use chronicle::ChronicleName;
+use ghost_list::ListName;
 use site_core::{Refused, Reply, Step};
 
 /// Makes a step that brings no answer, and records the state that it leads to, if it is a change.
-pub(crate) fn make_recorded<N: ChronicleName>(
+pub(crate) fn make_recorded<N: ListName>(
     history: &mut History,
     recorder: &mut StateRecorder<N>,
     step: Step,

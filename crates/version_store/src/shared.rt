@@ -11,7 +11,7 @@ use crate::missing::Missing;
 use crate::pass::Pass;
 use crate::recorded_states::NoName;
 use crate::totals::Totals;
-use chronicle::{ChronicleName, Unnamed};
+use ghost_list::{ListName, Unnamed};
 use site_rules::Site;
 use std::alloc::{AllocError, Global};
 use std::marker::Model;
@@ -23,7 +23,7 @@ use std::time::Duration;
 /// The book of the central system, which one thread at a time has. Each of its calls is made by
 /// whoever has it, so all that is said of a book holds between any calls of any threads.
 #[derive(Drop)]
-pub struct Shared<C: Ledger, A: Ledger, N: ChronicleName = NoName> {
+pub struct Shared<C: Ledger, A: Ledger, N: ListName = NoName> {
     book: Mutex<Book<C, A, N>>,
     /// Those wait here who wait for an answer, each where the number of its request says.
     places: Vec<Condvar>,
@@ -33,7 +33,7 @@ pub struct Shared<C: Ledger, A: Ledger, N: ChronicleName = NoName> {
 /// So many places there are to wait at: as many as requests may be kept, so that few share one.
 const PLACES: u64 = 64;
 
-impl<C: Ledger, A: Ledger, N: ChronicleName> Model for Shared<C, A, N> {
+impl<C: Ledger, A: Ledger, N: ListName> Model for Shared<C, A, N> {
     ghost use Rattle.std.specs.Prelude.{ℕ, ◌≡◌, length};
 
     ghost Value = { ℕ };
@@ -69,8 +69,8 @@ impl<C: Ledger, A: Ledger> Shared<C, A> {
     }
 }
 
-impl<C: Ledger, A: Ledger, N: ChronicleName> Shared<C, A, N> {
-    /// The same, whose book's states are recorded in a chronicle.
+impl<C: Ledger, A: Ledger, N: ListName> Shared<C, A, N> {
+    /// The same, whose book's states are recorded in a ghost list.
     pub fn make_with(
         alloc: Global,
         changes: Blank,
@@ -132,7 +132,7 @@ impl<C: Ledger, A: Ledger, N: ChronicleName> Shared<C, A, N> {
     }
 }
 
-impl<C: Ledger, A: Ledger, N: ChronicleName> Shared<C, A, N> {
+impl<C: Ledger, A: Ledger, N: ListName> Shared<C, A, N> {
     /// How many sessions have a pass.
     pub fn sessions(&self) -> u64
         ensures { result ≡ self.now }

@@ -1,7 +1,7 @@
 //! The types that a site's sessions are generic in.
 
-use chronicle::ChronicleName;
-use journal_writer::{Journal, NoJournal};
+use ghost_list::ListName;
+use journal::{Journal, NoJournal};
 use ocpp_scalars::Moments;
 use std::marker::PhantomData;
 use std::sync::Wait;
@@ -14,8 +14,8 @@ pub trait World {
     type Changes: Ledger;
     /// Counts its answers.
     type Answers: Ledger;
-    /// The name of the chronicle that records its states.
-    type Name: ChronicleName;
+    /// The name of the ghost list that records its states.
+    type Name: ListName;
 
     type Runtime: Wait;
 

@@ -11,11 +11,10 @@ use crate::outcome::{Outcome, Performed};
 use crate::serving::ended::{Ended, ended_unsaved};
 use crate::serving::noting::note_made;
 use crate::serving::reading::read_reply;
-use chronicle::ChronicleName;
-use journal_writer::Journal;
+use ghost_list::ListName;
+use journal::{Journal, Noted, UNREAD_REPLY, noted_steps_are_restored};
 use meaning::Said;
 use site_core::{PointId, Reply, Step, equal_books_are_one};
-use site_journal::{Noted, UNREAD_REPLY, noted_steps_are_restored};
 use std::alloc::{AllocError, Global};
 use std::marker::Model;
 use std::sync::ledger::Ledger;
@@ -42,7 +41,7 @@ impl Model for OpenAudit {
 }
 
 /// The audit that a step replies to, if it does: the step confirms its call. Nothing is changed.
-pub(crate) fn audit_confirmed<C: Ledger, A: Ledger, N: ChronicleName>(
+pub(crate) fn audit_confirmed<C: Ledger, A: Ledger, N: ListName>(
     alloc: Global,
     book: &Book<C, A, N>,
     step: &Step,
@@ -128,7 +127,7 @@ fn reply_to_note<'s>(sent: &'s SentText<'_>, is_short: bool) -> &'s str
 
 /// Keeps a verdict on the audit of a point whose call has this number. What is refused is dropped.
 /// Returns whether it is kept.
-fn bring_verdict<C: Ledger, A: Ledger, N: ChronicleName>(
+fn bring_verdict<C: Ledger, A: Ledger, N: ListName>(
     book: &mut Book<C, A, N>,
     point: PointId,
     call: u64,

@@ -1,6 +1,6 @@
 //! How sessions end.
 
-use journal_writer::JournalFault;
+use journal::JournalFault;
 use tungstenite::Error;
 use websocket::error::ProtocolError;
 

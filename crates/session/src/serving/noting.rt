@@ -1,8 +1,8 @@
 //! What is noted of a session's steps: those that change something.
 
 ghost use Rattle.std.specs.Prelude.{◌≡◌, IfOk, IfSome};
-ghost use Rattle.site_journal.specs.Line.{noted_state};
-ghost use Rattle.site_journal.specs.MadeStep.{IsOfMadeStep};
+ghost use Rattle.journal.specs.Line.{noted_state};
+ghost use Rattle.journal.specs.MadeStep.{IsOfMadeStep};
 ghost use Rattle.session.specs.declared.outcome.Outcome.{Outcome};
 ghost use Rattle.session.specs.declared.outcome.Performed.{Performed};
 ghost use Rattle.version_store.specs.Recording.{IsAt};
@@ -10,10 +10,11 @@ ghost use Rattle.session.specs.Noting.{AsksFor, IsEntryAt, IsEntryFor, IsNotable
 
 use crate::context::Context;
 use crate::outcome::{Outcome, Performed};
-use journal_writer::{Journal, JournalFault};
+use journal::{
+    Entry, Journal, JournalFault, Noted, noted_by, noted_steps_are_restored, number_drawn,
+};
 use ocpp_scalars::{Instant, Moments};
 use site_core::{Reply, Step};
-use site_journal::{Entry, Noted, noted_by, noted_steps_are_restored, number_drawn};
 use texts::SentText;
 use version_store::{Book, RecordedStates};
 use world::World;

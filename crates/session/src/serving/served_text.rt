@@ -23,13 +23,12 @@ use crate::serving::waiting::{Sending, Waiting};
 use crate::session_core::SessionCore;
 use crate::step::perform;
 use crate::todo::Todo;
-use chronicle::ChronicleName;
 use compile_pool::{answer_job, answer_unmade, wait_answer};
-use journal_writer::JournalFault;
+use ghost_list::ListName;
+use journal::{Entry, JournalFault};
 use meaning::Ask;
 use ocpp_scalars::{Instant, Moments, Refusal};
 use site_core::Step;
-use site_journal::Entry;
 use texts::SentText;
 use version_store::{Job, Pass, RecordedStates};
 use world::World;
@@ -70,7 +69,7 @@ pub fn answer_next<W: World, S: SessionSocket>(
 
 /// What came of a message.
 #[derive(Drop)]
-pub struct Served<N: ChronicleName> {
+pub struct Served<N: ListName> {
     /// The message that answers it, if one does.
     pub answer: Option<String>,
     /// What it told.
@@ -122,7 +121,7 @@ pub fn answer_message<W: World, Q: Waiting>(
 /// The answer to a message whose step isn't made, since it couldn't be noted: that of a CALL that
 /// memory ran out for. A reply has none, and the session ends: its call goes out again over the
 /// point's next link.
-fn served_unmade<N: ChronicleName>(
+fn served_unmade<N: ListName>(
     core: &SessionCore,
     todo: Todo,
     fault: JournalFault,

@@ -4,8 +4,8 @@ use crate::serving::ended::Ended;
 use crate::serving::heard::Incoming;
 use crate::serving::sockets::read_next;
 use crate::serving::waiting::{Sending, Waiting};
-use chronicle::ChronicleName;
 use compile_pool::Jobs;
+use ghost_list::ListName;
 use std::io::{Read, Write};
 use std::sync::Wait;
 use std::sync::ledger::Ledger;
@@ -55,7 +55,7 @@ impl<S, K> Waiting for WebSocket<S, K> {
         }
     }
 
-    fn wait<C: Ledger, A: Ledger, N: ChronicleName>(
+    fn wait<C: Ledger, A: Ledger, N: ListName>(
         &mut self,
         _shared: &Shared<C, A, N>,
         _number: u64,

@@ -5,8 +5,8 @@ ghost use Rattle.session.specs.Leaving.{IsAnswerOrCall};
 
 use crate::serving::ended::{Ended, ended_by, ended_unsaved};
 use crate::serving::heard::Incoming;
-use chronicle::ChronicleName;
-use journal_writer::{Journal, Receipt};
+use ghost_list::ListName;
+use journal::{Journal, Receipt};
 use std::alloc::{AllocError, Global};
 use std::io::{ErrorKind, Read, Write};
 use std::marker::Model;
@@ -47,14 +47,14 @@ fn is_of_waiting(kind: ErrorKind) -> bool {
 /// A message that may leave, an answer or a call: all is kept that its step depends on, as the receipt
 /// shows.
 #[derive(Drop)]
-pub(crate) struct Cleared<'a, N: ChronicleName> {
+pub(crate) struct Cleared<'a, N: ListName> {
     text: &'a str,
     /// What was recorded of the book by its step, if it has one.
     seen: &'a Option<RecordedStates<N>>,
     receipt: Option<Receipt<N>>,
 }
 
-impl<'a, N: ChronicleName> Model for Cleared<'a, N> {
+impl<'a, N: ListName> Model for Cleared<'a, N> {
     ghost use Rattle.std.specs.Prelude.{ℕ, List};
     ghost use Rattle.session.specs.Leaving.{IsCleared};
 
@@ -67,7 +67,7 @@ impl<'a, N: ChronicleName> Model for Cleared<'a, N> {
 
 /// Waits until all is kept that a message depends on: its own step, and what others did before.
 /// Nobody has the book meanwhile. Where it isn't kept, the session ends without the message.
-pub(crate) fn clear_to_leave<'a, J: Journal<N>, N: ChronicleName>(
+pub(crate) fn clear_to_leave<'a, J: Journal<N>, N: ListName>(
     journal: &J,
     text: &'a str,
     seen: &'a Option<RecordedStates<N>>,
@@ -96,7 +96,7 @@ pub(crate) fn clear_to_leave<'a, J: Journal<N>, N: ChronicleName>(
 }
 
 /// Sends a message.
-pub(crate) fn send_text<S: Read + Write + Drop, K: MaskKeys + Drop, N: ChronicleName>(
+pub(crate) fn send_text<S: Read + Write + Drop, K: MaskKeys + Drop, N: ListName>(
     alloc: Global,
     socket: &mut WebSocket<S, K>,
     cleared: Cleared<'_, N>,

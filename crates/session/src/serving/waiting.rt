@@ -1,7 +1,7 @@
 //! What a session does until its request has its answer.
 
-use chronicle::ChronicleName;
 use compile_pool::Jobs;
+use ghost_list::ListName;
 use std::sync::Wait;
 use std::sync::ledger::Ledger;
 use version_store::{Job, Shared};
@@ -23,7 +23,7 @@ pub trait Waiting {
 
     /// Waits until the request of a number has its answer, or leaves that to whoever collects it.
     /// False where the client is gone before.
-    fn wait<C: Ledger, A: Ledger, N: ChronicleName>(
+    fn wait<C: Ledger, A: Ledger, N: ListName>(
         &mut self,
         shared: &Shared<C, A, N>,
         number: u64,

@@ -7,8 +7,8 @@ use crate::serving::heard::Incoming;
 use crate::serving::session_socket::SessionSocket;
 use crate::serving::sockets::read_next;
 use crate::serving::waiting::{Sending, Waiting};
-use chronicle::ChronicleName;
 use compile_pool::{Jobs, Unsent, is_at_most};
+use ghost_list::ListName;
 use std::io::{Read, Write};
 use std::rt::Clock;
 use std::sync::Wait;
@@ -163,7 +163,7 @@ impl<S: Read + Write + Watched + Drop, K: MaskKeys + Drop, R: Wait + Clock> Wait
         }
     }
 
-    fn wait<C: Ledger, A: Ledger, N: ChronicleName>(
+    fn wait<C: Ledger, A: Ledger, N: ListName>(
         &mut self,
         shared: &Shared<C, A, N>,
         number: u64,
@@ -183,7 +183,7 @@ impl<S: Read + Write + Watched + Drop, K: MaskKeys + Drop, R: Wait + Clock> Wait
 }
 
 /// Whether the request of a number has its answer within so many milliseconds.
-fn is_answered<C: Ledger, A: Ledger, R: Wait + Clock, N: ChronicleName>(
+fn is_answered<C: Ledger, A: Ledger, R: Wait + Clock, N: ListName>(
     rt: &R,
     shared: &Shared<C, A, N>,
     number: u64,

@@ -11,14 +11,14 @@ ghost use Rattle.version_store.specs.Calls.{Calls, Makes, IsRefusalOf};
 use crate::book::Book;
 use crate::pass::Pass;
 use crate::recorder::make_recorded;
-use chronicle::ChronicleName;
+use ghost_list::ListName;
 use messages::PointStatus;
 use ocpp_scalars::Refusal;
 use site_core::{PointId, Refused, Reply, Step};
 use std::sync::ledger::Ledger;
 use sweep_compiler::{AuditJob, Judged};
 
-impl<C: Ledger, A: Ledger, N: ChronicleName> Book<C, A, N> {
+impl<C: Ledger, A: Ledger, N: ListName> Book<C, A, N> {
     /// Asks a point for its own schedule of a connector, 0 being the whole point, over this many
     /// seconds (chapter 5.7). What the point has now is kept, and its reply is held against that.
     /// It takes the place of an audit before. The number is that of the call.

@@ -8,14 +8,14 @@ ghost use Rattle.version_store.specs.Calls.{Calls, IsRefusalOf, row_of, clearing
 
 use crate::book::Book;
 use crate::pass::Pass;
-use chronicle::ChronicleName;
+use ghost_list::ListName;
 use ocpp_scalars::{Instant, Refusal};
 use profile::{Criteria, Profile, Row};
 use site_core::{PointId, Refused, Reply, Step};
 use std::sync::ledger::Ledger;
 use transactions::Begin;
 
-impl<C: Ledger, A: Ledger, N: ChronicleName> Book<C, A, N> {
+impl<C: Ledger, A: Ledger, N: ListName> Book<C, A, N> {
     /// Installs a profile at a connector of a point (chapter 5.16) at a moment. On a refusal the
     /// profile comes back.
     pub fn install(

@@ -9,13 +9,13 @@ ghost use Rattle.version_store.specs.Calls.{Calls, Makes, IsRefusalOf, sending};
 use crate::book::Book;
 use crate::pass::Pass;
 use crate::recorder::make_recorded;
-use chronicle::ChronicleName;
+use ghost_list::ListName;
 use messages::Call;
 use ocpp_scalars::Refusal;
 use site_core::{PointId, Reply, Step};
 use std::sync::ledger::Ledger;
 
-impl<C: Ledger, A: Ledger, N: ChronicleName> Book<C, A, N> {
+impl<C: Ledger, A: Ledger, N: ListName> Book<C, A, N> {
     /// Gives a point a new link (OCPP-J 1.6, 3), over which its calls are sent from now on.
     pub fn attach(&mut self, pass: &mut Pass<C, A>, point: PointId) -> Result<u64, Refusal>
         ensures calls { IfOk result (λ link. Calls self.old pass.old (steps.Attach point)

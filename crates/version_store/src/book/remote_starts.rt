@@ -7,13 +7,13 @@ ghost use Rattle.version_store.specs.Calls.{Calls, IsRefusalOf};
 
 use crate::book::Book;
 use crate::pass::Pass;
-use chronicle::ChronicleName;
+use ghost_list::ListName;
 use ocpp_scalars::{IdTag, Refusal};
 use profile::Profile;
 use site_core::{PointId, Refused, Reply, Step};
 use std::sync::ledger::Ledger;
 
-impl<C: Ledger, A: Ledger, N: ChronicleName> Book<C, A, N> {
+impl<C: Ledger, A: Ledger, N: ListName> Book<C, A, N> {
     /// Asks a point to start a transaction of an idTag at a connector (chapter 5.11). The start
     /// waits, in place of one before at the connector. A transaction of that idTag begins with the
     /// TxProfile, where one is given. The number is that of the call. On a refusal the idTag and the

@@ -14,14 +14,14 @@ use crate::answer::Answer;
 use crate::book::Book;
 use crate::job::Job;
 use crate::pass::Pass;
-use chronicle::ChronicleName;
+use ghost_list::ListName;
 use ocpp_scalars::{Instant, Refusal};
 use profile::Unit;
 use site_core::{PointId, Reply, Step, Take};
 use std::sync::ledger::Ledger;
 use sweep_compiler::Compiled;
 
-impl<C: Ledger, A: Ledger, N: ChronicleName> Book<C, A, N> {
+impl<C: Ledger, A: Ledger, N: ListName> Book<C, A, N> {
     /// Keeps a request for the composite schedule (chapter 5.7) of a connector of a point.
     /// Connector 0 is the whole point. The schedule is from a start on for this many seconds, in a
     /// unit where one is given. The job is what is to be compiled and posted.

@@ -5,7 +5,7 @@ use Rattle.session.proofs.serving.calls.send_call.Goals as goal
 
 pub clear_to_leave-requires : goal.clear_to_leave-requires
 clear_to_leave-requires g c =
-    call_leaves g.W.Name.ChronicleName.is_recorded c.point_id-2.result.now c.in-Point-Some.link
+    call_leaves g.W.Name.ListName.is_recorded c.point_id-2.result.now c.in-Point-Some.link
     c.in-Some.call c.in-Some.seen c.as_str-2.result.now (Some c.in-Some.seen)
     (of_some _ c.in_ok-call.field-0 _ c.in_ok-call.ensures c.in-Some.is)
     (c.as_str-2.ensures.value ∙ c.in-Ok.ensures) refl

@@ -6,7 +6,7 @@ use Rattle.session.proofs.serving.served_text.answer_next.Goals as goal
 
 pub clear_to_leave-requires : goal.clear_to_leave-requires
 clear_to_leave-requires g c =
-    let recorded = g.W.Name.ChronicleName.is_recorded in
+    let recorded = g.W.Name.ListName.is_recorded in
     let served = c.in_ok-answer.field-0 in
     subst (λ (t : List ℕ). IsAnswerOrCall recorded t served.seen) (sym c.as_str.ensures.value)
     (answer_leaves recorded c.args.core.now _ _ (option_map string_bytes served.answer)

@@ -1,7 +1,0 @@
--- What it owns names no thread.
-use denote.Param.Send.{IsSend}
-use Rattle.chronicle.specs.contracts.chronicle.Unnamed.{the_row}
-use Rattle.chronicle.proofs.Tokens.{unnamed_keyless}
-
-pub send : IsSend the_row
-send = record { owned = λ d vs. ((λ vss. (tt, ((λ uss. (tt, tt)), tt))), unnamed_keyless d.name); leaving = λ k f vs. tt }

@@ -1,9 +1,0 @@
--- A copy covers what it covers.
-use Rattle.std.proofs.Common.{sym, subst}
-use Rattle.journal_writer.specs.Account.{Covers, ReceiptState}
-use Rattle.data_folder.proofs.journal_file.NotedEntries.receipt_for.Goals as goal
-
-pub returns-then-covers : goal.returns-then-covers
-returns-then-covers g c =
-    subst (λ (r : ReceiptState). Covers g.N.ChronicleName.is_recorded r c.args.recorded.now) (sym c.copy.ensures)
-    (c.covers.ensures c.if-covers.true)

@@ -1,0 +1,52 @@
+-- Two beginnings of one list.
+use Rattle.std.proofs.Common.{List, [], ◌∷◌, refl}
+use mir.Syntax.{a_type, dcons, dnil, named}
+use mir.Val.{Val, vunit, vptr}
+use mir.MapTy.{inst_fn}
+use base.Logic.{SProp}
+use base.Fml.{ftrue}
+use types.Kit.{‵, raw, ◌⊛◌, given, ◌$◌, ◌∵◌, !, qed, by, move, keep, drop, use1, use2, split, fsplit, fjoin, learn, feq_i}
+use types.Run.{unit_lit, of_opd, returns, enter}
+use types.ByLocal.{alloc_all, pass_all, free_all, look_at, sets}
+use contract.Running.{tables}
+use denote.Exit.{yes}
+use denote.RattleType.{RattleType, owns}
+use denote.Signature.{types_at, plain}
+use denote.Builtin.{RefOf}
+use denote.Ref.{shr_vals, shr_Tells}
+use denote.Steps.{nothing}
+use denote.Param.{param, bounded}
+use denote.Triple.Entry.{alive}
+use denote.Triple.Walked.{Stays, stay_dropped, walk_of, Goes-dropped}
+use Rattle.std.proofs.raw_atomic.Walks.{proved}
+use Rattle.ghost_list.specs.Owned.{known}
+use Rattle.ghost_list.specs.contracts.front.Front as Front
+use Rattle.ghost_list.proofs.Lent.{front_lent}
+use Rattle.ghost_list.proofs.Steps as steps
+use Rattle.ghost_list.proofs.Tokens.{ends}
+use Rattle.ghost_list.specs.contracts.front.Front.compare.{ended, clauses}
+use Rattle.ghost_list.specs.contracts.front.Front.compare.Key.{name as #self}
+use Rattle.ghost_list.proofs.front.Front.compare.Statement.{statement}
+use Rattle.ghost_list.proofs.front.Front.compare.Code as code
+
+pub compare_spec : {M : Type 1} → statement M
+compare_spec 𝓤 𝓛 𝓜 𝓡 wired E J _ _ g d _ =
+    let H = 𝓛.H in let 𝓣 = tables 𝓤 H 𝓜 𝓡 𝓡.env in
+    let E' : RattleType = param 0 E in let J' : RattleType = param 1 J in let F : RattleType = Front.the_row E' J' g in let code_of = E'.coded.code in
+    let En = ended E J g d in let c = clauses E J g d 𝓛 𝓜.mem 𝓡.returns in
+    let inst = bounded (a_type ∷ a_type ∷ []) (E, (J, tt)) (dcons d dnil) in let fn = inst_fn inst code.function in
+    let Arg = RefOf (0 ∷ []) tt (plain (λ _. F)) (λ _. tt) in let Arg' = RefOf (1 ∷ []) tt (plain (λ _. F)) (λ _. tt) in
+    let hs : Stays En.signature.params En.kept = (stay_dropped Arg yes, (stay_dropped Arg' yes, tt)) in
+    proved 𝓛 En hs c 𝓜 𝓡 (Goes-dropped 𝓛 4 Arg yes (λ κs x f. refl), (Goes-dropped 𝓛 4 Arg' yes (λ κs x f. refl), tt)) (#self inst) fn (code.unfolded 𝓤 H 𝓜 𝓡 wired (E, (J, tt)) d)
+    (λ κs. (shr_vals, (shr_vals, tt))) (λ κs. (shr_Tells (named 0) κs.0 F, (shr_Tells (named 1) κs.1.0 F, tt))) (λ κs qs bounds a gh are.
+    let me = a.0.now in let other = a.1.0.now in let at : Val = vptr a.0.ref_ptr.0 a.0.ref_ptr.1 in let at' : Val = vptr a.1.0.ref_ptr.0 a.1.0.ref_ptr.1 in
+    let y : (walk_of 𝓛 En hs c).Ghost = ((κs, qs, bounds, a, (at ∷ [], (at' ∷ [], tt))), gh) in let Post : Val → SProp 𝓤 = (walk_of 𝓛 En hs c).post y in
+    qed 𝓛 ((raw (alive 𝓛 En.signature κs qs) ⊛ ‵ (owns (types_at En.signature.params κs) a y.0.4)) ∷ raw ((c κs a).requires gh) ∷ []) ∵ keep ! (0 ∷ []) $ split ! $
+    move ! (1 ∷ []) $ fsplit ! $ fsplit ! $ move ! (2 ∷ []) $ fsplit ! $ fsplit ! $ keep ! (1 ∷ 4 ∷ 5 ∷ []) $
+    use1 𝓛 (‵ (known code_of g.name other.entries)) (front_lent 𝓛 E' J' g κs.1.0 other a.1.0.ref_ptr.0 a.1.0.ref_ptr.1) $ move ! (1 ∷ []) $
+    use1 𝓛 (‵ (known code_of g.name me.entries)) (front_lent 𝓛 E' J' g κs.0 me a.0.ref_ptr.0 a.0.ref_ptr.1) $
+    -- [what one knows; what the other knows; the tokens]
+    enter ! 𝓣.C 𝓣.Λ fn (at ∷ at' ∷ []) Post $ alloc_all ! (λ l. pass_all ! refl ((tt, tt), ((tt, tt), tt)) $
+    use2 𝓛 (given (steps.Line 𝓛 E'.coded g.name me.entries other.entries) (‵ ftrue)) (steps.in_line 𝓛 E'.coded g.name me.entries other.entries) $ learn ! (λ so. drop ! $
+    sets ! (of_opd ! (unit_lit !)) refl (tt, tt) $ feq_i ! (List Val) (vunit ∷ []) (vunit ∷ []) refl $ nothing ! $ nothing ! $ fjoin ! $ nothing ! $ fjoin ! $
+    returns ! (look_at ! 0 refl) $ free_all ! refl $ keep ! (2 ∷ 0 ∷ 1 ∷ []) $ by ! (ends 𝓛 En hs c y vunit tt (tt, (tt, tt)) (tt, (tt, tt)) (steps.told 𝓛 _ _ so.0 so.1)))))

@@ -1,0 +1,22 @@
+-- A `&` to a ghost list holds a share of the right to add, with which nothing can be added. Assumes `Logic`.
+use mathlib.Core.List.{[], ◌∷◌}
+use denote.RattleType.{RattleType}
+use denote.Param.Laws.{Laws}
+use denote.Param.Shared.{copy_shared}
+use denote.SharingLaws.{one_shr_laws}
+use denote.Struct.Tuple.{Tuple}
+use denote.Struct.Laws.{field_copy}
+use denote.Struct.Lending.{of_Lends}
+use Rattle.std.specs.contracts.marker.PhantomData as marker
+use Rattle.ghost_list.specs.Owned.{held}
+use Rattle.ghost_list.specs.declared.name.ListName.{Ghosts}
+use Rattle.ghost_list.specs.contracts.list.GhostList as C
+use Rattle.ghost_list.proofs.Steps.{held_lends}
+use Rattle.ghost_list.proofs.list.GhostList.TheLaw.Statement.{statement}
+
+pub shares : (E J : RattleType) (g : Ghosts J.Denot) (L : Laws E) (L' : Laws J) → statement E J g L L'
+shares E J g L L' = let Both = Tuple (E ∷ J ∷ []) in
+    of_Lends (C.struct E J g) (C.the_codes E.Denot J.Denot E.coded J.coded (marker.the_row Both).coded) (C.the_heap E J g) (C.the_lent E J g)
+    (λ d p. one_shr_laws (held E.coded.code g.name d.entries))
+    (copy_shared (marker.the_field Both) (field_copy (marker.the_type Both) tt), tt)
+    (λ M 𝓤 𝓛 d p. held_lends 𝓛 E.coded g.name d.entries (C.the_row E J g).lives)

@@ -1,0 +1,13 @@
+pub mod LineWriting
+pub mod LineCodec
+pub mod LinePieces
+pub mod LineEnds
+pub mod RestoreLemmas
+pub mod NotedLemmas
+pub mod LostLemmas
+pub mod JournalLemmas
+pub mod ForgettingLemmas
+pub mod NotedRunLemmas
+pub mod AccountLemmas
+pub mod SurvivalLemmas
+pub mod SyncLemmas

@@ -1,0 +1,285 @@
+-- A line that is written is read back, and no line feed is inside.
+use Rattle.std.proofs.Common.{◌≡◌, ◌≢◌, ℕ, zero, suc, ◌+◌, ◌/◌, ◌%◌, ◌<◌, ◌≤◌, Bool, true, false, cond, eqb, ◌||◌, ◌&&◌, nat_lt, List, [], ◌∷◌, ◌++◌, length, get_or, Some, Ok, codes, refl, ap, ◌∙◌, arith, append_assoc, length-append}
+use Rattle.std.specs.Prelude.{All}
+use Rattle.std.specs.Fmt.{decimal}
+use Rattle.std.specs.List.{position_or_len}
+use Rattle.std.specs.Str.{bytes_eq}
+use Rattle.std.proofs.Math.Seq.{take-append_seam, drop-append-add}
+use Rattle.std.proofs.lemmas.Bool.{eqb-true, lt-ltb, ltb-true}
+use Rattle.std.proofs.lemmas.Fmt.{decimal_by_steps, decimal_digit, decimal_nonempty, first_decimal}
+use Rattle.std.proofs.lemmas.List.Elements.{All-nil, All-cons, All-head, All-tail, All-append, All-weaker, All-map}
+use Rattle.std.proofs.lemmas.Slice.Eq.{bytes_eq-Decides}
+use Rattle.ocpp_scalars.specs.CalendarDay.{CalendarDay, calendar_day}
+use Rattle.ocpp_scalars.specs.Limits.{last_second}
+use Rattle.ocpp_scalars.specs.Writing.{in_digits, day_text, time_of_day_text, instant_text}
+use Rattle.ocpp_scalars.specs.ByCases.InstantText.{instant_of}
+use Rattle.messages.specs.declared.side.Side.TheVariants as sides
+use Rattle.site_core.specs.Limits.{max_number}
+use Rattle.texts.specs.Theory.Number.{number_made}
+use Rattle.journal.specs.declared.line_word.LineWord.{LineWord}
+use Rattle.journal.specs.declared.line_word.LineWord.TheVariants as words
+use Rattle.journal.specs.Line.{NotedState, LineState, message, reply, verdict, attached, sent, lost, word_of, noted_text, unbroken, on_one_line, line_words, HasNoLineFeed, CanBeNoted, CanBeWritten, noted_on_one_line, line_on_one_line}
+use Rattle.journal.specs.ByCases.Line.{is_space, word_at, word_named, number_or_fault, number_at, noted_in, line_of}
+
+-- ---- bytes above the space
+
+pub record AreVisible (text : List ℕ) : Type 0 where
+  pub each : All (λ b. 32 < b) text
+
+visible_one : (b : ℕ) → 32 < b → AreVisible (b ∷ [])
+visible_one b above = record { each = All-cons (λ b. 32 < b) b [] above (All-nil (λ b. 32 < b)) }
+
+visible_both : {xs ys : List ℕ} → AreVisible xs → AreVisible ys → AreVisible (xs ++ ys)
+visible_both {xs} {ys} one other =
+    record { each = All-append (λ b. 32 < b) xs ys one.each other.each }
+
+no_space : (text : List ℕ) → AreVisible text → All (λ b. b ≢ 32) text
+no_space text are =
+    All-weaker (λ b. 32 < b) (λ b. b ≢ 32) (λ b above same. omega (arith, above, same)) text are.each
+
+no_feed_in : (text : List ℕ) → AreVisible text → HasNoLineFeed text
+no_feed_in text are =
+    All-weaker (λ b. 32 < b) (λ b. b ≢ 10) (λ b above same. omega (arith, above, same)) text are.each
+
+visible_digits : (count n : ℕ) → AreVisible (in_digits count n)
+visible_digits zero n = record { each = All-nil (λ b. 32 < b) }
+visible_digits (suc count) n =
+    visible_both (visible_digits count (n / 10)) (visible_one (48 + n % 10) (omega arith))
+
+visible_day : (day : CalendarDay) → AreVisible (day_text day)
+unfolding day_text
+visible_day day =
+    let dash = visible_one 45 (omega arith) in
+    visible_both (visible_both (visible_both (visible_both (visible_digits 4 day.year) dash)
+    (visible_digits 2 day.month)) dash) (visible_digits 2 day.day)
+
+visible_time : (seconds : ℕ) → AreVisible (time_of_day_text seconds)
+unfolding time_of_day_text
+visible_time seconds =
+    let colon = visible_one 58 (omega arith) in
+    visible_both (visible_both (visible_both (visible_both (visible_digits 2 (seconds / 3600)) colon)
+    (visible_digits 2 (seconds / 60 % 60))) colon) (visible_digits 2 (seconds % 60))
+
+visible_instant : (instant : ℕ) → AreVisible (instant_text instant)
+unfolding instant_text
+visible_instant instant =
+    visible_both (visible_both (visible_both (visible_day (calendar_day (instant / 86_400)))
+    (visible_one 84 (omega arith))) (visible_time (instant % 86_400))) (visible_one 90 (omega arith))
+
+pub visible_decimal : (n : ℕ) → n ≤ max_number → AreVisible (decimal n)
+visible_decimal n within =
+    decimal_by_steps (λ n text. AreVisible text) (λ n below. visible_one (48 + n) (omega arith))
+    (λ n digits above are. visible_both are (visible_one (48 + n % 10) (omega arith)))
+    n (omega (arith, within))
+
+-- ---- the word that a text begins with
+
+test_of_other : (b c : ℕ) → b ≢ c → eqb b c ≡ false
+test_of_other b c other = elim (eqb b c) as (λ t. eqb b c ≡ t → t ≡ false) [
+  | true ↦ λ is. absurd (other (eqb-true b c is))
+  | false ↦ λ is. refl
+] refl
+
+one_more : (n : ℕ) → 1 + n ≡ suc n
+one_more n = omega arith
+
+word_ends : (word rest : List ℕ) → All (λ b. b ≢ 32) word
+    → position_or_len is_space (word ++ 32 ∷ rest) ≡ length word
+word_ends [] rest none = refl
+word_ends (b ∷ word) rest none =
+    rw (test_of_other b 32 (All-head (λ b. b ≢ 32) b word none))
+    (ap (λ (n : ℕ). 1 + n) (word_ends word rest (All-tail (λ b. b ≢ 32) b word none))
+    ∙ one_more (length word))
+
+-- a text that begins with this word
+pub word_read : (word rest : List ℕ) → 0 < length word → All (λ b. b ≢ 32) word
+    → word_at (word ++ codes " " ++ rest) ≡ Ok (word, rest)
+word_read word rest some none =
+    let end = word_ends word rest none in
+    rw (append_assoc word (codes " ") rest) (rw (
+      end,
+      lt-ltb 0 (length word) some,
+      lt-ltb (length word) (length (word ++ 32 ∷ rest)) (omega (arith, length-append word (32 ∷ rest))),
+      take-append_seam word (32 ∷ rest),
+      drop-append-add word (32 ∷ rest) 1,
+    ) refl)
+
+-- ---- numbers
+
+pub number_read : (n : ℕ) → n ≤ max_number → number_or_fault (decimal n) ≡ Ok n
+number_read zero within = rw (decimal_digit 0 (omega arith)) refl
+number_read (suc n) within =
+    let first = first_decimal (suc n) (omega arith) (omega (arith, within)) in
+    let other : bytes_eq (decimal (suc n)) (codes "0") ≡ false = elim (bytes_eq (decimal (suc n)) (codes "0")) as (λ t. bytes_eq (decimal (suc n)) (codes "0") ≡ t → t ≡ false) [
+      | true ↦ λ is. absurd (omega (arith, first, ap (λ (l : List ℕ). get_or l 0 0) ((bytes_eq-Decides (decimal (suc n)) (codes "0")).0 is)))
+      | false ↦ λ is. refl
+    ] refl in
+    rw (other, number_made (suc n) (omega arith) within) refl
+
+pub number_and_rest : (n : ℕ) (rest : List ℕ) → n ≤ max_number
+    → number_at (decimal n ++ codes " " ++ rest) ≡ Ok (n, rest)
+number_and_rest n rest within =
+    rw (word_read (decimal n) rest (decimal_nonempty n (omega (arith, within))) (no_space (decimal n) (visible_decimal n within)))
+    (rw (number_read n within) refl)
+
+-- ---- what is noted
+
+abbrev named : NotedState → LineWord
+named (message sides.Operator number frame) = words.Operator
+named (message sides.Point number frame) = words.Point
+named (reply link frame) = words.Reply
+named (verdict call frame) = words.Verdict
+named (attached link) = words.Attached
+named (sent link call) = words.Sent
+named (lost link) = words.Lost
+
+word_is_named : (noted : NotedState) → word_named (word_of noted) ≡ Some (named noted)
+word_is_named (message sides.Operator number frame) = refl
+word_is_named (message sides.Point number frame) = refl
+word_is_named (reply link frame) = refl
+word_is_named (verdict call frame) = refl
+word_is_named (attached link) = refl
+word_is_named (sent link call) = refl
+word_is_named (lost link) = refl
+
+noted_read : (noted : NotedState) → CanBeNoted noted
+    → noted_in (named noted) (noted_text noted) ≡ Ok (noted_on_one_line noted)
+noted_read (message sides.Operator number frame) within =
+    rw (number_and_rest number (on_one_line frame) within) refl
+noted_read (message sides.Point number frame) within =
+    rw (number_and_rest number (on_one_line frame) within) refl
+noted_read (reply link frame) within = rw (number_and_rest link (on_one_line frame) within) refl
+noted_read (verdict call frame) within = rw (number_and_rest call (on_one_line frame) within) refl
+noted_read (attached link) within = rw (number_read link within) refl
+noted_read (sent link call) within =
+    rw (number_and_rest link (decimal call) within.0) (rw (number_read call within.1) refl)
+noted_read (lost link) within = rw (number_read link within) refl
+
+-- ---- the line
+
+above : List ℕ → Bool
+above [] = true
+above (b ∷ text) = nat_lt 32 b && above text
+
+all_above : (text : List ℕ) → above text ≡ true → All (λ b. 32 < b) text
+unfolding above
+all_above [] is = All-nil (λ b. 32 < b)
+all_above (b ∷ text) is =
+    let parts = both_true (nat_lt 32 b) (above text) is in
+    All-cons (λ b. 32 < b) b text (ltb-true 32 b parts.0) (all_above text parts.1)
+  where
+    both_true : (one other : Bool) → (one && other) ≡ true → (one ≡ true) × (other ≡ true)
+    both_true true other is = (refl, is)
+    both_true false other is = absurd (cc is)
+
+visible : (text : List ℕ) → above text ≡ true → AreVisible text
+visible text is = record { each = all_above text is }
+
+visible_word : (noted : NotedState) → AreVisible (word_of noted)
+unfolding above
+visible_word (message sides.Operator number frame) = visible (codes "operator") refl
+visible_word (message sides.Point number frame) = visible (codes "point") refl
+visible_word (reply link frame) = visible (codes "reply") refl
+visible_word (verdict call frame) = visible (codes "verdict") refl
+visible_word (attached link) = visible (codes "attached") refl
+visible_word (sent link call) = visible (codes "sent") refl
+visible_word (lost link) = visible (codes "lost") refl
+
+some_word : (noted : NotedState) → 0 < length (word_of noted)
+some_word (message sides.Operator number frame) = omega arith
+some_word (message sides.Point number frame) = omega arith
+some_word (reply link frame) = omega arith
+some_word (verdict call frame) = omega arith
+some_word (attached link) = omega arith
+some_word (sent link call) = omega arith
+some_word (lost link) = omega arith
+
+some_instant : (instant : ℕ) → 0 < length (instant_text instant)
+unfolding instant_text
+some_instant instant = omega (
+  arith,
+  length-append (day_text (calendar_day (instant / 86_400))
+      ++ codes "T" ++ time_of_day_text (instant % 86_400)) (codes "Z"),
+)
+
+abbrev pub InstantsAreRead : Type 0
+InstantsAreRead = (instant : ℕ) → instant ≤ last_second
+    → instant_of (instant_text instant) ≡ Ok instant
+
+-- the words one after another
+grouped : (a w p n : List ℕ)
+    → a ++ codes " " ++ w ++ codes " " ++ p ++ codes " " ++ n
+    ≡ (a ++ codes " ") ++ ((w ++ codes " ") ++ ((p ++ codes " ") ++ n))
+grouped a w p n =
+    let first = a ++ codes " " in
+    ap (λ (t : List ℕ). t ++ p ++ codes " " ++ n) (append_assoc first w (codes " "))
+    ∙ ap (λ (t : List ℕ). t ++ n) (append_assoc (first ++ (w ++ codes " ")) p (codes " "))
+    ∙ append_assoc (first ++ (w ++ codes " ")) (p ++ codes " ") n
+    ∙ append_assoc first (w ++ codes " ") ((p ++ codes " ") ++ n)
+
+pub line_read : InstantsAreRead → (line : LineState) → CanBeWritten line
+    → line_of (line_words line) ≡ Ok (line_on_one_line line)
+unfolding line_words line_of
+line_read again line can =
+    let noted = line.noted in
+    let behind = line.point ++ codes " " ++ noted_text noted in
+    rw (grouped (instant_text line.moment) (word_of noted) line.point (noted_text noted))
+    (rw (word_read (instant_text line.moment) (word_of noted ++ codes " " ++ behind) (some_instant line.moment) (no_space (instant_text line.moment) (visible_instant line.moment)))
+    (rw (word_read (word_of noted) behind (some_word noted) (no_space (word_of noted) (visible_word noted)))
+    (rw (word_read line.point (noted_text noted) can.point.some can.point.spaces)
+    (rw (word_is_named noted)
+    (rw (again line.moment can.moment)
+    (rw (noted_read noted can.noted) refl))))))
+
+-- ---- no line feed
+
+feeds_both : (xs ys : List ℕ) → HasNoLineFeed xs → HasNoLineFeed ys → HasNoLineFeed (xs ++ ys)
+feeds_both xs ys one other = All-append (λ byte. byte ≢ 10) xs ys one other
+
+no_space_feed : ◌≢◌ {A = ℕ} 32 10
+no_space_feed same = absurd (omega (arith, same))
+
+spaced : (word rest : List ℕ) → HasNoLineFeed word → HasNoLineFeed rest
+    → HasNoLineFeed (word ++ codes " " ++ rest)
+spaced word rest one other =
+    feeds_both (word ++ codes " ") rest (feeds_both word (codes " ") one
+    (All-cons (λ byte. byte ≢ 10) 32 [] no_space_feed (All-nil (λ byte. byte ≢ 10)))) other
+
+unbroken_byte : (b : ℕ) → unbroken b ≢ 10
+unbroken_byte b = go (eqb b 10) (eqb b 13) refl
+  where
+    go : (feed return : Bool) → eqb b 10 ≡ feed → ◌≢◌ {A = ℕ} (cond (feed || return) 9 b) 10
+    go true return is same = absurd (omega (arith, same))
+    go false true is same = absurd (omega (arith, same))
+    go false false is same = absurd (cc (is, same))
+
+pub one_line : (frame : List ℕ) → HasNoLineFeed (on_one_line frame)
+one_line frame =
+    All-map (λ byte. byte ≢ 10) unbroken frame (λ k d within. unbroken_byte (get_or frame k d))
+
+decimal_feeds : (n : ℕ) → n ≤ max_number → HasNoLineFeed (decimal n)
+decimal_feeds n within = no_feed_in (decimal n) (visible_decimal n within)
+
+noted_feeds : (noted : NotedState) → CanBeNoted noted → HasNoLineFeed (noted_text noted)
+noted_feeds (message sender number frame) within =
+    spaced (decimal number) (on_one_line frame) (decimal_feeds number within) (one_line frame)
+noted_feeds (reply link frame) within =
+    spaced (decimal link) (on_one_line frame) (decimal_feeds link within) (one_line frame)
+noted_feeds (verdict call frame) within =
+    spaced (decimal call) (on_one_line frame) (decimal_feeds call within) (one_line frame)
+noted_feeds (attached link) within = decimal_feeds link within
+noted_feeds (sent link call) within =
+    spaced (decimal link) (decimal call) (decimal_feeds link within.0) (decimal_feeds call within.1)
+noted_feeds (lost link) within = decimal_feeds link within
+
+pub line_feeds : (line : LineState) → CanBeWritten line → HasNoLineFeed (line_words line)
+unfolding line_words
+line_feeds line can =
+    let noted = line.noted in
+    spaced (instant_text line.moment ++ codes " " ++ word_of noted ++ codes " " ++ line.point)
+    (noted_text noted)
+    (spaced (instant_text line.moment ++ codes " " ++ word_of noted) line.point
+    (spaced (instant_text line.moment) (word_of noted)
+    (no_feed_in (instant_text line.moment) (visible_instant line.moment))
+    (no_feed_in (word_of noted) (visible_word noted))) can.point.breaks)
+    (noted_feeds noted can.noted)

@@ -1,0 +1,44 @@
+-- What comes of a part of a restore. Of private clauses.
+use Rattle.std.specs.Prelude.{ℕ, ◌≡◌, false, List, Option, Some, None, Result, Ok, OnOk, IfErr}
+use Rattle.ocpp_scalars.specs.ResultSteps.{◌>>=◌}
+use Rattle.meaning.specs.declared.said.Said.{Said}
+use Rattle.sweep_compiler.specs.Verdict.{AuditRequest}
+use Rattle.texts.specs.declared.asked.Asked.{Asked}
+use Rattle.site_core.specs.State.{MachineState}
+use Rattle.journal.specs.declared.restore_fault.RestoreFault.{RestoreFault}
+use Rattle.journal.specs.ByCases.Line.{line_in}
+use Rattle.journal.specs.Line.{LineState}
+use Rattle.journal.specs.Restore.{IsFaultOf, change_asked, confirm_asked, judge_asked, is_made, made_with, restored}
+
+-- The new state is the one that is wanted, or a fault is named; then only another number has changed
+-- the old one.
+pub record Leads {A : Type 0} (wanted : Result MachineState RestoreFault)
+    (old : MachineState) (result : Result A RestoreFault) (new : MachineState) : Type 0 where
+  pub done : OnOk result (wanted ≡ Ok new)
+  pub fault : IfErr result (IsFaultOf wanted)
+  pub kept : IfErr result (λ fault. is_made fault ≡ false → new ≡ old)
+
+-- the state after the change that a message asks for, with the number that is written
+abbrev pub changed : MachineState → ℕ → Asked → Result MachineState RestoreFault
+changed state number asked = do
+  step ← change_asked asked
+  made_with state (Some number) step
+
+-- after a reply that confirms a call over this link
+abbrev pub confirmed : MachineState → ℕ → Asked → Result MachineState RestoreFault
+confirmed state link asked = do
+  step ← confirm_asked link asked
+  made_with state None step
+
+-- and after the verdict on what a point said
+abbrev pub judged : MachineState → List ℕ → ℕ → Said → Option AuditRequest
+    → Result MachineState RestoreFault
+judged state point call said job = do
+  step ← judge_asked point call said job
+  made_with state None step
+
+-- bytes are read as a line, which leads to the new state
+pub record LeadsByLine (old : MachineState) (bytes : List ℕ) (new : MachineState) : Type 0 where
+  pub line : LineState
+  pub read : line_in bytes ≡ Ok line
+  pub leads : restored old line ≡ Ok new

@@ -1,0 +1,14 @@
+pub mod Line
+pub mod Lines
+pub mod Entry
+pub mod Header
+pub mod RestoreFault
+pub mod Restore
+pub mod NotedStep
+pub mod Journal
+pub mod LostLinks
+pub mod Forgetting
+pub mod NotedRun
+pub mod MadeStep
+pub mod ByCases
+pub mod Account

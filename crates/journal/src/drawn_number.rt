@@ -1,0 +1,46 @@
+//! The number that a step draws, and the one that is written of it.
+
+ghost use Rattle.std.specs.Prelude.{◌≡◌, Some};
+ghost use Rattle.journal.specs.Restore.{number_drawn, number_fault, unless_fault};
+
+use crate::restore_fault::RestoreFault;
+use site_core::Reply;
+
+/// The number that the journal has for a step with this reply, which left the store at this version:
+/// the number of the transaction, of the call or of the link, or else the version. None for a step
+/// that changed nothing, and for one that draws none.
+pub fn number_drawn(reply: &Reply, version: u64) -> Option<u64>
+    ensures { result ≡ number_drawn reply.now version }
+{
+    match reply {
+        Reply::Accepted | Reply::Ended => Some(version),
+        Reply::Started(transaction) => Some(u64::from(transaction.unsigned_abs())),
+        Reply::Audited { call, .. } | Reply::Called(call) => Some(*call),
+        Reply::Attached(link) => Some(*link),
+        Reply::Sent(call) => Some(call.number),
+        Reply::Unknown
+        | Reply::Repeated(_)
+        | Reply::NoSuch
+        | Reply::Taken { .. }
+        | Reply::Compiled
+        | Reply::Answered { .. }
+        | Reply::NotYet
+        | Reply::Finished
+        | Reply::Nothing
+        | Reply::Confirmed
+        | Reply::LinkLost
+        | Reply::VerdictKept
+        | Reply::Status(_) => None,
+    }
+}
+
+/// Compares the number that is written with the one that was drawn.
+pub(crate) fn compare(written: u64, drawn: Option<u64>) -> Result<(), RestoreFault>
+    ensures { result ≡ unless_fault (number_fault (Some written) drawn) tt }
+{
+    match drawn {
+        None => Err(RestoreFault::Unchanged),
+        Some(drawn) if drawn == written => Ok(()),
+        Some(drawn) => Err(RestoreFault::OtherNumber { written, drawn }),
+    }
+}

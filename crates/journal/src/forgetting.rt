@@ -1,0 +1,9 @@
+//! Requests for schedules can be left out of a journal.
+
+ghost use Rattle.journal.specs.Forgetting.{ForgettingKeepsChanges};
+
+/// The law that requests for schedules change nothing else. A legal history without them is legal,
+/// and leads to the same state, but for the requests that are kept and the number of the last one.
+pub fn requests_can_be_left_out()
+    ensures { ForgettingKeepsChanges }
+{}

@@ -1,0 +1,95 @@
+//! The first line of a journal, written and read.
+
+ghost use Rattle.std.specs.Prelude.{ℕ, ◌≡◌, ◌≢◌, ◌++◌, List, string_bytes, IfNone, IfOk, IfSome, OnErr};
+ghost use Rattle.hex.specs.Hex.{encode_lower};
+ghost use Rattle.ocpp_scalars.specs.Appending.{Appends};
+ghost use Rattle.journal.specs.Header.{IsDigest, header_text, header_words};
+
+use hex::FromHex;
+use std::alloc::{AllocError, Global};
+use thiserror::Error;
+
+/// Why a text is no first line of a journal.
+#[derive(Clone, Copy, Debug, PartialEq, Eq, Error)]
+pub enum HeaderFault {
+    /// It doesn't begin as a journal does.
+    #[error("not a journal")]
+    NotAJournal,
+    /// It is of a format that isn't known here.
+    #[error("a journal of another format")]
+    OtherFormat,
+    /// It doesn't name the SHA-256 of a site file.
+    #[error("no digest of a site file")]
+    NoDigest,
+}
+
+/// Appends the first line of a journal, with its line feed. The digest is the SHA-256 of the bytes
+/// of the site file.
+#[tactic(auto, unfolding(crate::specs::Header::header_words))]
+pub fn push_header(alloc: Global, text: &mut String, digest: &[u8; 32]) -> Result<(), AllocError>
+    ensures { Appends result (string_bytes text.old) (string_bytes text.new)
+        (header_text digest.now) }
+{
+    let digits = hex::encode(alloc, digest.as_slice())?;
+    text.push_str("central journal 1 sha256:")?;
+    text.push_str(digits.as_str())?;
+    text.push('\n')?;
+    Ok(())
+}
+
+/// The digest of the site file in the first line of a journal, without its line feed.
+#[tactic(auto, unfolding(crate::specs::Header::header_words))]
+pub fn read_header(line: &str) -> Result<[u8; 32], HeaderFault>
+    ensures read { IfOk result (λ digest. header_words digest ≡ line.now) }
+    ensures none { OnErr result
+        ((digest : List ℕ) → IsDigest digest → header_words digest ≢ line.now) }
+{
+    let Some(digits) = strip(line, "central journal 1 sha256:") else {
+        return Err(fault_of(line));
+    };
+    match read_digest(digits) {
+        Some(digest) => Ok(digest),
+        None => Err(HeaderFault::NoDigest),
+    }
+}
+
+/// Why a text that doesn't begin as a first line does is none.
+fn fault_of(line: &str) -> HeaderFault {
+    let Some(rest) = line.strip_prefix("central journal ") else {
+        return HeaderFault::NotAJournal;
+    };
+    match rest.split_once(' ') {
+        Some(("1", _)) => HeaderFault::NoDigest,
+        Some(_) => HeaderFault::OtherFormat,
+        None => HeaderFault::NotAJournal,
+    }
+}
+
+/// What follows this beginning of a text, if it begins so.
+fn strip<'a>(text: &'a str, beginning: &str) -> Option<&'a str>
+    ensures some { IfSome result (λ rest. beginning.now ++ rest.now ≡ text.entry.now) }
+    ensures none { IfNone result ((rest : List ℕ) → beginning.now ++ rest ≢ text.entry.now) }
+{
+    text.strip_prefix(beginning)
+}
+
+/// The digest whose lower case hex digits a text is.
+fn read_digest(text: &str) -> Option<[u8; 32]>
+    ensures some { IfSome result (λ digest. encode_lower digest ≡ text.now) }
+    ensures none { IfNone result
+        ((digest : List ℕ) → IsDigest digest → encode_lower digest ≢ text.now) }
+{
+    let Ok(digest) = <[u8; 32] as FromHex>::from_hex(text) else {
+        return None;
+    };
+    // Digits in upper case were read too.
+    let mut digits = [0u8; 64];
+    let Ok(()) = hex::encode_to_slice(digest, &mut digits) else {
+        return None;
+    };
+    if digits.as_slice() == text.as_bytes() {
+        Some(digest)
+    } else {
+        None
+    }
+}

@@ -1,0 +1,97 @@
+//! Where sessions note what their steps change.
+
+ghost use Rattle.std.specs.Prelude.{IfOk, IfSome};
+ghost use Rattle.journal.specs.Account.{Covers};
+ghost use Rattle.journal.specs.Entry.{IsEntryOf};
+ghost use Rattle.journal.specs.Line.{noted_state};
+ghost use Rattle.journal.specs.MadeStep.{IsOfMadeStep};
+ghost use Rattle.journal.specs.NotedStep.{line_at};
+ghost use Rattle.version_store.specs.Recording.{IsAt};
+
+use crate::entry::Entry;
+use crate::line::Noted;
+use crate::receipt::Receipt;
+use ghost_list::ListName;
+use ocpp_scalars::Instant;
+use std::alloc::AllocError;
+use version_store::RecordedStates;
+
+/// Takes down the steps that change something, in the order in which they are made, and sees to it
+/// that they are kept before any message leaves that depends on them.
+pub trait Journal<N: ListName> {
+    /// Makes the entry of a step that is about to be made, or none where nothing is noted. The
+    /// number that the step draws, if it draws one, is 0. Nobody has the book: a long message takes
+    /// its time here. On an error the step may not be made, since it couldn't be noted.
+    fn prepare(
+        &self,
+        moment: Instant,
+        point: &str,
+        noted: Noted<'_>,
+    ) -> Result<Option<Entry>, JournalFault>
+        ensures { IfOk result (λ entry. IfSome entry
+            (λ e. IsEntryOf e (line_at moment point.now (noted_state noted.entry)))) };
+
+    /// Notes a step by its entry and the number that it drew, between what was recorded of the book
+    /// before it and with it. Whoever notes it has had the book since before the step, so this waits
+    /// for nothing that takes long.
+    fn note(&self, entry: Entry, number: u64, before: &RecordedStates<N>, after: &RecordedStates<N>)
+        requires { IsOfMadeStep entry number
+            (IsAt N.is_recorded before.now) (IsAt N.is_recorded after.now) };
+
+    /// Waits until all is kept that led to what was recorded by some moment, whoever noted it. The
+    /// session doesn't have the book. On an error no message may leave that depends on any of it.
+    fn receipt(&self, recorded: &RecordedStates<N>) -> Result<Receipt<N>, JournalFault>
+        ensures { IfOk result (λ receipt. Covers N.is_recorded receipt recorded.now) };
+
+    /// Waits until all that is noted by now is kept, whoever noted it.
+    fn write_out(&self) -> Result<(), JournalFault>;
+}
+
+/// Why a step can't be noted, or what is noted can't be kept.
+#[derive(Clone, Copy, PartialEq, Eq)]
+pub enum JournalFault {
+    /// Nothing can be written at present.
+    Unwritable,
+    /// Memory ran out.
+    OutOfMemory,
+}
+
+impl From<AllocError> for JournalFault {
+    fn from(_: AllocError) -> JournalFault {
+        JournalFault::OutOfMemory
+    }
+}
+
+/// Notes nothing.
+#[derive(Clone, Copy, Default)]
+pub struct NoJournal;
+
+impl<N: ListName> Journal<N> for NoJournal {
+    fn prepare(
+        &self,
+        _moment: Instant,
+        _point: &str,
+        _noted: Noted<'_>,
+    ) -> Result<Option<Entry>, JournalFault> {
+        Ok(None)
+    }
+
+    fn note(
+        &self,
+        _entry: Entry,
+        _number: u64,
+        _before: &RecordedStates<N>,
+        _after: &RecordedStates<N>,
+    )
+        requires { IsOfMadeStep _entry _number
+            (IsAt N.is_recorded _before.now) (IsAt N.is_recorded _after.now) }
+    {}
+
+    fn receipt(&self, recorded: &RecordedStates<N>) -> Result<Receipt<N>, JournalFault> {
+        Receipt::of_nothing(recorded).ok_or(JournalFault::Unwritable)
+    }
+
+    fn write_out(&self) -> Result<(), JournalFault> {
+        Ok(())
+    }
+}

@@ -1,0 +1,210 @@
+//! A line of a journal, and how it is written.
+
+ghost use Rattle.std.specs.Prelude.{◌≡◌, string_bytes};
+ghost use Rattle.ocpp_scalars.specs.Appending.{Appends};
+ghost use Rattle.journal.specs.Entry.{before_number, behind_number, drawn_text, noted_before, noted_behind};
+ghost use Rattle.journal.specs.ByCases.Line.{without_returns};
+ghost use Rattle.journal.specs.Line.{line_text, noted_state, number_written, numbered_frame, on_one_line, side_word, word_of};
+
+use messages::Side;
+use ocpp_scalars::{Instant, push_instant, push_integer};
+use std::alloc::AllocError;
+use std::marker::Model;
+
+/// What a line notes of its point.
+#[derive(Clone, Copy, PartialEq, Eq)]
+pub enum Noted<'a> {
+    /// A message from this side whose step was made. The number is the one that the step drew: of
+    /// the transaction that began, of the call that was added for an audit or a remote start, or
+    /// else the version of the store after it.
+    Message {
+        sender: Side,
+        number: u64,
+        frame: &'a str,
+    },
+    /// The point's reply that confirmed its call, over this link.
+    Reply {
+        link: u64,
+        frame: &'a str,
+    },
+    /// The reply to the audit whose call has this number was judged.
+    Verdict {
+        call: u64,
+        frame: &'a str,
+    },
+    /// The point got this link.
+    Attached {
+        link: u64,
+    },
+    /// The call of this number went out over this link.
+    Sent {
+        link: u64,
+        call: u64,
+    },
+    /// This link was lost.
+    Lost {
+        link: u64,
+    },
+}
+
+/// A line of a journal.
+#[derive(Drop)]
+pub struct Line<'a> {
+    pub moment: Instant,
+    /// The identity of the point.
+    pub point: &'a str,
+    pub noted: Noted<'a>,
+}
+
+impl<'a> Model for Line<'a> {
+    ghost use Rattle.journal.specs.Line.{LineState, noted_state};
+
+    ghost Value = { LineState };
+
+    ghost view = { λ l. record {
+      moment = l.moment;
+      point = l.point.now;
+      noted = noted_state l.noted;
+    } };
+}
+
+impl Noted<'_> {
+    /// The second word of its line.
+    pub(crate) fn word(&self) -> &'static str
+        ensures { result.now ≡ word_of (noted_state self.now) }
+    {
+        match self {
+            Noted::Message { sender, .. } => side_word(*sender),
+            Noted::Reply { .. } => "reply",
+            Noted::Verdict { .. } => "verdict",
+            Noted::Attached { .. } => "attached",
+            Noted::Sent { .. } => "sent",
+            Noted::Lost { .. } => "lost",
+        }
+    }
+
+    /// The number that its step draws, if it draws one.
+    pub(crate) fn number(&self) -> Option<u64>
+        ensures { result ≡ number_written (noted_state self.now) }
+    {
+        match self {
+            Noted::Message { number, .. } => Some(*number),
+            Noted::Attached { link } => Some(*link),
+            Noted::Sent { call, .. } => Some(*call),
+            Noted::Reply { .. } | Noted::Verdict { .. } | Noted::Lost { .. } => None,
+        }
+    }
+}
+
+fn side_word(side: Side) -> &'static str
+    ensures { result.now ≡ side_word side }
+{
+    match side {
+        Side::Operator => "operator",
+        Side::Point => "point",
+    }
+}
+
+/// Appends a line, with its line feed.
+pub fn push_line(text: &mut String, line: &Line<'_>) -> Result<(), AllocError>
+    ensures { Appends result (string_bytes text.old) (string_bytes text.new) (line_text line.now) }
+{
+    push_before_number(text, line)?;
+    push_drawn(text, line.noted.number())?;
+    push_behind_number(text, line)
+}
+
+/// Appends the number that a step draws, if it draws one.
+fn push_drawn(text: &mut String, number: Option<u64>) -> Result<(), AllocError>
+    ensures { Appends result (string_bytes text.old) (string_bytes text.new) (drawn_text number) }
+{
+    match number {
+        Some(number) => push_integer(text, number),
+        None => Ok(()),
+    }
+}
+
+/// Appends a line up to the number that its step draws. One that draws none is whole but for its
+/// line feed.
+pub(crate) fn push_before_number(text: &mut String, line: &Line<'_>) -> Result<(), AllocError>
+    ensures { Appends result (string_bytes text.old) (string_bytes text.new)
+        (before_number line.now) }
+{
+    push_instant(text, line.moment)?;
+    text.push(' ')?;
+    text.push_str(line.noted.word())?;
+    text.push(' ')?;
+    text.push_str(line.point)?;
+    text.push(' ')?;
+    push_noted_before(text, &line.noted)
+}
+
+/// Appends what stands between the point and the number that is drawn, or the line's end.
+fn push_noted_before(text: &mut String, noted: &Noted<'_>) -> Result<(), AllocError>
+    ensures { Appends result (string_bytes text.old) (string_bytes text.new)
+        (noted_before (noted_state noted.now)) }
+{
+    match noted {
+        Noted::Message { .. } | Noted::Attached { .. } => Ok(()),
+        Noted::Sent { link, .. } => {
+            push_integer(text, *link)?;
+            text.push(' ')?;
+            Ok(())
+        }
+        Noted::Reply { link, frame } => push_numbered_frame(text, *link, frame),
+        Noted::Verdict { call, frame } => push_numbered_frame(text, *call, frame),
+        Noted::Lost { link } => push_integer(text, *link),
+    }
+}
+
+/// Appends what stands behind the number that the line's step draws, and the line feed.
+pub(crate) fn push_behind_number(text: &mut String, line: &Line<'_>) -> Result<(), AllocError>
+    ensures { Appends result (string_bytes text.old) (string_bytes text.new)
+        (behind_number line.now) }
+{
+    if let Noted::Message { frame, .. } = &line.noted {
+        text.push(' ')?;
+        push_on_one_line(text, frame)?;
+    }
+    text.push('\n')?;
+    Ok(())
+}
+
+/// Appends a number and a message.
+fn push_numbered_frame(text: &mut String, number: u64, frame: &str) -> Result<(), AllocError>
+    ensures { Appends result (string_bytes text.old) (string_bytes text.new)
+        (numbered_frame number frame.now) }
+{
+    push_integer(text, number)?;
+    text.push(' ')?;
+    push_on_one_line(text, frame)
+}
+
+/// Appends a message on one line: a line feed or a carriage return in it stands as a tab, which is
+/// the same to JSON.
+fn push_on_one_line(text: &mut String, frame: &str) -> Result<(), AllocError>
+    ensures { Appends result (string_bytes text.old) (string_bytes text.new)
+        (on_one_line frame.now) }
+{
+    let mut rest = frame;
+    while let Some((piece, others)) = rest.split_once('\n') {
+        push_without_returns(text, piece)?;
+        text.push('\t')?;
+        rest = others;
+    }
+    push_without_returns(text, rest)
+}
+
+/// Appends a text in which each carriage return stands as a tab.
+fn push_without_returns(text: &mut String, piece: &str) -> Result<(), AllocError>
+    ensures { Appends result (string_bytes text.old) (string_bytes text.new)
+        (without_returns piece.now) }
+{
+    let mut rest = piece;
+    while let Some((before, others)) = rest.split_once('\r') {
+        text.push_str(before)?;
+        text.push('\t')?;
+        rest = others;
+    }
+    text.push_str(rest)
+}

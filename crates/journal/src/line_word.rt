@@ -1,0 +1,34 @@
+//! The second word of a line, which tells what it notes.
+
+ghost use Rattle.std.specs.Prelude.{◌≡◌};
+ghost use Rattle.journal.specs.ByCases.Line.{word_named};
+
+/// What a line notes, by its second word.
+#[derive(Clone, Copy, PartialEq, Eq)]
+pub(crate) enum LineWord {
+    Operator,
+    Point,
+    Reply,
+    Verdict,
+    Attached,
+    Sent,
+    Lost,
+}
+
+impl LineWord {
+    /// The one that a word is, if it is one.
+    pub(crate) fn named(word: &str) -> Option<LineWord>
+        ensures { result ≡ word_named word.now }
+    {
+        match word {
+            "operator" => Some(LineWord::Operator),
+            "point" => Some(LineWord::Point),
+            "reply" => Some(LineWord::Reply),
+            "verdict" => Some(LineWord::Verdict),
+            "attached" => Some(LineWord::Attached),
+            "sent" => Some(LineWord::Sent),
+            "lost" => Some(LineWord::Lost),
+            _ => None,
+        }
+    }
+}

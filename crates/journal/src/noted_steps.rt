@@ -1,0 +1,160 @@
+//! Steps that were noted, and not written yet.
+
+ghost use Rattle.std.specs.Prelude.{◌≡◌, ◌∷◌, ◌++◌, [], false, true, string_bytes, IfOk, IsTrue, OnOk};
+ghost use Rattle.journal.specs.Account.{IsNoted, NotedState, texts_of};
+ghost use Rattle.journal.specs.MadeStep.{IsOfMadeStep};
+ghost use Rattle.version_store.specs.Recording.{IsAt};
+
+use crate::made_step::MadeStep;
+use crate::numbered_entry::NumberedEntry;
+use ghost_list::ListName;
+use std::alloc::{AllocError, Global};
+use std::marker::Model;
+use std::mem;
+use version_store::RecordedStates;
+
+/// Steps that were noted, and not written yet. Their entries lead from what was recorded before the
+/// first of them to what was recorded with the last one.
+#[derive(Drop)]
+pub struct NotedSteps<N: ListName> {
+    first: RecordedStates<N>,
+    entries: Vec<NumberedEntry>,
+    last: RecordedStates<N>,
+}
+
+impl<N: ListName> Model for NotedSteps<N> {
+    ghost use Rattle.journal.specs.Account.{NotedState, IsNoted};
+
+    ghost Value = { NotedState };
+
+    ghost view = { λ n. record { first = n.first; entries = n.entries.items; last = n.last } };
+
+    ghost invariant = { λ n. IsNoted
+        (record { first = n.first; entries = n.entries.items; last = n.last }) };
+}
+
+impl<N: ListName> NotedSteps<N> {
+    /// None, after these states. There is room for so many.
+    pub fn new(
+        alloc: Global,
+        states: RecordedStates<N>,
+        room: usize,
+    ) -> Result<NotedSteps<N>, AllocError>
+        ensures { IfOk result (λ noted.
+            noted ≡ record { first = states; entries = []; last = states }) }
+    {
+        Ok(NotedSteps {
+            first: states.copy(),
+            entries: Vec::with_capacity(alloc, room)?,
+            last: states,
+        })
+    }
+
+    /// Whether there are none.
+    pub fn is_empty(&self) -> bool
+        ensures { IsTrue result → self.now.entries ≡ [] }
+    {
+        self.entries.is_empty()
+    }
+
+    /// Makes room for so many more.
+    pub fn reserve(&mut self, room: usize) -> Result<(), AllocError>
+        ensures { self.new ≡ self.old }
+    {
+        self.entries.reserve(room)
+    }
+
+    /// Notes a step, where it is the next one: before it was recorded what was recorded with the
+    /// last one, and it recorded one state more. False where it isn't, or there is no room: then
+    /// nothing is noted.
+    pub fn note(&mut self, step: MadeStep<N>) -> bool
+        requires { IsOfMadeStep step.entry step.number
+            (IsAt N.is_recorded step.before) (IsAt N.is_recorded step.after) }
+        ensures noted { result ≡ true → self.new ≡ record {
+          first = self.old.first;
+          entries = self.old.entries ++ (record { entry = step.entry; number = step.number }) ∷ [];
+          last = step.after;
+        } }
+        ensures next { result ≡ true → self.old.last ≡ step.before }
+        ensures kept { result ≡ false → self.new ≡ self.old }
+    {
+        let MadeStep {
+            entry,
+            number,
+            before,
+            after,
+        } = step;
+        if !self.last.is_same(&before) || !after.is_next_of(&before) {
+            return false;
+        }
+        match self.entries.push(NumberedEntry { entry, number }) {
+            Ok(()) => {
+                self.last = after;
+                true
+            }
+            Err(_) => false,
+        }
+    }
+
+    /// Takes all steps of another, behind which none are left, in place of its own, which there are
+    /// none of. False where these aren't the next ones: then nothing is taken.
+    pub fn take(&mut self, noted: &mut NotedSteps<N>) -> bool
+        requires { self.old.entries ≡ [] }
+        ensures taken { result ≡ true → self.new ≡ noted.old }
+        ensures next { result ≡ true → self.old.last ≡ noted.old.first }
+        ensures first { self.new.first ≡ self.old.first }
+        ensures left { result ≡ true → noted.new ≡ record {
+          first = noted.old.last;
+          entries = [];
+          last = noted.old.last;
+        } }
+        ensures kept { result ≡ false → (self.new ≡ self.old) × (noted.new ≡ noted.old) }
+    {
+        if !self.last.is_same(&noted.first) {
+            return false;
+        }
+        self.first = noted.first.copy();
+        mem::swap(&mut self.entries, &mut noted.entries);
+        self.last = noted.last.copy();
+        noted.first = noted.last.copy();
+        true
+    }
+
+    /// Appends the lines of all steps to a text. Where memory runs out, some may be missing.
+    pub(crate) fn push_lines(&self, text: &mut String) -> Result<(), AllocError>
+        ensures lines { OnOk result
+            (string_bytes text.new ≡ string_bytes text.old ++ texts_of self.now.entries) }
+        ensures noted { IsNoted self.now }
+    {
+        for numbered in &self.entries {
+            numbered.entry.push(text, numbered.number)?;
+        }
+        Ok(())
+    }
+
+    /// All of them are written.
+    pub(crate) fn clear(&mut self)
+        ensures { self.new ≡ record {
+          first = self.old.last;
+          entries = [];
+          last = self.old.last;
+        } }
+    {
+        self.first = self.last.copy();
+        self.entries.clear();
+    }
+
+    /// What was recorded with the last one.
+    pub fn last(&self) -> &RecordedStates<N>
+        ensures { result.now ≡ self.now.last }
+    {
+        &self.last
+    }
+
+    /// What was recorded before the first one.
+    pub fn first(&self) -> &RecordedStates<N>
+        ensures { result.now ≡ self.now.first }
+    {
+        &self.first
+    }
+}

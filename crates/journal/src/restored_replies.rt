@@ -1,0 +1,124 @@
+//! Lines of replies, restored: a call that is confirmed, and an audit that is judged.
+
+ghost use Rattle.std.specs.Prelude.{◌≡◌, None, IfOk};
+ghost use Rattle.site_core.specs.State.{audit_job};
+ghost use Rattle.site_core.specs.declared.step.Step.TheVariants as steps;
+ghost use Rattle.texts.specs.Asked.{asked_of};
+ghost use Rattle.texts.specs.Said.{said_of};
+ghost use Rattle.journal.specs.ByCases.Restore.{Leads, confirmed, judged};
+ghost use Rattle.journal.specs.Restore.{judged_exactly, made_with};
+
+use crate::restore_fault::RestoreFault;
+use ghost_list::ListName;
+use ocpp_scalars::Refusal;
+use ocppj_frame::ReadingMemory;
+use site_core::PointId;
+use std::alloc::{AllocError, Global};
+use std::sync::ledger::Ledger;
+use sweep_compiler::{AuditJob, Judged, verdicts_are_computed};
+use texts::{Asked, SentText, asked_of, said_of};
+use version_store::Book;
+
+/// A reply that stands on a `verdict` line in place of one that was judged short of memory: read
+/// again, that might come to another verdict, and this one comes to Unsettled as it did.
+pub const UNREAD_REPLY: &str = r#"[3,"",{"status":"Accepted"}]"#;
+
+/// Confirms the call that a point's reply names, over this link.
+pub(crate) fn confirm_call<C: Ledger, A: Ledger, N: ListName>(
+    alloc: Global,
+    memory: &mut ReadingMemory,
+    book: &mut Book<C, A, N>,
+    text: &SentText<'_>,
+    link: u64,
+) -> Result<(), RestoreFault>
+    ensures { Leads (confirmed book.old.present link (asked_of text.now))
+        book.old.present result book.new.present }
+{
+    match asked_of(alloc, memory, text) {
+        Ok(
+            Asked::Confirm {
+                point,
+                call,
+                accepted,
+            },
+        ) => confirm(book, point, link, call, accepted),
+        Ok(Asked::Nothing | Asked::Respond { .. } | Asked::Step { .. }) => {
+            Err(RestoreFault::OtherStep)
+        }
+        Err(_unread) => Err(RestoreFault::OutOfMemory),
+    }
+}
+
+fn confirm<C: Ledger, A: Ledger, N: ListName>(
+    book: &mut Book<C, A, N>,
+    point: PointId,
+    link: u64,
+    call: u64,
+    accepted: bool,
+) -> Result<(), RestoreFault>
+    ensures { Leads (made_with book.old.present None (steps.Confirm point link call accepted))
+        book.old.present result book.new.present }
+{
+    match book.confirm(point, link, call, accepted) {
+        Ok(()) => Ok(()),
+        Err(refusal) => Err(RestoreFault::from(refusal)),
+    }
+}
+
+/// Judges the point's audit whose call has this number by what the point replied.
+pub(crate) fn judge_audit<C: Ledger, A: Ledger, N: ListName>(
+    alloc: Global,
+    memory: &mut ReadingMemory,
+    book: &mut Book<C, A, N>,
+    text: &SentText<'_>,
+    call: u64,
+) -> Result<(), RestoreFault>
+    ensures { Leads (judged book.old.present text.now.point call (said_of text.now)
+        (audit_job book.old.present text.now.point call))
+        book.old.present result book.new.present }
+{
+    match book.audit_job(text.point(), call) {
+        Ok(Some(job)) => judge(alloc, memory, book, text, call, job),
+        Ok(None) => Err(RestoreFault::Refused(Refusal::UnknownRequest)),
+        Err(_memory) => Err(RestoreFault::OutOfMemory),
+    }
+}
+
+fn judge<C: Ledger, A: Ledger, N: ListName>(
+    alloc: Global,
+    memory: &mut ReadingMemory,
+    book: &mut Book<C, A, N>,
+    text: &SentText<'_>,
+    call: u64,
+    job: AuditJob,
+) -> Result<(), RestoreFault>
+    ensures { Leads (made_with book.old.present None
+        (steps.Judge text.now.point call (judged_exactly job (said_of text.now))))
+        book.old.present result book.new.present }
+{
+    let judged = judged_by(alloc, memory, text, job)?;
+    let point = PointId::copied(alloc, text.point())?;
+    match book.judge(point, call, judged) {
+        Ok(()) => Ok(()),
+        Err((refusal, _judged)) => Err(RestoreFault::from(refusal)),
+    }
+}
+
+/// The verdict on what a point replied to its audit. One that is short of memory is none.
+fn judged_by(
+    alloc: Global,
+    memory: &mut ReadingMemory,
+    text: &SentText<'_>,
+    job: AuditJob,
+) -> Result<Judged, AllocError>
+    ensures { IfOk result (λ judged. judged ≡ judged_exactly job (said_of text.now)) }
+{
+    // A law: nothing runs.
+    verdicts_are_computed();
+    let said = said_of(alloc, memory, text)?;
+    let judged = Judged::make(alloc, job, said);
+    if judged.short() {
+        return Err(AllocError);
+    }
+    Ok(judged)
+}

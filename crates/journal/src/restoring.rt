@@ -1,0 +1,145 @@
+//! A line of a journal, restored: its step made once more by the book's own call, and the number
+//! that it draws compared with the one that is written.
+
+ghost use Rattle.std.specs.Prelude.{◌≡◌, Ok, Some, true, IfErr, IfOk};
+ghost use Rattle.texts.specs.Asked.{asked_of};
+ghost use Rattle.journal.specs.ByCases.Restore.{Leads, changed};
+ghost use Rattle.journal.specs.Restore.{IsFaultOf, KeepsPass, change_asked, is_change, made_with, restored};
+
+use crate::drawn_number::{compare, number_drawn};
+use crate::line::{Line, Noted};
+use crate::restore_fault::RestoreFault;
+use crate::restored_links::{attach, lose, send};
+use crate::restored_replies::{confirm_call, judge_audit};
+use ghost_list::ListName;
+use messages::Side;
+use ocppj_frame::ReadingMemory;
+use site_core::Step;
+use std::alloc::Global;
+use std::sync::ledger::Ledger;
+use texts::{Asked, SentText, asked_of};
+use version_store::{Book, Pass};
+
+/// Makes the step of a line, where it is made and draws the number that is written. Only after
+/// `OtherNumber` it was made all the same.
+#[tactic(auto, unfolding(crate::specs::Restore::restored))]
+pub(crate) fn restore_line<C: Ledger, A: Ledger, N: ListName>(
+    alloc: Global,
+    memory: &mut ReadingMemory,
+    book: &mut Book<C, A, N>,
+    pass: &mut Pass<C, A>,
+    line: &Line<'_>,
+) -> Result<(), RestoreFault>
+    ensures leads { Leads (restored book.old.present line.now)
+        book.old.present result book.new.present }
+    ensures pass { KeepsPass pass.old pass.new }
+{
+    match line.noted {
+        Noted::Message {
+            sender,
+            number,
+            frame,
+        } => {
+            let text = SentText::new(line.moment, sender, line.point, frame);
+            change(alloc, memory, book, pass, &text, number)
+        }
+        Noted::Reply { link, frame } => {
+            let text = SentText::new(line.moment, Side::Point, line.point, frame);
+            confirm_call(alloc, memory, book, &text, link)
+        }
+        Noted::Verdict { call, frame } => {
+            let text = SentText::new(line.moment, Side::Point, line.point, frame);
+            judge_audit(alloc, memory, book, &text, call)
+        }
+        Noted::Attached { link } => attach(alloc, book, pass, line.point, link),
+        Noted::Sent { link, call } => send(alloc, book, line.point, link, call),
+        Noted::Lost { link } => lose(alloc, book, line.point, link),
+    }
+}
+
+// ---- messages
+
+/// Makes the change that a message asks for, which has to draw this number.
+fn change<C: Ledger, A: Ledger, N: ListName>(
+    alloc: Global,
+    memory: &mut ReadingMemory,
+    book: &mut Book<C, A, N>,
+    pass: &mut Pass<C, A>,
+    text: &SentText<'_>,
+    number: u64,
+) -> Result<(), RestoreFault>
+    ensures leads { Leads (changed book.old.present number (asked_of text.now))
+        book.old.present result book.new.present }
+    ensures pass { KeepsPass pass.old pass.new }
+{
+    match change_asked(alloc, memory, text) {
+        Ok(step) => make_change(book, pass, step, number),
+        Err(fault) => Err(fault),
+    }
+}
+
+/// The change that a message asks for.
+fn change_asked(
+    alloc: Global,
+    memory: &mut ReadingMemory,
+    text: &SentText<'_>,
+) -> Result<Step, RestoreFault>
+    ensures step { IfOk result (λ step. change_asked (asked_of text.now) ≡ Ok step) }
+    ensures change { IfOk result (λ step. is_change step ≡ true) }
+    ensures fault { IfErr result (IsFaultOf (change_asked (asked_of text.now))) }
+{
+    match asked_of(alloc, memory, text) {
+        Ok(Asked::Step { step, .. }) => {
+            if is_change(&step) {
+                Ok(step)
+            } else {
+                Err(RestoreFault::OtherStep)
+            }
+        }
+        Ok(Asked::Nothing | Asked::Respond { .. } | Asked::Confirm { .. }) => {
+            Err(RestoreFault::OtherStep)
+        }
+        Err(_unread) => Err(RestoreFault::OutOfMemory),
+    }
+}
+
+/// Whether a step changes what a point has, or asks the point for something.
+pub(crate) fn is_change(step: &Step) -> bool
+    ensures { result ≡ is_change step.now }
+{
+    match step {
+        Step::Install { .. }
+        | Step::Clear { .. }
+        | Step::Start { .. }
+        | Step::Stop { .. }
+        | Step::Audit { .. }
+        | Step::RemoteStart { .. } => true,
+        Step::Take(_)
+        | Step::Compile(_)
+        | Step::Answer(_)
+        | Step::Finish
+        | Step::Attach(_)
+        | Step::Send { .. }
+        | Step::Confirm { .. }
+        | Step::Lost { .. }
+        | Step::Judge { .. }
+        | Step::Status(_) => false,
+    }
+}
+
+fn make_change<C: Ledger, A: Ledger, N: ListName>(
+    book: &mut Book<C, A, N>,
+    pass: &mut Pass<C, A>,
+    step: Step,
+    number: u64,
+) -> Result<(), RestoreFault>
+    requires { is_change step ≡ true }
+    ensures leads { Leads (made_with book.old.present (Some number) step)
+        book.old.present result book.new.present }
+    ensures pass { KeepsPass pass.old pass.new }
+{
+    match book.make_step(pass, step) {
+        Ok(reply) => compare(number, number_drawn(&reply, book.version())),
+        Err(refused) => Err(RestoreFault::from(refused.refusal)),
+    }
+}

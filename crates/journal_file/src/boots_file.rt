@@ -1,0 +1,121 @@
+//! The file of boots: which points booted and may have forgotten their profiles. What it says is
+//! known by no other file, and nothing else depends on it.
+
+use crate::opening::{OWN_FILE, path_in};
+use journal::split_line;
+use site_rules::Site;
+use site_status::{Boot, BootLine, read_boot_line};
+use std::alloc::{AllocError, AllocGlobal, Global};
+use std::fs::{File, OpenOptions};
+use std::io;
+use std::io::{ErrorKind, Read};
+use std::os::unix::fs::OpenOptionsExt;
+use std::rt::Files;
+
+/// The file's name in its folder.
+const NAME: &str = "boots";
+
+/// A file of boots has a line for each point of a site: fewer bytes than these.
+const LONGEST_FILE: u64 = 1_048_576;
+
+/// The file of boots of a folder, opened to be written, and made where there is none. None where that
+/// fails, which is said on standard error.
+pub fn open_boots<R: Files<File = File> + Eprint + AllocGlobal>(
+    rt: &R,
+    folder: &str,
+) -> Result<Option<File>, AllocError> {
+    let path = path_in(rt.alloc(), folder, NAME)?;
+    let mut options = OpenOptions::new();
+    let options = options.write(true).create(true).mode(OWN_FILE);
+    match options.open(rt, path.as_str()) {
+        Ok(file) => Ok(Some(file)),
+        Err(error) => {
+            let _ = eprintln!(rt; "central: {path}: {error}");
+            Ok(None)
+        }
+    }
+}
+
+/// Reads the file of boots of a folder: the boot of each point of a site, at the point's place, if it
+/// has one. Lines that are none, or of no point of the site, are left out, and it is said on standard
+/// error how many. Where the file can't be read, that is said, and no point has a boot.
+pub fn read_boots<R: Files<File = File> + Eprint + AllocGlobal>(
+    rt: &R,
+    folder: &str,
+    site: &Site,
+) -> Result<Vec<Option<Boot>>, AllocError> {
+    let mut boots = no_boots(rt.alloc(), site.len())?;
+    let path = path_in(rt.alloc(), folder, NAME)?;
+    match read_file(rt, path.as_str()) {
+        Ok(bytes) => {
+            let left_out = take_lines(&mut boots, site, bytes.as_slice());
+            if left_out > 0 {
+                let _ = eprintln!(rt;
+                    "central: {path}: {left_out} of its lines are of no point's boot, and are left out"
+                );
+            }
+        }
+        Err(error) if error.kind() == ErrorKind::NotFound => {}
+        Err(error) if error.kind() == ErrorKind::OutOfMemory => return Err(AllocError),
+        Err(error) => {
+            let _ = eprintln!(rt; "central: {path}: {error}");
+        }
+    }
+    Ok(boots)
+}
+
+fn no_boots(alloc: Global, points: usize) -> Result<Vec<Option<Boot>>, AllocError> {
+    let mut boots = Vec::with_capacity(alloc, points)?;
+    for _point in 0..points {
+        boots.push(None)?;
+    }
+    Ok(boots)
+}
+
+fn read_file<R: Files<File = File> + AllocGlobal>(rt: &R, path: &str) -> io::Result<Vec<u8>> {
+    let file = File::open(rt, path)?;
+    let mut bytes = Vec::new(rt.alloc());
+    file.take(LONGEST_FILE).read_to_end(&mut bytes)?;
+    Ok(bytes)
+}
+
+/// Takes the boots of these lines. Of two of a point the later one stays. Returns how many lines are
+/// left out, a torn last one among them.
+fn take_lines(boots: &mut Vec<Option<Boot>>, site: &Site, bytes: &[u8]) -> u64 {
+    let mut left_out = 0u64;
+    let mut rest = bytes;
+    for _line in 0..bytes.len() {
+        let Some((line, others)) = split_line(rest) else {
+            break;
+        };
+        if !take_line(boots, site, line) {
+            left_out = left_out.saturating_add(1);
+        }
+        rest = others;
+    }
+    if rest.is_empty() {
+        left_out
+    } else {
+        left_out.saturating_add(1)
+    }
+}
+
+/// Takes the boot of a line. False where it has none.
+fn take_line(boots: &mut Vec<Option<Boot>>, site: &Site, line: &[u8]) -> bool {
+    let Ok(text) = std::str::from_utf8(line) else {
+        return false;
+    };
+    let Some(BootLine { point, boot }) = read_boot_line(text) else {
+        return false;
+    };
+    let Some(place) = site.place_of(point) else {
+        return false;
+    };
+    match boots.get_mut(place) {
+        Some(kept) => {
+            *kept = Some(boot);
+            true
+        }
+        None => false,
+    }
+}

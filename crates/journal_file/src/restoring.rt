@@ -1,0 +1,243 @@
+//! The book of a site that is run, from the journal of its folder.
+
+ghost use Rattle.std.specs.Prelude.{◌≡◌};
+
+use crate::folder_fault::FolderFault;
+use crate::journal_file::JournalFile;
+use crate::journal_lines::{JournalLines, Lines};
+use crate::named_file::NamedFile;
+use crate::opening::OpenJournal;
+use crate::rejections::Rejections;
+use crate::restored_journal::RestoredJournal;
+use crate::system_clock::SystemClock;
+use ghost_list::{ListName, Unnamed};
+use journal::{Unrestored, lose_links, push_header, restore, split_line};
+use ocpp_scalars::{Instant, Moments};
+use replay::Progress;
+use site_core::Machine;
+use site_status::RejectedCalls;
+use std::alloc::{AllocGlobal, Global};
+use std::fs::File;
+use std::rt::{Clock, Files};
+use std::sync::Wait;
+use std::sync::ledger::Ledger;
+use version_store::{Book, Pass, Shared};
+
+/// The number of a part's first line, as the part is counted.
+const FIRST_OF_PART: u64 = 2;
+
+/// What a site has when it is run.
+#[derive(Drop)]
+pub struct Resumed {
+    pub points: u64,
+    pub profiles: u64,
+    pub transactions: u64,
+    /// Calls that points haven't confirmed.
+    pub calls: u64,
+    /// The calls that each point rejected, at its place in the site.
+    pub rejected: Vec<RejectedCalls>,
+}
+
+/// Restores the book that sessions will share from its journal, with a pass of its own. Returns its
+/// journal, in which all stands, and what the site has then.
+pub fn restore_shared<
+    C: Ledger,
+    A: Ledger,
+    R: Files<File = File> + Eprint + AllocGlobal + Clock + Wait + Copy + Drop,
+    N: ListName,
+>(
+    rt: &R,
+    opened: OpenJournal,
+    digest: &[u8; 32],
+    shared: &Shared<C, A, N>,
+    pass: Pass<C, A>,
+    syncs: Unnamed,
+) -> Result<(JournalFile<R, N>, Resumed), FolderFault>
+    requires { syncs.name ≡ N.companion }
+{
+    let mut pass = pass;
+    let Some(now) = (SystemClock { rt }).now() else {
+        return Err(FolderFault::Clock);
+    };
+    let mut book = shared.lock(rt);
+    let mut rejections = Rejections::new(rt.alloc(), book.present().site().len())?;
+    let (restored, added) = restore_book(
+        rt,
+        opened,
+        digest,
+        &mut book,
+        &mut pass,
+        &mut rejections,
+        now,
+    )?;
+    let resumed = count_resumed(book.present(), rejections.into_points());
+    let states = book.recorded();
+    drop(book);
+    let journal = JournalFile::make(*rt, restored, added.as_str(), states, syncs)?;
+    let kept = journal.keep_all();
+    // No thread writes its lines yet.
+    journal.write_said();
+    match kept {
+        Ok(()) => Ok((journal, resumed)),
+        Err(_) => Err(FolderFault::Write),
+    }
+}
+
+/// Restores a book from its journal, each step with what it drew, and takes the links from all
+/// points. A journal that is new, or was written with another site file, gets a line that names this
+/// one. A last line that is torn is cut: nothing that it says was answered. Returns the journal, and
+/// the lines that are to be added to it.
+fn restore_book<
+    C: Ledger,
+    A: Ledger,
+    R: Files<File = File> + AllocGlobal + Eprint + Clock,
+    N: ListName,
+>(
+    rt: &R,
+    opened: OpenJournal,
+    digest: &[u8; 32],
+    book: &mut Book<C, A, N>,
+    pass: &mut Pass<C, A>,
+    rejections: &mut Rejections,
+    now: Instant,
+) -> Result<(RestoredJournal, String), FolderFault> {
+    let alloc = rt.alloc();
+    let mut opened = opened;
+    let mut journal = JournalLines::new(alloc);
+    let restored = restore_lines(rt, &mut opened.lines, &mut journal, book, pass, rejections);
+    let is_of_this_site = say_other_site(rt, &opened.lines, &journal, digest);
+    restored?;
+    let kept = RestoredJournal::cut_torn(rt, opened, &journal)?;
+    let mut added = String::new(alloc);
+    if !is_of_this_site {
+        push_header(alloc, &mut added, digest)?;
+    }
+    match lose_links(alloc, book, now, &mut added) {
+        Ok(()) => Ok((kept, added)),
+        // Each point that has a link may lose it, if memory lasts.
+        Err(_) => Err(FolderFault::OutOfMemory),
+    }
+}
+
+/// Restores a book from the lines of a journal. Where that takes long it is said how many are read.
+fn restore_lines<C: Ledger, A: Ledger, R: AllocGlobal + Eprint + Clock, N: ListName>(
+    rt: &R,
+    file: &mut NamedFile,
+    journal: &mut JournalLines,
+    book: &mut Book<C, A, N>,
+    pass: &mut Pass<C, A>,
+    rejections: &mut Rejections,
+) -> Result<(), FolderFault> {
+    let mut progress = Progress::of_lines(rt);
+    for _part in 0..u64::MAX {
+        progress.say_lines(rt, journal.count());
+        let Some(lines) = journal.next(rt, file)? else {
+            break;
+        };
+        restore_part(rt.alloc(), lines, book, pass, rejections)?;
+    }
+    Ok(())
+}
+
+/// Restores a book from lines, and takes in which calls the points rejected. Before such a reply its
+/// call is the first one of its point.
+fn restore_part<C: Ledger, A: Ledger, N: ListName>(
+    alloc: Global,
+    lines: Lines<'_>,
+    book: &mut Book<C, A, N>,
+    pass: &mut Pass<C, A>,
+    rejections: &mut Rejections,
+) -> Result<(), FolderFault> {
+    // What isn't restored yet, and the number of its first line.
+    let (mut left, mut first) = (lines.bytes, lines.first);
+    let (mut rest, mut number) = (left, first);
+    for _line in 0..lines.bytes.len() {
+        let Some((line, others)) = split_line(rest) else {
+            break;
+        };
+        if rejections.is_of_rejection(line)? {
+            let length = left.len().saturating_sub(rest.len());
+            restore_from(alloc, first, left.split_at(length).0, book, pass)?;
+            rejections.take_in(book.present(), line)?;
+            left = rest;
+            first = number;
+        }
+        rest = others;
+        number = number.saturating_add(1);
+    }
+    restore_from(alloc, first, left, book, pass)
+}
+
+/// Restores a book from lines of which the first one has this number.
+fn restore_from<C: Ledger, A: Ledger, N: ListName>(
+    alloc: Global,
+    first: u64,
+    lines: &[u8],
+    book: &mut Book<C, A, N>,
+    pass: &mut Pass<C, A>,
+) -> Result<(), FolderFault> {
+    match restore(alloc, book, pass, lines) {
+        Ok(_) => Ok(()),
+        Err(Unrestored { line, fault }) => {
+            // They are counted as if one line stood before them.
+            let line = line.saturating_sub(FIRST_OF_PART).saturating_add(first);
+            Err(FolderFault::Unrestored(Unrestored { line, fault }))
+        }
+    }
+}
+
+/// Returns whether the lines that were read go on with the site file of this digest. Says so where
+/// they were written with another one.
+pub fn say_other_site<R: Eprint>(
+    rt: &R,
+    file: &NamedFile,
+    journal: &JournalLines,
+    digest: &[u8; 32],
+) -> bool {
+    match journal.site() {
+        Some(site) if site == *digest => true,
+        Some(_) => {
+            let _ = eprintln!(rt;
+                "central: {}: it was begun with another site file; its lines are tried with this one",
+                file.path
+            );
+            false
+        }
+        None => false,
+    }
+}
+
+/// What the points of a site have, which rejected these calls.
+fn count_resumed(machine: &Machine, rejected: Vec<RejectedCalls>) -> Resumed {
+    let site = machine.site();
+    let mut resumed = Resumed {
+        points: site.len() as u64,
+        profiles: 0,
+        transactions: 0,
+        calls: 0,
+        rejected,
+    };
+    for place in 0..site.len() {
+        if let Some(point) = site.point(place) {
+            resumed.add_point(machine, point.id);
+        }
+    }
+    resumed
+}
+
+impl Resumed {
+    /// Adds what the point of an identity has.
+    fn add_point(&mut self, machine: &Machine, point: &str) {
+        self.calls = self.calls.saturating_add(machine.outbox_len(point) as u64);
+        let Some(book) = machine.book_of(point) else {
+            return;
+        };
+        let view = book.view();
+        self.profiles = self.profiles.saturating_add(view.rows.len() as u64);
+        for start in view.starts {
+            if start.is_some() {
+                self.transactions = self.transactions.saturating_add(1);
+            }
+        }
+    }
+}

@@ -1,3 +1,0 @@
-pub mod AccountLemmas
-pub mod SurvivalLemmas
-pub mod SyncLemmas

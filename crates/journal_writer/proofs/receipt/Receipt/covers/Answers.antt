@@ -1,9 +1,0 @@
--- What it shows is what was recorded when it was given.
-use Rattle.std.specs.Prelude.{option_map}
-use Rattle.journal_writer.proofs.SyncLemmas.{covers}
-use Rattle.journal_writer.proofs.receipt.Receipt.covers.Goals as goal
-
-pub returns : goal.returns
-returns g c = λ yes.
-    covers g.N.ChronicleName.is_recorded c.self.inside.recorded c.args.recorded.now (option_map (λ f. f.entries) c.self.inside.syncs)
-    c.args.self.now c.self.view_is c.self.invariant (c.is_at_least.ensures yes)

@@ -1,6 +1,0 @@
--- By induction over the history.
-use Rattle.site_journal.proofs.ForgettingLemmas.{forgetting}
-use Rattle.site_journal.proofs.forgetting.requests_can_be_left_out.Goals as goal
-
-pub returns : goal.returns
-returns c = forgetting
