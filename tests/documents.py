@@ -4,7 +4,7 @@
 TOP is the repository, by default the one that this file stands in. First it prints a table: each page's size, the mean and
 the longest of its sentences in words, and the words that it should do without. What is compared:
 
-- each page with its size, its sentences and the words of WORDS;
+- each page with its size, its sentences and the words of WORDS; comments and the help with CODE_WORDS;
 - the table of limits in COMMANDS with each crate's specs/Limits.antt and the limits of the command line, both ways; that
   no other page has one of the large numbers; the numbers in sentences and in the help with the limits;
 - the actions in PROTOCOL, and those that DIFFERENCES says are there, with messages/specs/ActionKind.antt;
@@ -194,6 +194,45 @@ def word_problems(top, files):
     for page in documents_of(files):
         for word, count in measures_of(top, page)[3].items():
             yield f"{page}: '{word}' {count} times, in place of {WORDS[word][1]}"
+
+
+COMMENT = re.compile(r"\s*(?:///|//!|//|--) ?(.*)")
+# Words that a comment or the help should do without: those of pages but for two, which are names in code.
+CODE_WORDS = {
+    **{word: row for word, row in WORDS.items() if word not in ("ask", "plant")},
+    "What ..": (r"(?:^|(?<=[.!?:] ))What\b", "a noun: the value, the lines that .."),
+    "so long": (r"\bso (?:long|much)\b(?! as)", "N seconds, this long"),
+    "nobody": (r"\b(?:nobody|somebody)\b", "no thread, no client, a user"),
+}
+HELP_FILES = ("crates/command_line/src/help_text.rt", "crates/command_line/src/command_rows.rt")
+
+
+def comments_of(text):
+    """The comments of a source: for each block of lines its first line's number, and its text with CODE for code."""
+    block, first = [], 0
+    for number, line in enumerate([*text.split("\n"), ""], 1):
+        found = COMMENT.fullmatch(line)
+        if found and found[1]:
+            first = first if block else number
+            block.append(found[1])
+        elif block:
+            yield first, re.sub(r"`[^`]*`", "CODE", " ".join(block))
+            block = []
+
+
+def code_word_problems(top, files):
+    """The same in comments and in the help."""
+    for name in files:
+        if not re.fullmatch(r"crates/.*\.(?:rt|antt)", name):
+            continue
+        text = text_of(top, name)
+        blocks = list(comments_of(text))
+        if name in HELP_FILES:
+            blocks += [(1 + text.count("\n", 0, found.start()), found[1]) for found in re.finditer(r'"((?:[^"\\\\]|\\\\.)*)"', text)]
+        for number, block in blocks:
+            for word, (pattern, better) in CODE_WORDS.items():
+                if re.search(pattern, block, re.IGNORECASE if word.islower() else 0):
+                    yield f"{name}:{number}: '{word}' in place of {better}"
 
 
 # ---- limits
@@ -522,6 +561,7 @@ TESTS = {
     "sizes": size_problems,
     "sentences": sentence_problems,
     "words": word_problems,
+    "words in code": code_word_problems,
     "limits": limit_problems,
     "limits on one page": repeated_limit_problems,
     "limits in words": limit_in_words_problems,
