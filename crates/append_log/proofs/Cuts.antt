@@ -1,4 +1,4 @@
--- What a crash leaves while a file is cut behind its whole lines.
+-- The bytes that a crash leaves while a file is cut behind its whole lines.
 use Rattle.std.proofs.Common.{◌≡◌, ℕ, true, false, List, [], ◌∷◌, ◌++◌, length, ◌≤◌, take, drop, refl, sym, ◌∙◌, ap, subst, arith, append_assoc, length-append, take-append-drop}
 use Rattle.append_log.specs.Contents.{Contents, IsFirstPart, file_of, only_synced}
 use Rattle.append_log.specs.History.{History, LeavesOnly, AtEachMoment}
@@ -17,7 +17,7 @@ module _ (contents : Contents) (usable : contents.has_failed ≡ false) (end : �
   synced_of_file : IsFirstPart (whole_lines contents.synced) (whole_lines file)
   synced_of_file = lines_of_part contents.synced file (contents.appended, refl)
 
-  -- as it was
+  -- before the cut
   leaves_old : LeavesOnly (HasLinesBetween contents.synced file) contents
   leaves_old left may =
       let part = may.first_part usable in
@@ -29,7 +29,7 @@ module _ (contents : Contents) (usable : contents.has_failed ≡ false) (end : �
         );
       }
 
-  -- with the cut, or a part of what is cut off
+  -- after the cut, with none, some or all of the bytes cut off
   cut_leaves : (left behind : List ℕ) → left ≡ take end file ++ behind → IsFirstPart left file → HasLinesBetween contents.synced file left
   cut_leaves left behind is part =
       let whole : IsFirstPart (whole_lines (take end file)) (whole_lines left) = lines_of_part (take end file) left (behind, is) in
@@ -54,7 +54,7 @@ module _ (contents : Contents) (usable : contents.has_failed ≡ false) (end : �
       still [] none = (drop end file, refl)
       still (byte ∷ behind) none = absurd (cc none.1)
 
-  -- what was on the disk of the whole lines is in front of the cut
+  -- the whole lines on disk are in front of the cut
   leaves_failed : LeavesOnly (HasLinesOf contents.synced) (uncut end contents)
   leaves_failed left may =
       let lines = whole_lines contents.synced in

@@ -13,7 +13,7 @@ part_self bytes = ([], sym (append-nil bytes))
 pub part_of_part : (part middle all : List ℕ) → IsFirstPart part middle → IsFirstPart middle all → IsFirstPart part all
 part_of_part part middle all (rest, is) (more, all_is) = (rest ++ more, all_is ∙ ap (λ (l : List ℕ). l ++ more) is ∙ append_assoc part rest more)
 
--- a part that is short enough is left by a cut
+-- a cut leaves a first part that isn't longer than the cut's length
 pub part_of_cut : (part rest : List ℕ) (end : ℕ) → length part ≤ end → IsFirstPart part (take end (part ++ rest))
 part_of_cut [] rest end short = (take end rest, refl)
 part_of_cut (byte ∷ part) rest zero short = absurd (omega arith)
@@ -31,7 +31,7 @@ before_more byte [] (next ∷ rest) = elim (cases_eq byte 10) [
 ]
 before_more byte (next ∷ rest) more = (more, refl)
 
--- a first part has a first part of the whole lines
+-- the whole lines of a first part are a first part of all whole lines
 pub lines_of_part : (part all : List ℕ) → IsFirstPart part all → IsFirstPart (whole_lines part) (whole_lines all)
 lines_of_part part all (rest, is) = subst (λ (l : List ℕ). IsFirstPart (whole_lines part) (whole_lines l)) (sym is) (lines_of_more part rest)
   where
@@ -48,7 +48,7 @@ before_part byte [] all (rest, is) = elim (cases_eq byte 10) [
 ]
 before_part byte (next ∷ counts) all (rest, is) = (rest, ap (λ (l : List ℕ). byte ∷ l) is)
 
--- they are a first part
+-- the whole lines are a first part
 pub lines_are_part : (bytes : List ℕ) → IsFirstPart (whole_lines bytes) bytes
 lines_are_part [] = ([], refl)
 lines_are_part (byte ∷ bytes) = before_part byte (whole_lines bytes) bytes (lines_are_part bytes)
@@ -60,12 +60,12 @@ again_before byte [] again = elim (cases_eq byte 10) [
 ]
 again_before byte (next ∷ counts) again = ap (before byte) again
 
--- and all of them are whole
+-- the whole lines of whole lines are all of them
 pub lines_again : (bytes : List ℕ) → whole_lines (whole_lines bytes) ≡ whole_lines bytes
 lines_again [] = refl
 lines_again (byte ∷ bytes) = again_before byte (whole_lines bytes) (lines_again bytes)
 
--- the bytes up to their end
+-- the whole lines are the bytes up to their end
 pub take_lines : (bytes : List ℕ) (end : ℕ) → end ≡ length (whole_lines bytes) → take end bytes ≡ whole_lines bytes
 take_lines bytes end is =
     let part = lines_are_part bytes in
@@ -98,7 +98,7 @@ no_line (first ∷ line) (byte ∷ part) none (rest, is) =
     let alone : before byte [] ≡ [] = grind (arith, nat_tests) in
     ap (before byte) (no_line line part none.1 (rest, tail)) ∙ alone
 
--- a part of a text ends in its first line, or goes on behind that
+-- a first part of a text ends within the first line, or goes on behind it
 splits : (line behind part rest : List ℕ) → line ++ line_feed ∷ behind ≡ part ++ rest → IsFirstPart part line ⊎ ((more : List ℕ) × (part ≡ line ++ line_feed ∷ more) × IsFirstPart more behind)
 splits line behind [] rest is = inl (line, refl)
 splits [] behind (byte ∷ part) rest is =
@@ -113,7 +113,7 @@ splits (first ∷ line) behind (byte ∷ part) rest is =
       | inr on ↦ inr (on.0, (λ i. sym same i ∷ on.1 i), on.2)
     ]
 
--- what is recovered of a first part of lines are the first of them
+-- the lines recovered from a first part of a text are its first lines
 pub first_lines : (lines : List (List ℕ)) (part : List ℕ) → AllByRecursion HasNoLineFeed lines → IsFirstPart part (text_of lines) → (count : ℕ) × (whole_lines part ≡ text_of (take count lines))
 first_lines [] [] none is = (0, refl)
 first_lines [] (byte ∷ part) none (rest, is) = absurd (cc is)
@@ -133,6 +133,6 @@ pub last_torn : (bytes : List ℕ) (byte : ℕ) → byte ≢ 10 → whole_lines 
 last_torn [] byte other = let none : before byte [] ≡ [] = grind (arith, nat_tests) in none
 last_torn (first ∷ bytes) byte other = ap (before first) (last_torn bytes byte other)
 
--- and one that is
+-- a last byte that is a line feed
 pub last_feed : (bytes : List ℕ) → whole_lines (bytes ++ line_feed ∷ []) ≡ bytes ++ line_feed ∷ []
 last_feed bytes = line_in_front bytes []

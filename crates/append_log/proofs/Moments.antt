@@ -1,4 +1,4 @@
--- How a run of calls goes on, and what a crash may leave of a first part.
+-- A run of calls, call by call, and the bytes that a crash may leave at each moment of it.
 use Rattle.std.proofs.Common.{ℕ, List, [], ◌∷◌, ◌++◌, refl, sym, ◌∙◌, ap, subst, append_assoc}
 use Rattle.std.specs.List.{AllByRecursion}
 use Rattle.append_log.specs.Contents.{Contents}
@@ -8,11 +8,11 @@ use Rattle.append_log.specs.History.{History, changed, refused, LeavesOnly, AtEa
 pub at_start : (P : List ℕ → Type 0) (history : History) → LeavesOnly P history.now → AtEachMoment P history history
 at_start P history here = record { between = []; goes_on = refl; each = (here, tt) }
 
--- one call more
+-- after one more call
 pub one_more : (P : List ℕ → Type 0) (old mid : History) (next : Contents) → AtEachMoment P old mid → LeavesOnly P next → AtEachMoment P old (changed mid next)
 one_more P old mid next so_far here = record { between = next ∷ so_far.between; goes_on = ap (λ l. next ∷ l) so_far.goes_on; each = (here, so_far.each) }
 
--- or one that there was no room for
+-- after one more call that found a full device
 pub one_refused : (P : List ℕ → Type 0) (old mid : History) → AtEachMoment P old mid → LeavesOnly P mid.now → AtEachMoment P old (refused mid)
 one_refused P old mid so_far here = record { between = mid.now ∷ so_far.between; goes_on = ap (λ l. mid.now ∷ l) so_far.goes_on; each = (here, so_far.each) }
 

@@ -1,4 +1,4 @@
--- What a crash leaves of a first part, and how writes go on.
+-- The bytes that a crash leaves while writes go on, and after a sync.
 use Rattle.std.proofs.Common.{◌≡◌, ℕ, ◌+◌, Bool, true, false, List, [], ◌++◌, length, take, drop, refl, sym, ◌∙◌, ap, arith, append_assoc, take-append-drop, subst, Result, Ok, Err}
 use Rattle.std.proofs.lemmas.List.{take_all, append-nil}
 use Rattle.std.proofs.Math.Seq.{take-add}
@@ -18,25 +18,25 @@ part_of_all bytes count part (rest, is) = (
       ∙ ap (λ (l : List ℕ). l ++ drop count bytes) is ∙ append_assoc part rest (drop count bytes),
 )
 
--- what a crash leaves while some are written it may leave when all are
+-- a crash may leave the same once all bytes are written as while only some are
 pub some_of_all : (contents : Contents) (bytes : List ℕ) (count : ℕ) (has_failed : Bool)
     → LeavesOnly (MayLeave (with_first contents bytes (length bytes) has_failed)) (with_first contents bytes count has_failed)
 some_of_all contents bytes count has_failed left may =
     record { behind = may.behind; is = may.is; first_part = λ is_sure. part_of_all bytes count may.behind (may.first_part is_sure) }
 
--- after a fault no less may be left
+-- after a fault a crash may leave at least the same
 pub sure_or_not : (contents : Contents) (bytes : List ℕ) (has_failed : Bool) (left : List ℕ)
     → MayLeave (with_first contents bytes (length bytes) false) left → MayLeave (with_first contents bytes (length bytes) has_failed) left
 sure_or_not contents bytes has_failed left may = record { behind = may.behind; is = may.is; first_part = λ _. may.first_part refl }
 
--- one write more
+-- the contents after one more write
 pub writes_on : (contents : Contents) (bytes rest : List ℕ) (done count : ℕ) → rest ≡ drop done bytes
     → with_added (with_first contents bytes done false) (take count rest) ≡ with_first contents bytes (done + count) false
 writes_on contents bytes rest done count rest_is =
     ap (λ (l : List ℕ). with_added (with_first contents bytes done false) (take count l)) rest_is
     ∙ ap (λ (l : List ℕ). record { synced = contents.synced; appended = l; has_failed = false }) (sym (take-add done count bytes))
 
--- one that is made
+-- a write that succeeds
 pub wrote : (old mid new : History) (bytes rest : List ℕ) (done count : ℕ) → mid.now ≡ with_first old.now bytes done false → rest ≡ drop done bytes
     → AtEachMoment (MayLeave (with_first old.now bytes (length bytes) false)) old mid → new ≡ after_append mid rest (Ok count)
     → (new.now ≡ with_first old.now bytes (done + count) false) × AtEachMoment (MayLeave (with_first old.now bytes (length bytes) false)) old new
@@ -49,7 +49,7 @@ wrote old mid new bytes rest done count is rest_is so_far new_is =
       subst (λ (h : History). AtEachMoment P old h) (sym new_is) (one_more P old mid _ so_far leaves),
     )
 
--- what a crash leaves once a write wasn't made
+-- the bytes that a crash leaves after a write that failed
 after_fault : (T : Type 0) (old mid : History) (bytes rest : List ℕ) (done : ℕ) (fault : WriteFault)
     → mid.now ≡ with_first old.now bytes done false → AtEachMoment (MayLeave (with_first old.now bytes (length bytes) false)) old mid
     → AtEachMoment (MayLeave (with_first old.now bytes (length bytes) (whether_failed {T = T} (Err fault)))) old (after_append mid rest (Err fault))
@@ -67,7 +67,7 @@ pub fails : {T : Type 0} (old mid new : History) (bytes rest : List ℕ) (done :
 fails {T = T} old mid new bytes rest done result fault result_is is so_far new_is =
     rw (result_is, new_is) (after_fault T old mid bytes rest done fault is so_far)
 
--- what was just synced is all that there was
+-- a crash after the sync may leave only bytes that it might have left before: all of them
 all_synced : (contents : Contents) (bytes : List ℕ) → LeavesOnly (MayLeave (with_first contents bytes (length bytes) false)) (only_synced (file_of (with_first contents bytes (length bytes) false)))
 all_synced contents bytes left may =
     let all = take (length bytes) bytes in
@@ -81,7 +81,7 @@ all_synced contents bytes left may =
       );
     }
 
--- a sync, once all is written
+-- a sync, once all bytes are written
 pub syncs : (old mid new : History) (bytes : List ℕ) → mid.now ≡ with_first old.now bytes (length bytes) false
     → AtEachMoment (MayLeave (with_first old.now bytes (length bytes) false)) old mid → new ≡ after_sync mid true
     → AtEachMoment (MayLeave (with_first old.now bytes (length bytes) false)) old new
@@ -99,14 +99,14 @@ sync_fails old mid new bytes is so_far new_is =
     let leaves = subst (λ (c : Contents). LeavesOnly P (failed c)) (sym is) (some_of_all old.now bytes (length bytes) true) in
     subst (λ (h : History). AtEachMoment P old h) (sym new_is) (one_more P old mid _ earlier leaves)
 
--- where nothing is pending
+-- without pending bytes
 pub nothing_pending : (contents : Contents) (pending : List ℕ) → pending ≡ [] → contents.has_failed ≡ false
     → record contents { appended = pending } ≡ only_synced (file_of (record contents { appended = pending }))
 nothing_pending contents pending none usable =
     let same : contents.synced ≡ contents.synced ++ pending = sym (append-nil contents.synced) ∙ ap (λ (l : List ℕ). contents.synced ++ l) (sym none) in
     λ i. record { synced = same i; appended = none i; has_failed = usable i }
 
--- and nothing is tried
+-- without pending bytes, no call is made
 pub nothing_tried : (history : History) (pending : List ℕ) (count : ℕ) → history.now.appended ≡ take count pending
     → AtEachMoment (MayLeave (record history.now { appended = pending })) history history
 nothing_tried history pending count appended_is =

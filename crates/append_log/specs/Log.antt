@@ -1,4 +1,4 @@
--- What a log has: what it acknowledged, and what is pending.
+-- The contents of a log: acknowledged bytes and pending ones.
 use Rattle.std.specs.Prelude.{Result, Ok, Err}
 use Rattle.append_log.specs.Contents.{Contents, failed, file_of, only_synced}
 use Rattle.append_log.specs.History.{History}
@@ -8,16 +8,16 @@ use Rattle.append_log.specs.declared.log_fault.LogFault.{LogFault}
 use Rattle.append_log.specs.declared.log_fault.LogFault.TheVariants.{Full, Failed, FailedBefore}
 
 module _ {F : Type 0} {g : files.Ghosts F} where
-  -- of its file
+  -- the history of its file
   abbrev pub history : Log F g → History
   history log = g.history log.file
 
-  -- As if all pending bytes were appended: what is on the disk is what was acknowledged.
+  -- The contents as if all pending bytes were appended. The acknowledged bytes are those on disk.
   abbrev pub contents : Log F g → Contents
   contents log = record (g.history log.file).now { appended = log.pending.items }
 
--- All is acknowledged, or nothing. Where there was no room it may be tried again, as if nothing had
--- been tried. After another fault it never is.
+-- Either all bytes are acknowledged or none. After a full device another try may follow, as if none
+-- had been made. After another fault none does.
 abbrev pub after_trial : {T : Type 0} → Contents → Result T LogFault → Contents
 after_trial contents (Ok _) = only_synced (file_of contents)
 after_trial contents (Err (Full _)) = contents

@@ -1,10 +1,10 @@
--- How far a log's writes come.
+-- The progress of a log's writes.
 use Rattle.std.specs.Prelude.{ℕ, Bool, true, false, List, take, Result, Ok, Err}
 use Rattle.append_log.specs.Contents.{Contents}
 use Rattle.append_log.specs.declared.write_fault.WriteFault.{WriteFault}
 use Rattle.append_log.specs.declared.write_fault.WriteFault.TheVariants.{Full, Failed}
 
--- so many of these bytes were appended, and whether a call failed
+-- after the first `count` of these bytes were appended, and whether a call failed
 abbrev pub with_first : Contents → List ℕ → ℕ → Bool → Contents
 with_first contents bytes count has_failed = record { synced = contents.synced; appended = take count bytes; has_failed = has_failed }
 

@@ -8,32 +8,32 @@ ghost use Rattle.append_log.specs.History.{History};
 use crate::WriteFault;
 use std::io;
 
-/// A file that is only appended to. After a call that failed, but for want of room, it is neither
-/// written nor synced any more: a sync would tell nothing of what was written before.
+/// A file that is only appended to. After a call fails for another reason than a full device, no
+/// call writes or syncs the file again: a later sync wouldn't show that earlier writes are on disk.
 pub trait AppendedFile {
-    /// What it has, and what it had.
+    /// The contents of the file, now and before.
     ghost history: { Self → History };
 
-    /// Appends a first part of the bytes, and returns how many. It takes some of them if there are
-    /// any.
+    /// Appends a first part of the bytes, and returns its length: at least 1, unless there are no
+    /// bytes.
     fn append(&mut self, bytes: &[u8]) -> Result<usize, WriteFault>
         requires { (history self.old).now.has_failed ≡ false }
         ensures count { IfOk result (TakesSome bytes.now) }
         ensures history { history self.new ≡ after_append (history self.old) bytes.now result };
 
-    /// Puts all that was appended on the disk.
+    /// Syncs all appended bytes to the disk.
     fn sync(&mut self) -> io::Result<()>
         requires { (history self.old).now.has_failed ≡ false }
         ensures { history self.new ≡ after_sync (history self.old) (is_ok result) };
 
-    /// Cuts the file to a length, and puts that on the disk.
+    /// Cuts the file to a length, and syncs that to the disk.
     fn cut(&mut self, end: u64) -> io::Result<()>
         requires usable { (history self.old).now.has_failed ≡ false }
         requires within { end ≤ length (file_of (history self.old).now) }
         ensures { history self.new ≡ after_cut (history self.old) end (is_ok result) };
 
-    /// Cuts off what isn't on the disk, if the system does it: a start isn't to read what may stand
-    /// in the system's memory alone. A crash leaves what it may have left before.
+    /// Tries to cut off the bytes that aren't on disk: they may be in the system's memory only, and
+    /// a restart shouldn't read them. A crash leaves the same as before the call.
     fn cut_unsynced(&mut self)
         requires { (history self.old).now.has_failed ≡ true }
         ensures { history self.new ≡ history self.old };

@@ -1,4 +1,4 @@
-//! What a crash leaves of what was acknowledged, and what is recovered of lines.
+//! Laws of crashes: acknowledged bytes stay, and whole lines are recovered.
 
 ghost use Rattle.std.specs.Prelude.{ℕ, ◌≡◌, ◌++◌, List, false, take};
 ghost use Rattle.std.specs.List.{AllByRecursion};
@@ -6,8 +6,8 @@ ghost use Rattle.append_log.specs.Contents.{Contents, IsFirstPart, MayLeave};
 ghost use Rattle.append_log.specs.History.{AtEachMoment, History};
 ghost use Rattle.append_log.specs.Lines.{HasNoLineFeed, text_of, whole_lines};
 
-/// What was acknowledged once is left by each crash from then on: during a call that leaves at each
-/// moment what was acknowledged before it, and during such calls one after another.
+/// Each crash from then on leaves the acknowledged bytes: during a call that leaves the bytes
+/// acknowledged before it at each moment, and during such calls one after another.
 pub fn acknowledged_for_good()
     ensures call { (bytes : List ℕ) (contents : Contents) (old new : History)
         → IsFirstPart bytes contents.synced → AtEachMoment (MayLeave contents) old new
@@ -18,8 +18,8 @@ pub fn acknowledged_for_good()
         → AtEachMoment (IsFirstPart bytes) first third }
 {}
 
-/// A crash leaves all lines that were acknowledged, and behind them, as long as no call failed, the
-/// first of those that are pending.
+/// A crash leaves all acknowledged lines. As long as no call failed, they are followed by the first
+/// of the pending lines, and by no others.
 pub fn lines_are_recovered()
     ensures acknowledged { (contents : Contents) (lines : List (List ℕ)) (left : List ℕ)
         → contents.synced ≡ text_of lines → MayLeave contents left

@@ -1,5 +1,5 @@
-//! A log: bytes that are appended to a file and synced before they are acknowledged. What a file
-//! does, and what a crash leaves of it, stands in `specs/`.
+//! A log: bytes that are appended to a file and synced before they are acknowledged. `specs/`
+//! defines the calls of a file and the bytes that a crash leaves.
 #![tactic(auto)]
 
 mod appended_file;

@@ -1,9 +1,9 @@
-//! How long whole lines are.
+//! The length of whole lines.
 
 ghost use Rattle.std.specs.Prelude.{◌≡◌, length};
 ghost use Rattle.append_log.specs.Lines.{whole_lines};
 
-/// How many bytes stand up to the last line feed, with that.
+/// Returns the number of bytes up to the last line feed, including it.
 pub fn whole_length(bytes: &[u8]) -> usize
     ensures { result ≡ length (whole_lines bytes.now) }
 {

@@ -1,4 +1,4 @@
-//! Bytes that are added, written and synced.
+//! The log: bytes are added, written and synced.
 
 ghost use Rattle.std.specs.Prelude.{◌≡◌, ◌<◌, ◌≤◌, true, false, [], length, take, IfOk, IfErr, OnOk, OnErr, IsErrOf, ◌↔◌};
 ghost use Rattle.append_log.specs.Contents.{MayLeave, file_of, only_synced, with_added};
@@ -10,15 +10,16 @@ use crate::{AppendedFile, LogFault, WriteFault};
 use std::alloc::{AllocError, Global};
 use std::io;
 
-/// A buffer that grew longer isn't kept for the next bytes.
+/// The largest capacity, in bytes, of a buffer that is kept for the next bytes.
+// A larger one is freed, or a single burst would hold its memory for good.
 const LONGEST_KEPT: usize = 1_048_576;
 
-/// A log in a file: what was acknowledged is on the disk, and what was added since is pending.
+/// A log in a file: acknowledged bytes are on disk, and bytes added since are pending.
 #[derive(Drop)]
 pub struct Log<F: AppendedFile> {
     file: F,
     pending: Vec<u8>,
-    /// So many of the pending bytes were appended to the file.
+    /// The number of pending bytes that are already appended to the file.
     in_file: usize,
     has_failed: bool,
     ghost within: { in_file ≤ length pending.items },
@@ -30,8 +31,8 @@ pub struct Log<F: AppendedFile> {
 impl<F: AppendedFile> Log<F> {
     ghost use Rattle.append_log.specs.Log.{IsFull, after_trial, contents, history};
 
-    /// Opens a file whose whole lines have so many bytes: it is cut behind them, and they are on the
-    /// disk. An `Err` hands the file back.
+    /// Opens a file whose whole lines have `end` bytes: cuts it behind them, and syncs it. An `Err`
+    /// returns the file.
     pub fn open(alloc: Global, file: F, end: u64) -> Result<Log<F>, (io::Error, F)>
         requires usable { (F.AppendedFile.history file).now.has_failed ≡ false }
         requires end { end ≡ length (whole_lines (file_of (F.AppendedFile.history file).now)) }
@@ -58,14 +59,14 @@ impl<F: AppendedFile> Log<F> {
         }
     }
 
-    /// The file, which only the log appends to.
+    /// Returns the file, which only the log appends to.
     pub fn file(&self) -> &F
         ensures { result.now ≡ self.now.file }
     {
         &self.file
     }
 
-    /// Adds bytes to those that are pending.
+    /// Adds bytes to the pending ones.
     pub fn add(&mut self, bytes: &[u8]) -> Result<(), AllocError>
         ensures ok { OnOk result (contents self.new ≡ with_added (contents self.old) bytes.now) }
         ensures err { OnErr result (contents self.new ≡ contents self.old) }
@@ -74,16 +75,16 @@ impl<F: AppendedFile> Log<F> {
         self.pending.extend_from_slice(bytes)
     }
 
-    /// Writes what is pending, and syncs it: at `Ok` all of it is acknowledged.
+    /// Writes the pending bytes and syncs the file. `Ok` acknowledges all of them.
     pub fn write_and_sync(&mut self) -> Result<(), LogFault>
         ensures acknowledged { contents self.new ≡ after_trial (contents self.old) result }
-        // A crash at any moment of the call leaves what was acknowledged before, and behind it a
-        // first part of what is pending, or any bytes if the call failed.
+        // A crash at any moment of the call leaves the bytes acknowledged before. They are followed
+        // by a first part of the pending ones, or by any bytes if the call failed.
         ensures any_moment { AtEachMoment (MayLeave (record (contents self.old) {
           has_failed = (contents self.new).has_failed;
         }))
             (history self.old) (history self.new) }
-        // It says that there was no room only where the file said so.
+        // It reports a full device only if the file did.
         ensures full { IsFull result
             → (history self.old).refusals < (history self.new).refusals }
         ensures failed_before { IsErrOf result LogFault.FailedBefore
@@ -104,7 +105,10 @@ impl<F: AppendedFile> Log<F> {
                 clear(&mut self.pending);
                 Ok(())
             }
+            // A full device takes nothing of a write, so the next call can go on at `in_file`.
             Err(WriteFault::Full(error)) => Err(LogFault::Full(error)),
+            // A system may drop the pages of a failed write and then report a successful sync, so
+            // another try could acknowledge lost bytes.
             Err(WriteFault::Failed(error)) => {
                 self.has_failed = true;
                 self.file.cut_unsynced();
@@ -114,7 +118,7 @@ impl<F: AppendedFile> Log<F> {
     }
 }
 
-/// Empties a buffer.
+/// Empties a buffer, and frees one that grew large.
 fn clear(bytes: &mut Vec<u8>)
     ensures { bytes.new.items ≡ [] }
 {
@@ -125,7 +129,7 @@ fn clear(bytes: &mut Vec<u8>)
     }
 }
 
-/// Appends the bytes that the file hasn't, of which it has so many, and syncs it.
+/// Appends the bytes that the file doesn't have, from the `in_file`-th on, and syncs the file.
 fn write_then_sync<F: AppendedFile>(
     file: &mut F,
     bytes: &[u8],
@@ -152,7 +156,7 @@ fn write_then_sync<F: AppendedFile>(
     }
 }
 
-/// Appends the bytes that the file hasn't, of which it has so many.
+/// Appends the bytes that the file doesn't have, from the `in_file`-th on.
 fn write_rest<F: AppendedFile>(
     file: &mut F,
     bytes: &[u8],

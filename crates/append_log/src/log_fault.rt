@@ -1,13 +1,13 @@
-//! Why nothing was acknowledged.
+//! The reasons why a log acknowledges nothing.
 
 use std::io;
 
 #[derive(Clone, Copy)]
 pub enum LogFault {
-    /// There is no room. It may be tried again, and goes on where it stopped.
+    /// The device is full. Another try may follow, and goes on where this one stopped.
     Full(io::Error),
-    /// It isn't known what stands in the file behind what was acknowledged.
+    /// It is unknown which bytes follow the acknowledged ones in the file.
     Failed(io::Error),
-    /// That wasn't known before, and nothing was tried.
+    /// An earlier call failed, so nothing was tried.
     FailedBefore,
 }

@@ -1,4 +1,4 @@
-//! A file in memory, which may fail and crash: for tests.
+//! A file in memory that can fail and crash, for tests.
 
 ghost use Rattle.std.specs.Prelude.{◌≡◌, ◌≤◌, ◌++◌, false, drop, length, take, IfOk, OnErr};
 ghost use Rattle.append_log.specs.AppendedFile.{TakesSome};
@@ -10,7 +10,7 @@ use std::alloc::{AllocError, Global};
 use std::io;
 use std::io::ErrorKind;
 
-// The calls that are noted, by the numbers of `specs/Recorded.antt`.
+// The numbers by which calls are noted: those of `specs/Recorded.antt`.
 const APPENDED: u64 = 1;
 
 const REFUSED: u64 = 2;
@@ -27,24 +27,24 @@ const CUT_FAILED: u64 = 7;
 
 const IN_MEMORY: u64 = 8;
 
-/// What a call comes to.
+/// The planned outcome of a call.
 #[derive(Clone, Copy)]
 pub enum Answer {
-    /// All is made.
+    /// The whole call succeeds.
     Made,
-    /// A write takes no more bytes, but one at least. Other calls are made.
+    /// A write takes at most this many bytes, but at least one. Other calls succeed.
     Part(usize),
-    /// A write finds no room. Other calls are made.
+    /// A write finds a full device. Other calls succeed.
     Full,
     Failed,
 }
 
-/// A file in memory. Its calls come to the answers that it was given, the last of them first, and
-/// are made once none is left.
+/// A file in memory. Each call takes the last of the given answers as its outcome; once none is
+/// left, all calls succeed.
 #[derive(Drop)]
 pub struct MemoryFile {
     bytes: Vec<u8>,
-    /// So many of them are on its disk.
+    /// The number of these bytes that are on its disk.
     synced: usize,
     has_failed: bool,
     answers: Vec<Answer>,
@@ -56,7 +56,7 @@ pub struct MemoryFile {
 }
 
 impl MemoryFile {
-    /// A file that has these bytes, all of them on its disk.
+    /// Makes a file with these bytes, all of them on its disk.
     pub fn new(bytes: Vec<u8>, answers: Vec<Answer>) -> MemoryFile
         ensures { result.calls.history.now ≡ only_synced bytes.items }
     {
@@ -71,7 +71,8 @@ impl MemoryFile {
         }
     }
 
-    /// What a crash leaves: what is on the disk, and so many bytes behind it, if it has them.
+    /// Returns the bytes that a crash leaves: those on disk, and at most `behind` of those after
+    /// them.
     pub fn crash(&self, alloc: Global, behind: usize) -> Result<Vec<u8>, AllocError>
         ensures { IfOk result (λ left. MayLeave self.now.calls.history.now left.items) }
     {
@@ -128,7 +129,7 @@ impl AppendedFile for MemoryFile {
     }
 }
 
-/// Appends as many of the bytes as the answer says.
+/// Appends as many of the bytes as the answer allows.
 fn append_some(file: &mut Vec<u8>, answer: Answer, bytes: &[u8]) -> Result<usize, WriteFault>
     ensures count { IfOk result (TakesSome bytes.now) }
     ensures ok { IfOk result (λ count. file.new.items ≡ file.old.items ++ take count bytes.now) }

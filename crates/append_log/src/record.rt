@@ -1,4 +1,4 @@
-//! What clauses see of a file: what it has and had. No memory holds it.
+//! The ghost record of a file for clauses: its contents, now and before. It takes no memory.
 
 ghost use Rattle.std.specs.Prelude.{◌≡◌};
 ghost use Rattle.std.specs.Borrow.{ftrue};
@@ -7,8 +7,8 @@ ghost use Rattle.append_log.specs.Recorded.{noted, opened};
 
 use std::marker::{Model, PhantomData};
 
-/// What a file has and had, as the calls that were noted make it. `proofs/record/` has the proofs,
-/// by hand.
+/// The contents of a file, now and before, according to the noted calls. `proofs/record/` has the
+/// proofs, which are by hand.
 #[derive(Drop)]
 pub struct Record {
     marker: PhantomData<u8>,
@@ -19,7 +19,7 @@ impl Model for Record {
     ghost also_owns = { λ _. ftrue };
 }
 
-// It owns nothing.
+// A record owns nothing, so it may cross threads; `proofs/record/` proves it.
 unsafe impl Send for Record {}
 
 unsafe impl Sync for Record {}
@@ -33,7 +33,8 @@ impl Record {
         }
     }
 
-    /// Notes a call by its number, with a count, and the bytes that it was given.
+    /// Notes a call by its number, with a count and the bytes that were passed to it.
+    // The body is empty: no proof ties a note to the call, so callers of this method need review.
     pub(crate) fn note(&mut self, _call: &[u64], _bytes: &[u8])
         ensures { self.new.history ≡ noted _call.now _bytes.now self.old.history }
     {}

@@ -1,4 +1,5 @@
-//! A file of the operating system. Each method makes its call, and then notes it with its answer.
+//! A file of the operating system. Each method makes its system call, and then notes it with its
+//! outcome.
 
 ghost use Rattle.std.specs.Prelude.{◌≡◌, false, length, IfOk};
 ghost use Rattle.append_log.specs.AppendedFile.{TakesSome};
@@ -11,7 +12,7 @@ use std::fs::File;
 use std::io;
 use std::io::{ErrorKind, Write};
 
-// The calls that are noted, by the numbers of `specs/Recorded.antt`.
+// The numbers by which calls are noted: those of `specs/Recorded.antt`.
 const OPENED: u64 = 0;
 
 const APPENDED: u64 = 1;
@@ -28,18 +29,18 @@ const CUT: u64 = 6;
 
 const CUT_FAILED: u64 = 7;
 
-/// An open file that is written at its end alone, and by this process alone.
+/// An open file that only this process writes, and only at its end.
 #[derive(Drop)]
 pub struct SystemFile {
     file: File,
-    /// How many of its bytes are on the disk, and how many were appended since.
+    /// The number of bytes on disk, and of those appended since.
     synced: u64,
     appended: u64,
     calls: Record,
 }
 
 impl SystemFile {
-    /// A file that was read: its whole lines have so many bytes. It was opened to append.
+    /// Takes a file that was opened to append and was read: its whole lines have `end` bytes.
     pub fn new(file: File, end: u64) -> SystemFile
         ensures usable { result.calls.history.now.has_failed ≡ false }
         ensures end { end ≡ length (whole_lines (file_of result.calls.history.now)) }
@@ -54,7 +55,7 @@ impl SystemFile {
         }
     }
 
-    /// How many of its bytes are on the disk, once it was cut.
+    /// Returns the number of bytes on disk, once the file was cut.
     pub fn synced_bytes(&self) -> u64 {
         self.synced
     }
@@ -103,22 +104,26 @@ impl AppendedFile for SystemFile {
     }
 
     fn cut_unsynced(&mut self) {
+        // Best effort: the journal has failed already, and this can only spare the next start bytes
+        // that were never acknowledged.
         let _ = self.file.set_len(self.synced);
     }
 }
 
+// Without the sync a crash could bring back the torn line, in front of lines appended since.
 fn cut_and_sync(file: &File, end: u64) -> io::Result<()> {
     file.set_len(end)?;
     file.sync_data()
 }
 
-/// Writes some of the bytes, again after a signal.
+/// Writes some of the bytes, and retries after a signal.
 fn write_some(file: &mut File, bytes: &[u8]) -> Result<usize, WriteFault>
     ensures { IfOk result (TakesSome bytes.now) }
 {
     if bytes.is_empty() {
         return Ok(0);
     }
+    // The bound is never reached; each function is proved to return.
     for _write in 0..u64::MAX {
         match file.write(bytes) {
             Ok(0) => return Err(WriteFault::Full(io::Error::from(ErrorKind::WriteZero))),
@@ -130,7 +135,8 @@ fn write_some(file: &mut File, bytes: &[u8]) -> Result<usize, WriteFault>
     Err(WriteFault::Full(io::Error::from(ErrorKind::Interrupted)))
 }
 
-/// Where there is no room, a write took nothing. What other errors leave isn't known.
+/// Separates errors of a full device, where the write took nothing, from others, where it may have
+/// taken any of the bytes.
 fn fault_of(error: io::Error) -> WriteFault {
     match error.kind() {
         ErrorKind::StorageFull | ErrorKind::QuotaExceeded | ErrorKind::FileTooLarge => {

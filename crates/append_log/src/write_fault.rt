@@ -1,11 +1,11 @@
-//! Why a write wasn't made.
+//! The reasons why a write fails.
 
 use std::io;
 
 #[derive(Clone, Copy)]
 pub enum WriteFault {
-    /// There is no room. The write took nothing.
+    /// The device is full. The write took no bytes.
     Full(io::Error),
-    /// It isn't known what the write took.
+    /// It is unknown which bytes the write took.
     Failed(io::Error),
 }

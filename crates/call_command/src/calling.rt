@@ -5,7 +5,7 @@ use crate::sending::{send_calls, send_lines};
 use crate::state_check::check_visits;
 use crate::undoing::{Undoing, hold_undo, undo_of};
 use crate::waiting_calls::say_waiting;
-use client::Address;
+use client::{Address, ClientRuntime};
 use client_lines::Lines;
 use command_io::{ProgramFault, read_login, read_site_file};
 use jobs::Calling;
@@ -16,25 +16,13 @@ use site_rules::Site;
 use std::alloc::{AllocError, AllocGlobal, Global};
 use std::fs::File;
 use std::mem;
-use std::net::TcpStream;
-use std::random::RandomSource;
-use std::rt::{Clock, Files, Net};
-use std::sync::Wait;
+use std::rt::{Clock, Files};
 
-/// Sends what the options say, or the lines of standard input. Returns the exit status.
-pub fn call_site<
-    R: Files<File = File>
-        + Clock
-        + Input
-        + Print
-        + Eprint
-        + AllocGlobal
-        + Net<Stream = TcpStream>
-        + RandomSource
-        + Wait
-        + Copy
-        + Drop,
->(rt: &R, calling: Calling<'_>) -> Result<u8, ProgramFault> {
+/// Sends the calls of the options, or the lines of standard input. Returns the exit status.
+pub fn call_site<R: ClientRuntime + Files<File = File> + Input>(
+    rt: &R,
+    calling: Calling<'_>,
+) -> Result<u8, ProgramFault> {
     check_url(rt.alloc(), calling)?;
     let sending = Sending {
         url: calling.url,
@@ -61,8 +49,8 @@ pub fn call_site<
     Ok(caller.status())
 }
 
-/// Which calls go to which points: to the point of what is undone, to each of the site, or to that of
-/// the URL. Leaves out those that are held back, and says why.
+/// Returns which calls go to which points: to the point of the undone line, to every point of the
+/// site, or to the point of the URL. Leaves out the calls that are held back, and prints why.
 fn visits_of<R: Files<File = File> + Clock + Print + Eprint + AllocGlobal>(
     rt: &R,
     calling: Calling<'_>,
@@ -84,7 +72,7 @@ fn visits_of<R: Files<File = File> + Clock + Print + Eprint + AllocGlobal>(
     Ok(visits)
 }
 
-/// Refuses a URL that can't be an operator's, and options without what belongs to them.
+/// Refuses a URL that can't be an operator's, and options without those that they need.
 fn check_url(alloc: Global, calling: Calling<'_>) -> Result<(), ProgramFault> {
     let wants_site = calling.all || calling.folder.is_some();
     if wants_site != calling.site.is_some() {
@@ -96,6 +84,7 @@ fn check_url(alloc: Global, calling: Calling<'_>) -> Result<(), ProgramFault> {
     if calling.undo.is_some() && (calling.all || calling.folder.is_none()) {
         return Err(ProgramFault::UndoWithoutData);
     }
+    // An undo has its point from the line, so its URL may lack the identity.
     let lacks_point = calling.all || calling.undo.is_some() && is_without_point(calling.url);
     if !lacks_point {
         Address::of_operator(alloc, calling.url)?;
@@ -104,12 +93,12 @@ fn check_url(alloc: Global, calling: Calling<'_>) -> Result<(), ProgramFault> {
     if calling.all && Address::of_operator(alloc, calling.url).is_ok() {
         return Err(ProgramFault::AllElsewhere);
     }
-    // Each point has this URL, but for its identity.
+    // The URLs of the points differ only in the identity.
     Address::of_operator(alloc, url_of_point(alloc, calling.url, "ID")?.as_str())?;
     Ok(())
 }
 
-/// What undoes the line that is to be undone, if one is.
+/// Returns the undo of the requested line, if there is one.
 fn undo_in<R: Files<File = File> + Clock + Eprint + AllocGlobal>(
     rt: &R,
     calling: Calling<'_>,
@@ -118,11 +107,12 @@ fn undo_in<R: Files<File = File> + Clock + Eprint + AllocGlobal>(
     else {
         return Ok(None);
     };
+    // Playing the undo consumes this site; `call_site` reads one of its own.
     let site = read_site_file(rt, path)?;
     Ok(Some(undo_of(rt, folder, site, number)?))
 }
 
-/// Takes the calls out of what undoes a line.
+/// Takes the calls out of an undo.
 fn undo_calls(alloc: Global, undo: &mut Option<Undoing>) -> Vec<GivenCall> {
     match undo {
         Some(undoing) => mem::replace(&mut undoing.undo.calls, Vec::new(alloc)),
@@ -130,7 +120,7 @@ fn undo_calls(alloc: Global, undo: &mut Option<Undoing>) -> Vec<GivenCall> {
     }
 }
 
-/// The points that so many calls go to: each of the site, or that of the URL.
+/// Returns the points that get this many calls: all of the site, or that of the URL.
 fn plain_visits(
     alloc: Global,
     calling: Calling<'_>,
@@ -147,7 +137,8 @@ fn plain_visits(
     }
 }
 
-/// The visit to the point of what is undone. The operator's URL lacks its identity, or has it.
+/// Returns the visit to the point of the undone line. The operator's URL lacks its identity, or has
+/// it.
 fn undo_visit(
     alloc: Global,
     url: &str,

@@ -10,8 +10,8 @@ use std::alloc::{AllocError, AllocGlobal, Global};
 use std::fs::File;
 use std::rt::Files;
 
-/// The calls of the options, in their order. A connector that is no number is a fault before the
-/// files are read.
+/// Returns the calls of the options, in their order. Refuses a connector that isn't a number before
+/// it reads the files.
 pub fn given_calls<R: Files<File = File> + Eprint + AllocGlobal>(
     rt: &R,
     calling: Calling<'_>,
@@ -60,7 +60,7 @@ fn push_questions(
     Ok(())
 }
 
-/// The number of the connector at which a transaction is to start.
+/// Returns the number of the connector at which a transaction is to start.
 fn connector_of(starting: Starting<'_>) -> Result<u32, ProgramFault> {
     match starting.connector.parse::<u32>() {
         Ok(connector) => Ok(connector),
@@ -68,7 +68,7 @@ fn connector_of(starting: Starting<'_>) -> Result<u32, ProgramFault> {
     }
 }
 
-/// The RemoteStartTransaction at a connector, with the profile of its file, where one is given.
+/// Returns the RemoteStartTransaction at a connector, with the profile of its file if one is given.
 fn remote_start_of<R: Files<File = File> + Eprint + AllocGlobal>(
     rt: &R,
     connector: u32,

@@ -1,41 +1,32 @@
 //! Connections to the operators of points, and what is sent over them.
 
-use client::{Address, AnswerLines, CallEnd, OperatorClient, connect};
+use client::{Address, AnswerLines, CallEnd, ClientRuntime, OperatorClient, connect};
 use client_lines::{ClientFault, Lines};
 use operator_calls::{Caller, GivenCall, Visit, on_one_line, url_of_point};
 use replay::Progress;
-use std::alloc::AllocGlobal;
 use std::fmt::Display;
 use std::io;
 use std::io::Read;
 use std::net::TcpStream;
 use std::random::RandomSource;
-use std::rt::{Clock, Net};
-use std::sync::Wait;
 use tungstenite::RandomKeys;
 
-/// Where messages go.
+/// The destination of messages.
 #[derive(Drop)]
 struct Callee<R: RandomSource> {
-    /// What each line begins with that is printed of it.
+    /// The beginning of each line printed about it.
     label: String,
-    /// The connection, unless nothing is sent.
+    /// The connection. None for a dry run.
     client: Option<OperatorClient<TcpStream, RandomKeys<R>>>,
 }
 
-/// Sends calls to points, one after another. Of several a point whose connection fails is named,
-/// and where they take long it is said how many are done.
-pub fn send_calls<
-    R: Print
-        + Eprint
-        + AllocGlobal
-        + Clock
-        + Net<Stream = TcpStream>
-        + RandomSource
-        + Wait
-        + Copy
-        + Drop,
->(caller: &mut Caller<'_, R>, calls: &[GivenCall], visits: &[Visit]) -> Result<(), ClientFault> {
+/// Sends calls to points, one after another. With several points, prints which connections fail,
+/// and the progress if it takes long.
+pub fn send_calls<R: ClientRuntime>(
+    caller: &mut Caller<'_, R>,
+    calls: &[GivenCall],
+    visits: &[Visit],
+) -> Result<(), ClientFault> {
     let rt = caller.rt;
     let total = visits.len();
     let mut progress = Progress::begin(rt);
@@ -47,6 +38,7 @@ pub fn send_calls<
         }
         match (send_to(caller, calls, visit), visit.label()) {
             (Ok(()), _) => {}
+            // One point that can't be reached doesn't keep the calls from the others.
             (Err(fault), Some(point)) => caller.note_failed(point, fault)?,
             (Err(fault), None) => return Err(fault),
         }
@@ -58,17 +50,11 @@ pub fn send_calls<
 }
 
 /// Sends the calls that go to a point.
-fn send_to<
-    R: Print
-        + Eprint
-        + AllocGlobal
-        + Clock
-        + Net<Stream = TcpStream>
-        + RandomSource
-        + Wait
-        + Copy
-        + Drop,
->(caller: &mut Caller<'_, R>, calls: &[GivenCall], visit: &Visit) -> Result<(), ClientFault> {
+fn send_to<R: ClientRuntime>(
+    caller: &mut Caller<'_, R>,
+    calls: &[GivenCall],
+    visit: &Visit,
+) -> Result<(), ClientFault> {
     if visit.calls.is_empty() {
         return Ok(());
     }
@@ -83,18 +69,10 @@ fn send_to<
 }
 
 /// Sends lines, each of which is a message, to the operator's URL.
-pub fn send_lines<
-    R: Print
-        + Eprint
-        + AllocGlobal
-        + Clock
-        + Net<Stream = TcpStream>
-        + RandomSource
-        + Wait
-        + Copy
-        + Drop,
-    S: Read + Drop,
->(caller: &mut Caller<'_, R>, lines: &mut Lines<S>) -> Result<(), ClientFault> {
+pub fn send_lines<R: ClientRuntime, S: Read + Drop>(
+    caller: &mut Caller<'_, R>,
+    lines: &mut Lines<S>,
+) -> Result<(), ClientFault> {
     let rt = caller.rt;
     let mut callee = reach(caller, None)?;
     for _line in rt.forever() {
@@ -115,18 +93,11 @@ pub fn send_lines<
     Ok(())
 }
 
-/// Connects to the operator's URL, or to that of the point of an identity, unless nothing is sent.
-fn reach<
-    R: Print
-        + Eprint
-        + AllocGlobal
-        + Clock
-        + Net<Stream = TcpStream>
-        + RandomSource
-        + Wait
-        + Copy
-        + Drop,
->(caller: &Caller<'_, R>, point: Option<&str>) -> Result<Callee<R>, ClientFault> {
+/// Connects to the operator's URL, or to that of this point, unless it is a dry run.
+fn reach<R: ClientRuntime>(
+    caller: &Caller<'_, R>,
+    point: Option<&str>,
+) -> Result<Callee<R>, ClientFault> {
     let label = caller.label_of(point)?;
     let client = if caller.sending.dry_run {
         None
@@ -136,18 +107,8 @@ fn reach<
     Ok(Callee { label, client })
 }
 
-/// A client that is connected.
-fn connected<
-    R: Print
-        + Eprint
-        + AllocGlobal
-        + Clock
-        + Net<Stream = TcpStream>
-        + RandomSource
-        + Wait
-        + Copy
-        + Drop,
->(
+/// Returns a connected client.
+fn connected<R: ClientRuntime>(
     caller: &Caller<'_, R>,
     point: Option<&str>,
 ) -> Result<OperatorClient<TcpStream, RandomKeys<R>>, ClientFault> {
@@ -165,19 +126,8 @@ fn connected<
     Ok(OperatorClient::new(alloc, socket))
 }
 
-/// Sends a message, or prints it if nothing is sent.
-fn send<
-    R: Print
-        + Eprint
-        + AllocGlobal
-        + Clock
-        + Net<Stream = TcpStream>
-        + RandomSource
-        + Wait
-        + Copy
-        + Drop,
-    N: Display + Copy + Drop,
->(
+/// Sends a message, or prints it in a dry run.
+fn send<R: ClientRuntime, N: Display + Copy + Drop>(
     caller: &mut Caller<'_, R>,
     callee: &mut Callee<R>,
     name: N,

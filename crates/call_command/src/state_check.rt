@@ -1,4 +1,4 @@
-//! What is said of calls by what their points have, before they are sent.
+//! Checks calls against the state of their points before they are sent.
 
 use command_io::{ProgramFault, now};
 use journal_file::read_journal_script;
@@ -10,8 +10,8 @@ use std::alloc::{AllocGlobal, Global};
 use std::fs::File;
 use std::rt::{Clock, Files};
 
-/// Leaves to visits the calls that their points would take, by what these have after the journal of
-/// a folder and the calls before. Says what is found.
+/// Keeps in the visits only the calls that their points would accept, in the state after the
+/// journal of a folder and the calls before. Prints the findings.
 pub fn check_visits<R: Files<File = File> + Clock + Print + Eprint + AllocGlobal>(
     rt: &R,
     caller: &mut Caller<'_, R>,
@@ -40,7 +40,7 @@ pub fn check_visits<R: Files<File = File> + Clock + Print + Eprint + AllocGlobal
     Ok(())
 }
 
-/// The calls of a visit that its point would take. They are the next lines of the script.
+/// Returns the calls of a visit that its point would accept. They are the next lines of the script.
 fn passed_calls<R: Print + Eprint + AllocGlobal>(
     alloc: Global,
     caller: &mut Caller<'_, R>,

@@ -1,4 +1,4 @@
-//! What undoes the line of a journal, read and said.
+//! Undoes a line of a journal, and prints notes on it.
 
 use command_io::ProgramFault;
 use journal_file::read_journal_script;
@@ -10,10 +10,10 @@ use std::alloc::{AllocError, AllocGlobal};
 use std::fs::File;
 use std::rt::{Clock, Files};
 
-/// So many characters of the line that is undone are shown.
+/// The greatest number of characters shown of the undone line.
 const LONGEST_SHOWN: usize = 160;
 
-/// What undoes a line, and at which point.
+/// The undo of a line, and its point.
 #[derive(Drop)]
 pub struct Undoing {
     /// The point's identity.
@@ -21,8 +21,8 @@ pub struct Undoing {
     pub undo: Undo,
 }
 
-/// What brings the point of a line of a folder's journal back to the profiles that it had before
-/// that line. Says which profile can't come back, and where nothing is to be done.
+/// Returns the calls that bring the point of a journal's line back to its profiles before that
+/// line. Prints which profiles can't be restored, and whether nothing needs to be done.
 pub fn undo_of<R: Files<File = File> + Clock + Eprint + AllocGlobal>(
     rt: &R,
     folder: &str,
@@ -46,8 +46,8 @@ pub fn undo_of<R: Files<File = File> + Clock + Eprint + AllocGlobal>(
     Ok(Undoing { point, undo })
 }
 
-/// Leaves out of visits the calls that would take back later changes, too, unless that is forced.
-/// Says which changes those are.
+/// Leaves out of visits the calls that would also take back later changes, unless that is forced.
+/// Prints these changes.
 pub fn hold_undo<R: Print + Eprint + AllocGlobal>(
     caller: &mut Caller<'_, R>,
     undoing: &Undoing,
@@ -62,7 +62,7 @@ pub fn hold_undo<R: Print + Eprint + AllocGlobal>(
     Ok(())
 }
 
-/// Says what is undone: the beginning of its line.
+/// Prints the beginning of the undone line.
 fn say_line<R: Eprint + AllocGlobal>(rt: &R, number: u64, line: &[u8]) -> Result<(), AllocError> {
     let mut shown = String::new(rt.alloc());
     for character in str::from_utf8(line)
@@ -76,7 +76,7 @@ fn say_line<R: Eprint + AllocGlobal>(rt: &R, number: u64, line: &[u8]) -> Result
     Ok(())
 }
 
-/// Says which profiles can't come back.
+/// Prints which profiles can't be restored.
 fn say_lost<R: Eprint>(rt: &R, lost: &[LostProfile]) {
     for LostProfile { id, connector } in lost {
         let _ = eprintln!(rt;

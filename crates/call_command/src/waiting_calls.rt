@@ -1,8 +1,8 @@
-//! Which of the calls that a site has for its points wait.
+//! The calls of a site that still wait for their points.
 
 use command_io::{ProgramFault, read_digested_site};
-use journal_file::ScriptEnd;
 use jobs::Calling;
+use journal_file::ScriptEnd;
 use journal_reader::{Following, follow_journal};
 use operator_calls::Visit;
 use site_core::Outbox;
@@ -10,8 +10,8 @@ use std::alloc::AllocGlobal;
 use std::fs::File;
 use std::rt::{Clock, Files};
 
-/// Says which of the visited points aren't connected, or have calls that wait behind another, by the
-/// journal of the folder, if one is named. Where that can't be followed, no answer is lost.
+/// Prints which of the visited points aren't connected, or have calls that wait behind another, by
+/// the journal of the folder, if one is named. If it can't be followed, no answer is lost.
 pub fn say_waiting<R: Files<File = File> + Clock + Eprint + AllocGlobal>(
     rt: &R,
     calling: Calling<'_>,
@@ -42,6 +42,7 @@ pub fn say_waiting<R: Files<File = File> + Clock + Eprint + AllocGlobal>(
                 }
             }
         }
+        // The calls are sent by now, so this fault doesn't change the exit status.
         Err(fault) => {
             let _ = eprintln!(rt; "central: which calls wait isn't known: {fault}");
         }
@@ -49,7 +50,7 @@ pub fn say_waiting<R: Files<File = File> + Clock + Eprint + AllocGlobal>(
     Ok(())
 }
 
-/// Says whether a point isn't connected, or has calls that wait behind the one in flight.
+/// Prints whether a point isn't connected, or has calls that wait behind the one in flight.
 fn say_of_point<R: Eprint>(rt: &R, id: &str, outbox: &Outbox) {
     if outbox.link().is_none() {
         let (count, waits) = counted(outbox.len());
@@ -63,7 +64,7 @@ fn say_of_point<R: Eprint>(rt: &R, id: &str, outbox: &Outbox) {
     }
 }
 
-/// A number of calls, and the words for it.
+/// Returns a number of calls, and the words for it.
 fn counted(calls: usize) -> (usize, &'static str) {
     (
         calls,

@@ -1,4 +1,4 @@
-//! The line that says why the program stops.
+//! The last line of the program, which says why it stops.
 
 use command_io::ProgramFault;
 use journal_file::FolderFault;
@@ -10,7 +10,7 @@ use std::thread;
 use std::thread::Threads;
 use std::time::Duration;
 
-/// For so many seconds a program whose journal is broken waits at most until its last line is
+/// The longest time, in seconds, that a program with a broken journal waits for its last line to be
 /// written.
 const LONGEST_WAIT: u64 = 2;
 
@@ -18,12 +18,12 @@ const LONGEST_WAIT: u64 = 2;
 #[derive(Drop)]
 struct LastLine {
     is_written: Mutex<bool>,
-    /// Whoever waits for it waits here.
+    /// The program waits here until it is written.
     written: Condvar,
 }
 
 impl LastLine {
-    /// Writes the line, or finds that it can't be written.
+    /// Writes the line, if it can be written.
     fn write<R: Eprint + Wait>(&self, rt: &R) {
         let _ = rt.eprintln(&ProgramFault::Folder(FolderFault::Write));
         *self.is_written.lock(rt) = true;
@@ -31,8 +31,8 @@ impl LastLine {
     }
 }
 
-/// Writes to standard error why the program stops. Where that is a pipe that nobody reads, a broken
-/// journal ends the program without the line: whoever supervises it is to start it anew.
+/// Writes to standard error why the program stops. If that is a pipe that no process reads, a
+/// program with a broken journal ends without the line, so that its supervisor can restart it.
 pub fn say_fault<
     R: Eprint + AllocGlobal + Clock + Threads + Wait + Copy + Send + Sync + Drop + 'static,
 >(rt: &R, fault: &ProgramFault) {
@@ -45,8 +45,8 @@ pub fn say_fault<
     }
 }
 
-/// Writes on a thread of its own that the journal is broken, and waits for that, but not for ever.
-/// None where no thread can be made.
+/// Writes on a thread of its own that the journal is broken, and waits at most LONGEST_WAIT seconds
+/// for that. Returns None if no thread can be made.
 fn say_in_time<
     R: Eprint + AllocGlobal + Clock + Threads + Wait + Copy + Send + Sync + Drop + 'static,
 >(rt: &R) -> Option<()> {
@@ -56,6 +56,7 @@ fn say_in_time<
     };
     let line = Arc::new(rt.alloc(), line).ok()?;
     let (own, own_rt) = (Arc::try_clone(&line).ok()?, *rt);
+    // A write to a full pipe could block this thread forever.
     let writer = thread::Builder::new().spawn(rt, move || own.write(&own_rt));
     writer.ok()?;
     let is_written = line.is_written.lock(rt);

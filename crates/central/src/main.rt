@@ -1,6 +1,6 @@
 //! The central system as a program. `central replay` plays a script from standard input on a site,
 //! and writes its output to standard output. `central run` serves the site to operators and charge
-//! points over WebSocket, and goes on where it stopped; `central serve` does for a number of
+//! points over WebSocket, and continues where it stopped; `central serve` does so for a number of
 //! connections, and keeps nothing. `central call` and `central point` are the other ends: an
 //! operator's client, and a simulated charge point.
 #![tactic(auto)]
@@ -15,8 +15,8 @@ use clap::error::ErrorKind;
 use client_commands::{run_point, show_status};
 use command_io::{ProgramFault, Screen, as_printed, say_unread, summary_status};
 use command_line::job_of;
-use journal_file::{FolderFault, print_journal};
 use jobs::{Job, Running};
+use journal_file::{FolderFault, print_journal};
 use page_commands::{check_file, explain_file, replay_file, show_file};
 use server_commands::{make_key, run_file, serve_file};
 use std::alloc::AllocGlobal;
@@ -38,7 +38,7 @@ fn main(rt: HostRuntime) -> ExitCode {
     ExitCode::from(run(&rt, screen))
 }
 
-/// Does what the command line says. Returns the exit status.
+/// Does the job of the command line. Returns the exit status.
 fn run<
     R: Runtime
         + Files<File = File>
@@ -62,7 +62,7 @@ fn run<
     }
 }
 
-/// Does the job of the command line, or prints why it has none.
+/// Does the job of the command line, or prints why there is none.
 fn do_job<
     R: Runtime
         + Files<File = File>
@@ -96,6 +96,7 @@ fn do_job<
         }
         Ok(Job::Call(calling)) => {
             let status = call_site(rt, calling);
+            // Without `--site` no site file is read, so nothing is named.
             naming(rt, calling.site.unwrap_or(""), status)
         }
         Ok(Job::Point(pointing)) => {
@@ -118,7 +119,7 @@ fn do_job<
     }
 }
 
-/// Runs a site. Where its file has a fault, also says which command tells more of it.
+/// Runs a site. If its file has a fault, also prints which command reports all faults.
 fn run_site<
     R: Files<File = File>
         + Print
@@ -144,6 +145,7 @@ fn run_site<
         Ok(()) => Ok(0),
         Err(ProgramFault::Site(fault)) => {
             let fault = ProgramFault::Site(fault);
+            // Printed here rather than by `run`, so that the hint follows it.
             say_fault(rt, &fault);
             let _ = eprintln!(rt; "central: see central check --site {path}");
             Ok(fault.status())
@@ -152,7 +154,7 @@ fn run_site<
     }
 }
 
-/// Names the site file that a job couldn't read, if that is why it stopped.
+/// Prints the name of the site file that a job couldn't read, if that is why it stopped.
 fn naming<T, R: Files<File = File> + Eprint>(
     rt: &R,
     path: &str,
@@ -164,7 +166,7 @@ fn naming<T, R: Files<File = File> + Eprint>(
     done
 }
 
-/// Names the folder on which another process runs, if that is why a job stopped.
+/// Prints the name of the folder on which another process runs, if that is why a job stopped.
 fn naming_folder<T, R: Eprint>(
     rt: &R,
     path: &str,
@@ -176,7 +178,7 @@ fn naming_folder<T, R: Eprint>(
     done
 }
 
-/// The words of the command line, the program's name first.
+/// Returns the words of the command line, the program's name first.
 fn command_words<R: Env + AllocGlobal>(rt: &R) -> Result<Vec<String>, ProgramFault> {
     let words = match env::args(rt) {
         Ok(words) => words,
@@ -191,7 +193,7 @@ fn command_words<R: Env + AllocGlobal>(rt: &R) -> Result<Vec<String>, ProgramFau
     Ok(words)
 }
 
-/// Prints why a command line is no job, or the help that it asks for. Returns the exit status.
+/// Prints why a command line has no job, or the help that it requests. Returns the exit status.
 fn refuse<R: Print + Eprint>(rt: &R, error: clap::Error) -> Result<u8, ProgramFault> {
     if error.kind() == ErrorKind::OutOfMemory {
         return Err(ProgramFault::OutOfMemory);

@@ -9,22 +9,22 @@ use std::random::RandomSource;
 use tungstenite::handshake::client::request_of;
 use tungstenite::{Error, HandshakeError, RandomKeys, WebSocket, client};
 
-/// A connection whose handshake is done.
+/// A connection after its handshake.
 pub type Connection<R> = WebSocket<TcpStream, RandomKeys<R>>;
 
 /// The port of a `ws` URL without one (RFC 6455, section 3).
 const DEFAULT_PORT: u16 = 80;
 
-/// Where a client connects, with what it asks for there.
+/// The address to which a client connects, with the request of its handshake.
 #[derive(Drop)]
 pub struct Address {
     request: Request<()>,
-    /// Whether the client tells there who it is.
+    /// Whether the request has a name and a key.
     has_login: bool,
 }
 
 impl Address {
-    /// The address of a URL.
+    /// Returns the address of a URL.
     pub fn of_url(alloc: Global, url: &str) -> Result<Address, ClientFault> {
         let request = request_to(alloc, url)?;
         Ok(Address {
@@ -33,7 +33,7 @@ impl Address {
         })
     }
 
-    /// The address of an operator's URL.
+    /// Returns the address of an operator's URL.
     pub fn of_operator(alloc: Global, url: &str) -> Result<Address, ClientFault> {
         let address = Address::of_url(alloc, url)?;
         if !is_operators(address.request.uri().path()) {
@@ -42,16 +42,17 @@ impl Address {
         Ok(address)
     }
 
-    /// The same address, at which the client tells the name and the key that were read, if any were.
+    /// Returns the same address, with the name and the key that were read, if any were.
     pub fn logged_in(self, alloc: Global, login: &Option<String>) -> Result<Address, ClientFault> {
         match login {
+            // The file's last line feed isn't part of the key.
             Some(login) => self.with_login(alloc, login.as_str().trim_end()),
             None => Ok(self),
         }
     }
 
-    /// The same address, at which the client tells who it is: by a name, a colon and a password (HTTP
-    /// Basic, RFC 7617).
+    /// Returns the same address with credentials: a name, a colon and a password (HTTP Basic, RFC
+    /// 7617).
     fn with_login(self, alloc: Global, login: &str) -> Result<Address, ClientFault> {
         let Address { mut request, .. } = self;
         let coded = STANDARD.encode(alloc, login.as_bytes())?;
@@ -70,7 +71,7 @@ impl Address {
     }
 }
 
-/// Whether a path ends in `/operator/ID`.
+/// Returns whether a path ends in `/operator/ID`.
 fn is_operators(path: &str) -> bool {
     match path.rsplit_once('/') {
         Some((before, id)) => !id.is_empty() && before.ends_with("/operator"),
@@ -78,7 +79,7 @@ fn is_operators(path: &str) -> bool {
     }
 }
 
-/// Connects to an address, and shakes hands in the subprotocol of OCPP 1.6.
+/// Connects to an address, and performs the handshake with the subprotocol of OCPP 1.6.
 pub fn connect<R: Net<Stream = TcpStream> + RandomSource + Copy + Drop>(
     rt: &R,
     alloc: Global,
@@ -92,7 +93,7 @@ pub fn connect<R: Net<Stream = TcpStream> + RandomSource + Copy + Drop>(
     let Ok(stream) = TcpStream::connect(rt, (host, port)) else {
         return Err(ClientFault::Connection);
     };
-    // A message leaves at once. Where that can't be set, it leaves later.
+    // Messages leave at once. If this option can't be set, they only leave later.
     let _ = stream.set_nodelay(true);
     match client(alloc, *rt, request, stream) {
         Ok((socket, _)) => Ok(socket),
@@ -104,8 +105,7 @@ pub fn connect<R: Net<Stream = TcpStream> + RandomSource + Copy + Drop>(
     }
 }
 
-/// Why whoever listens there doesn't let a client in that told who it is, or didn't, by the status of
-/// its answer.
+/// Returns why a server refused a client with or without a login, by the status of its response.
 fn refusal_of(status: StatusCode, has_login: bool) -> ClientFault {
     match status.as_u16() {
         401 if has_login => ClientFault::WrongLogin,
@@ -115,13 +115,14 @@ fn refusal_of(status: StatusCode, has_login: bool) -> ClientFault {
     }
 }
 
-/// The request of the handshake.
+/// Builds the request of the handshake.
 fn request_to(alloc: Global, url: &str) -> Result<Request<()>, ClientFault> {
     let mut request = match request_of(alloc, url) {
         Ok(request) => request,
         Err(Error::OutOfMemory) => return Err(ClientFault::OutOfMemory),
         Err(_) => return Err(ClientFault::Url),
     };
+    // This program has no TLS, so it refuses `wss`.
     if request.uri().scheme_str() != Some("ws") {
         return Err(ClientFault::Url);
     }

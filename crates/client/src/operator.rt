@@ -11,22 +11,22 @@ use std::net::OpenStream;
 use std::sync::Wait;
 use tungstenite::{MaskKeys, Utf8Bytes, WebSocket};
 
-/// What became of a message.
+/// The outcome of a message.
 #[derive(Drop)]
 pub enum CallEnd {
     /// It was answered, neither by an error nor as Rejected.
     Accepted,
-    /// It was answered by a CALLERROR, or as Rejected: by this message.
+    /// It was answered by a CALLERROR, or as Rejected: this is the answer.
     Refused(Utf8Bytes),
-    /// It is no CALL, so it wasn't sent: no answer would ever come.
+    /// It isn't a CALL, so it wasn't sent: no answer would ever come.
     NotACall,
 }
 
-/// Where the messages that come are written, each on a line of its own.
+/// The output of the messages that arrive, each on a line of its own.
 #[derive(Drop)]
 pub struct AnswerLines<'a, W: Write> {
     pub writer: &'a mut W,
-    /// What each line begins with.
+    /// The beginning of each line.
     pub start: &'a str,
 }
 
@@ -41,7 +41,7 @@ impl<W: Write> AnswerLines<'_, W> {
     }
 }
 
-/// An operator's client, connected.
+/// A connected operator's client.
 #[derive(Drop)]
 pub struct OperatorClient<S: Read + Write, K: MaskKeys> {
     alloc: Global,
@@ -58,7 +58,7 @@ impl<S: Read + Write + OpenStream + Drop, K: MaskKeys + Drop> OperatorClient<S, 
         }
     }
 
-    /// Sends a CALL and waits for its answer. Each message that comes until then is written.
+    /// Sends a CALL and waits for its answer. Writes each message that arrives until then.
     pub fn call<R: Wait, W: Write>(
         &mut self,
         rt: &R,
@@ -69,6 +69,7 @@ impl<S: Read + Write + OpenStream + Drop, K: MaskKeys + Drop> OperatorClient<S, 
             return Ok(CallEnd::NotACall);
         };
         send(self.alloc, &mut self.socket, text)?;
+        // There is no timeout: while the connection lasts, an answer always comes.
         for _message in rt.forever() {
             let Came::Text(answer) = receive(&mut self.socket)? else {
                 continue;
@@ -89,7 +90,8 @@ impl<S: Read + Write + OpenStream + Drop, K: MaskKeys + Drop> OperatorClient<S, 
     }
 }
 
-/// The id of a message's CALL, that of a malformed one too: the central system answers that.
+/// Returns the id of the CALL in a message, even of a malformed one: the central system answers
+/// that.
 fn id_of_call(memory: &mut ReadingMemory, text: &str) -> Result<Option<MessageId>, ClientFault> {
     match read_frame(memory, text) {
         Ok(Frame::Call { id, .. }) => Ok(Some(id)),
@@ -100,14 +102,14 @@ fn id_of_call(memory: &mut ReadingMemory, text: &str) -> Result<Option<MessageId
     }
 }
 
-/// What an answer says of its CALL.
+/// The outcome of a CALL by its answer.
 #[derive(Clone, Copy)]
 enum Verdict {
     Accepted,
     Refused,
 }
 
-/// What a message says of the CALL of an id, if it answers that.
+/// Returns the outcome of the CALL of this id, if a message is its answer.
 fn verdict_of(
     memory: &mut ReadingMemory,
     text: &str,
@@ -136,7 +138,7 @@ fn verdict_in(frame: &Frame<'_>, call: &str) -> Option<Verdict> {
     }
 }
 
-/// Whether the payload of an answer has this status.
+/// Returns whether the payload of an answer has the status Rejected.
 fn is_rejected(payload: &Payload<'_>) -> bool {
     match text_field(payload.root(), "status") {
         Field::Value(status) => status == "Rejected",

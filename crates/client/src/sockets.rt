@@ -1,4 +1,4 @@
-//! Messages from a socket and to it.
+//! Reading messages from a socket and writing them to it.
 
 use client_lines::ClientFault;
 use std::alloc::Global;
@@ -10,17 +10,17 @@ use tungstenite::{Error, MaskKeys, Message, Utf8Bytes, WebSocket};
 /// How many seconds a connection that is being closed waits for each message of the other side.
 const CLOSING_SECONDS: u64 = 5;
 
-/// What came over a socket.
+/// The result of a read.
 #[derive(Drop)]
 pub(crate) enum Came {
     Text(Utf8Bytes),
-    /// A message of another kind: pings are answered by the socket itself.
+    /// A message of another kind. The socket itself answers pings.
     Other,
-    /// Nothing, for as long as is waited.
+    /// The read timed out or was interrupted.
     Nothing,
 }
 
-/// The next message.
+/// Reads the next message.
 pub(crate) fn receive<S: Read + Write + Drop, K: MaskKeys + Drop>(
     socket: &mut WebSocket<S, K>,
 ) -> Result<Came, ClientFault> {
@@ -32,7 +32,7 @@ pub(crate) fn receive<S: Read + Write + Drop, K: MaskKeys + Drop>(
     }
 }
 
-/// What came where reading gave an error.
+/// Returns the result of a read that gave an error.
 fn came_with(error: Error) -> Result<Came, ClientFault> {
     match error {
         Error::Io(error) => {
@@ -48,8 +48,8 @@ fn came_with(error: Error) -> Result<Came, ClientFault> {
     }
 }
 
-/// The kinds of error by which a system says that the time to wait is over, or that waiting was
-/// interrupted. A stop of the program that goes on later interrupts it too.
+/// Returns whether this kind of error is a timeout or an interrupted wait. Stopping and continuing
+/// the program interrupts it too.
 fn is_no_fault(kind: ErrorKind) -> bool {
     matches!(
         kind,
@@ -71,14 +71,15 @@ pub(crate) fn send<S: Read + Write + Drop, K: MaskKeys + Drop>(
     }
 }
 
-/// Closes the connection, and waits until the other side has done so too. At most this many
-/// messages are still read, and one that doesn't come for so long isn't waited for.
+/// Closes the connection, and waits for the other side to close it. Reads at most 1,000 more
+/// messages, and waits at most CLOSING_SECONDS for each.
 pub(crate) fn close<S: Read + Write + OpenStream + Drop, K: MaskKeys + Drop>(
     socket: &mut WebSocket<S, K>,
 ) {
     if socket.close(None).is_err() {
         return;
     }
+    // A stopped server sends nothing, and the read would wait forever.
     let time = Duration::from_secs(CLOSING_SECONDS);
     if socket.get_ref().set_read_timeout(Some(time)).is_err() {
         return;

@@ -13,8 +13,8 @@ use std::time;
 use std::time::Duration;
 use tungstenite::{MaskKeys, WebSocket};
 
-/// A simulated charge point, connected. What it sends and gets is written, each message on a line
-/// of its own behind `sent` or `got`.
+/// A connected simulated charge point. It writes the messages that it sends and receives, each on a
+/// line of its own after `sent` or `got`.
 #[derive(Drop)]
 pub struct TerminalPoint<'a, S: Read + Write, K: MaskKeys, W: Write> {
     pub alloc: Global,
@@ -24,9 +24,9 @@ pub struct TerminalPoint<'a, S: Read + Write, K: MaskKeys, W: Write> {
 }
 
 impl<S: Read + Write + OpenStream + Drop, K: MaskKeys + Drop, W: Write> TerminalPoint<'_, S, K, W> {
-    /// Does what each line says, and closes the connection behind the last one. A start that the
-    /// point accepts comes before the next line. A line that says nothing, or a step that makes no
-    /// call, is written as `! NUMBER NAME`. Returns how many there were.
+    /// Follows each line, and closes the connection after the last one. An accepted remote start
+    /// comes before the next line. A line that isn't valid or whose step makes no call is written
+    /// as `! NUMBER NAME`. Returns how many of these there were.
     pub fn play<R: Wait + Clock, I: Read + Drop, M: Moments>(
         mut self,
         rt: &R,
@@ -47,7 +47,7 @@ impl<S: Read + Write + OpenStream + Drop, K: MaskKeys + Drop, W: Write> Terminal
         Ok(faults)
     }
 
-    /// Does what a line says. The name of its fault, if it has one.
+    /// Follows a line. Returns the name of its fault, if it has one.
     fn take_line<R: Wait + Clock, M: Moments>(
         &mut self,
         rt: &R,
@@ -67,8 +67,8 @@ impl<S: Read + Write + OpenStream + Drop, K: MaskKeys + Drop, W: Write> Terminal
         }
     }
 
-    /// Makes the call of a step, and then the starts that came meanwhile. The name of the fault, if
-    /// the step makes none.
+    /// Makes the call of a step, and then the remote starts that came meanwhile. Returns the name
+    /// of the fault, if the step makes no call.
     fn make_step<R: Wait, M: Moments>(
         &mut self,
         rt: &R,
@@ -85,7 +85,7 @@ impl<S: Read + Write + OpenStream + Drop, K: MaskKeys + Drop, W: Write> Terminal
         Ok(None)
     }
 
-    /// Makes the starts that the point accepted: of the steps, they alone are left now.
+    /// Makes the accepted remote starts, which are the only steps left.
     fn make_starts<R: Wait, M: Moments>(&mut self, rt: &R, clock: &M) -> Result<(), ClientFault> {
         for _start in rt.forever() {
             if !self.make_call(rt, clock)? {
@@ -95,7 +95,7 @@ impl<S: Read + Write + OpenStream + Drop, K: MaskKeys + Drop, W: Write> Terminal
         unreachable!()
     }
 
-    /// Makes the call of the next step, and waits for its reply. Whether a step makes one.
+    /// Makes the call of the next step, and waits for its reply. Returns whether a step makes one.
     fn make_call<R: Wait, M: Moments>(&mut self, rt: &R, clock: &M) -> Result<bool, ClientFault> {
         let Ok(call) = self.point.next_call(present(clock)?) else {
             return Err(ClientFault::OutOfMemory);
@@ -113,7 +113,7 @@ impl<S: Read + Write + OpenStream + Drop, K: MaskKeys + Drop, W: Write> Terminal
         Ok(true)
     }
 
-    /// Answers what comes within this many seconds, and makes the starts that it is asked for.
+    /// Answers the messages of this many seconds, and makes the remote starts among them.
     fn pause<R: Wait + Clock, M: Moments>(
         &mut self,
         rt: &R,
@@ -130,18 +130,20 @@ impl<S: Read + Write + OpenStream + Drop, K: MaskKeys + Drop, W: Write> Terminal
             let Some(left) = Duration::from_secs(seconds).checked_sub(elapsed) else {
                 break;
             };
+            // A read timeout of zero is an error.
             if left.is_zero() {
                 break;
             }
             self.wait_at_most(Some(left))?;
             self.take_message(clock)?;
+            // The remote starts wait for their replies without a timeout.
             self.wait_at_most(None)?;
             self.make_starts(rt, clock)?;
         }
         Ok(())
     }
 
-    /// Sets how long a message is waited for.
+    /// Sets the longest time that a read waits for a message.
     fn wait_at_most(&mut self, time: Option<Duration>) -> Result<(), ClientFault> {
         match self.socket.get_ref().set_read_timeout(time) {
             Ok(()) => Ok(()),
@@ -149,7 +151,7 @@ impl<S: Read + Write + OpenStream + Drop, K: MaskKeys + Drop, W: Write> Terminal
         }
     }
 
-    /// Takes the next message, if one comes while it is waited for, and answers it.
+    /// Takes the next message, if one comes within that time, and answers it.
     fn take_message<M: Moments>(&mut self, clock: &M) -> Result<(), ClientFault> {
         let Came::Text(text) = receive(&mut self.socket)? else {
             return Ok(());

@@ -1,4 +1,4 @@
-//! The commands that connect to a site as others do: a simulated point, `point`, and `status`.
+//! The commands that connect to a site as clients: `point`, a simulated charge point, and `status`.
 #![tactic(auto)]
 
 mod pointing;

@@ -1,36 +1,25 @@
 //! The job of `central point`.
 
-use client::{Address, TerminalPoint, connect};
+use client::{Address, ClientRuntime, TerminalPoint, connect};
 use client_lines::Lines;
 use command_io::{ProgramFault, read_login, read_site_file};
-use journal_file::SystemClock;
 use jobs::Pointing;
+use ocpp_scalars::SystemClock;
 use sim_point_core::SimPoint;
 use site_rules::Site;
 use std::alloc::{AllocError, AllocGlobal, Global};
 use std::fs::File;
 use std::io;
-use std::net::TcpStream;
-use std::random::RandomSource;
-use std::rt::{Clock, Files, Net};
-use std::sync::Wait;
+use std::rt::Files;
 
 /// Simulates a charge point. Returns the exit status.
-pub fn run_point<
-    R: Files<File = File>
-        + Input
-        + Print
-        + Eprint
-        + AllocGlobal
-        + Clock
-        + Net<Stream = TcpStream>
-        + RandomSource
-        + Wait
-        + Copy
-        + Drop,
->(rt: &R, pointing: Pointing<'_>) -> Result<u8, ProgramFault> {
+pub fn run_point<R: ClientRuntime + Files<File = File> + Input>(
+    rt: &R,
+    pointing: Pointing<'_>,
+) -> Result<u8, ProgramFault> {
     let alloc = rt.alloc();
     let base = pointing.url.trim_end_matches('/');
+    // The last segment of the URL is the point's identity (OCPP-J 1.6, 3.1.1).
     let url = format!(in alloc; "{base}/{}", pointing.id)?;
     let address = Address::of_url(alloc, url.as_str())?;
     let login = read_login(rt, pointing.login)?;
@@ -51,7 +40,7 @@ pub fn run_point<
     }
 }
 
-/// A simulated point with the ceilings of the site's.
+/// Makes a simulated point with the ceilings of the site's point of this identity.
 fn point_of_site(alloc: Global, site: &Site, id: &str) -> Result<SimPoint, ProgramFault> {
     let Some(place) = site.place_of(id) else {
         return Err(ProgramFault::NoSuchPoint);

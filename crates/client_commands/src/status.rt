@@ -6,16 +6,16 @@ use command_io::{ProgramFault, print_page};
 use std::alloc::AllocGlobal;
 use std::net::{Net, TcpStream};
 
-/// The exit status where a site isn't well.
+/// The exit status if a site isn't well.
 const NOT_WELL: u8 = 2;
 
-/// The status of an answer that has what was asked for (RFC 9110, section 15).
+/// The status of a response with the requested state (RFC 9110, section 15).
 const OK: u16 = 200;
 
-/// That of one which has it not yet.
+/// The status of a response that doesn't have it yet.
 const UNAVAILABLE: u16 = 503;
 
-/// Shows how the site is at whose status port this URL is. Returns the exit status.
+/// Shows the state of the site whose status port has this URL. Returns the exit status.
 pub fn show_status<R: Print + Eprint + AllocGlobal + Net<Stream = TcpStream>>(
     rt: &R,
     url: &str,

@@ -1,4 +1,4 @@
-//! What the status port of a site that is run answers.
+//! The responses of a running site's status port.
 
 use command_io::ProgramFault;
 use http::Uri;
@@ -14,16 +14,16 @@ use std::time::Duration;
 /// The port of an `http` URL without one (RFC 9110, section 4.2.1).
 const DEFAULT_PORT: u16 = 80;
 
-/// For so many seconds it is waited for more of an answer.
+/// Timeout for the rest of the response, in seconds.
 const LONGEST_WAIT: u64 = 10;
 
-/// A longer answer is none.
+/// The largest size of a response, in bytes.
 const LONGEST_ANSWER: u64 = 64 * 1_048_576;
 
-/// An answer with more header fields is none.
+/// The largest number of header fields in a response.
 const MAX_FIELDS: usize = 64;
 
-/// An answer of the status port.
+/// A response of the status port.
 #[derive(Drop)]
 pub struct StatusReply {
     /// Its status (RFC 9110, section 15).
@@ -31,7 +31,7 @@ pub struct StatusReply {
     pub body: String,
 }
 
-/// What is answered to a GET of this path at the status port of a URL.
+/// Sends a GET of this path to the status port of a URL, and returns the response.
 pub fn ask_status<R: AllocGlobal + Eprint + Net<Stream = TcpStream>>(
     rt: &R,
     url: &str,
@@ -43,7 +43,7 @@ pub fn ask_status<R: AllocGlobal + Eprint + Net<Stream = TcpStream>>(
         return Err(ProgramFault::StatusUrl);
     };
     let port = uri.port_u16().unwrap_or(DEFAULT_PORT);
-    // By HTTP/1.0 an answer ends with its connection.
+    // With HTTP/1.0, a response ends with its connection: no length or chunks have to be read.
     let request = format!(in alloc; "GET {path} HTTP/1.0\r\nHost: {host}:{port}\r\n\r\n")?;
     let answer = match exchange(rt, (host, port), request.as_str()) {
         Ok(answer) => answer,
@@ -79,7 +79,7 @@ fn exchange<R: AllocGlobal + Net<Stream = TcpStream>>(
     Ok(answer)
 }
 
-/// The answer in these bytes: its status, and what follows its head.
+/// Returns the response in these bytes: its status, and the text after its head.
 fn reply_in(alloc: Global, bytes: &[u8]) -> Result<StatusReply, ProgramFault> {
     let mut fields = [EMPTY_HEADER_SPAN; MAX_FIELDS];
     let Ok(Status::Complete(head)) = parse_response(bytes, &mut fields) else {

@@ -6,7 +6,7 @@ use show_pages::Table;
 use site_status::push_on_one_line;
 use std::alloc::{AllocError, Global};
 
-/// What a table of points has at its head.
+/// The column headings of a table of points.
 const HEADINGS: [&str; 9] = [
     "point",
     "connected since",
@@ -19,19 +19,19 @@ const HEADINGS: [&str; 9] = [
     "rejected",
 ];
 
-/// What stands for what wasn't seen.
+/// The cell of a value that wasn't observed.
 const NONE: &str = "-";
 
-/// A site as its state tells it.
+/// The state of a site, as printed.
 #[derive(Drop)]
 pub struct StatusTable {
-    /// The table, and below it what is to be done.
+    /// The table, with warnings below it.
     pub text: String,
     /// Whether the site is well.
     pub is_well: bool,
 }
 
-/// The table of a state, as `/state.json` has it.
+/// Returns the table of a state in the form of `/state.json`.
 pub fn status_table(alloc: Global, state: &str) -> Result<StatusTable, ProgramFault> {
     let mut scratch = Scratch::new(alloc);
     let state = match Value::parse(alloc, state, &mut scratch) {
@@ -61,7 +61,7 @@ pub fn status_table(alloc: Global, state: &str) -> Result<StatusTable, ProgramFa
     Ok(StatusTable { text, is_well })
 }
 
-/// The cells of a point.
+/// Returns the cells of a point.
 fn cells_of(alloc: Global, point: &Value<'_>) -> Result<[String; 9], AllocError> {
     Ok([
         cell(alloc, text_in(point, "id"))?,
@@ -80,7 +80,7 @@ fn cell(alloc: Global, text: Option<&str>) -> Result<String, AllocError> {
     String::from_str(alloc, text.unwrap_or(NONE))
 }
 
-/// How many calls a point rejected, and the last of them with its reason.
+/// Returns the number of calls that a point rejected, and the last of them with its reason.
 fn rejected_cell(alloc: Global, point: &Value<'_>) -> Result<String, AllocError> {
     let mut cell = cell(alloc, number_in(point, "rejections"))?;
     let Some(rejected) = point.get("rejected") else {
@@ -92,12 +92,13 @@ fn rejected_cell(alloc: Global, point: &Value<'_>) -> Result<String, AllocError>
             write!(cell, ", {action}")?;
         }
         cell.push_str(", ")?;
+        // The reason is the point's own text: a line break in it would spoil the table.
         push_on_one_line(&mut cell, reason)?;
     }
     Ok(cell)
 }
 
-/// Appends what is to be done for a point, where there is something.
+/// Appends a warning for a point, if it needs one.
 fn push_warning(out: &mut String, point: &Value<'_>) -> Result<(), AllocError> {
     let (Some(true), Some(id)) = (flag_in(point, "mayHaveForgotten"), text_in(point, "id")) else {
         return Ok(());

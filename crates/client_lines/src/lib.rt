@@ -1,6 +1,6 @@
-//! What programs at the other end of the central system's sockets read and write (OCPP-J 1.6), but for
-//! the sockets: lines of standard input, an operator's calls, the steps of a simulated charge point, and
-//! why a client stops.
+//! Input and output of clients of the central system (OCPP-J 1.6), without the sockets: lines of
+//! standard input, an operator's calls, the steps of a simulated charge point, and why a client
+//! stops.
 #![tactic(auto)]
 
 mod fault;

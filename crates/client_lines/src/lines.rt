@@ -24,8 +24,9 @@ impl<R: Read + Drop> Lines<R> {
         })
     }
 
-    /// Reads the next line that isn't empty. Whether there was one.
+    /// Reads the next line that isn't empty. Returns whether there was one.
     pub fn advance(&mut self) -> Result<bool, ClientFault> {
+        // The loop has a bound, since a function has to return unless it may wait.
         for _empty in 0..u64::MAX {
             self.line.clear();
             match self.reader.read_until(b'\n', &mut self.line) {
@@ -44,12 +45,12 @@ impl<R: Read + Drop> Lines<R> {
         Ok(false)
     }
 
-    /// The number of the line that was read last, from 1 on. Empty ones count.
+    /// Returns the number of the line read last, from 1 on. Empty lines count.
     pub fn number(&self) -> u64 {
         self.number
     }
 
-    /// The text of that line, if it is UTF-8.
+    /// Returns the text of that line, if it is UTF-8.
     pub fn text(&self) -> Option<&str> {
         str::from_utf8(self.bytes()).ok()
     }

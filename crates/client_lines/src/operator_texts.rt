@@ -1,20 +1,21 @@
-//! An operator's calls, made from what a command line gives. Their ids say what they are.
+//! An operator's calls, made from the options of a command line. Their message ids name their kind.
 
 use ocppj_frame::{push_string, write_call};
 use std::alloc::{AllocError, Global};
 
-/// SetChargingProfile (chapter 5.16) with a payload that is given as its text.
+/// Writes a SetChargingProfile (chapter 5.16) with this text as its payload.
 pub fn set_profile_call(alloc: Global, payload: &str) -> Result<String, AllocError> {
+    // The payload isn't parsed here: `call --force` also sends a faulty one.
     write_call(alloc, "set-profile", "SetChargingProfile", payload)
 }
 
-/// ClearChargingProfile (chapter 5.5) with a payload that is given as its text.
+/// Writes a ClearChargingProfile (chapter 5.5) with this text as its payload.
 pub fn clear_call(alloc: Global, payload: &str) -> Result<String, AllocError> {
     write_call(alloc, "clear", "ClearChargingProfile", payload)
 }
 
-/// RemoteStartTransaction (chapter 5.11) of a connector and an idTag, and with a profile where its
-/// text is given.
+/// Writes a RemoteStartTransaction (chapter 5.11) of a connector and an idTag, with a profile if
+/// its text is given.
 pub fn remote_start_call(
     alloc: Global,
     connector: u32,
@@ -36,21 +37,21 @@ pub fn remote_start_call(
     )
 }
 
-/// GetCompositeSchedule (chapter 5.7) of a connector, and for this many seconds, each given as its
-/// text.
+/// Writes a GetCompositeSchedule (chapter 5.7) of a connector and a number of seconds, each given
+/// as its text.
 pub fn ask_call(alloc: Global, connector: &str, seconds: &str) -> Result<String, AllocError> {
     let payload = payload_of(alloc, connector, seconds)?;
     write_call(alloc, "ask", "GetCompositeSchedule", payload.as_str())
 }
 
-/// AuditPoint, the central system's own, of a connector, and for this many seconds, each given as
-/// its text.
+/// Writes an AuditPoint, an action of the central system's own, of a connector and a number of
+/// seconds, each given as its text.
 pub fn audit_call(alloc: Global, connector: &str, seconds: &str) -> Result<String, AllocError> {
     let payload = payload_of(alloc, connector, seconds)?;
     write_call(alloc, "audit", "AuditPoint", payload.as_str())
 }
 
-/// PointStatus, the central system's own.
+/// Writes a PointStatus, an action of the central system's own.
 pub fn status_call(alloc: Global) -> Result<String, AllocError> {
     write_call(alloc, "status", "PointStatus", "{}")
 }

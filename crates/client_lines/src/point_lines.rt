@@ -1,16 +1,16 @@
-//! What a line tells a simulated charge point to do.
+//! The lines that direct a simulated charge point.
 
 use ocpp_scalars::IdTag;
 use sim_point_core::SimStep;
 use std::alloc::{AllocError, Global};
 use std::str::FromStr;
 
-/// What a line tells a simulated point to do.
+/// The content of a line for a simulated point.
 #[derive(Drop)]
 pub enum PointLine {
-    /// To make a call of its own.
+    /// Make a call of the point's own.
     Step(SimStep),
-    /// To wait this many seconds, and to answer what comes meanwhile.
+    /// Wait this many seconds, and answer the messages that come meanwhile.
     Pause(u64),
 }
 
@@ -18,7 +18,7 @@ pub enum PointLine {
 const MAX_PAUSE: u64 = 86_400;
 
 /// Reads a line: `heartbeat`, `start CONNECTOR TAG METER`, `stop CONNECTOR` or `pause SECONDS`,
-/// with blanks between its words. `None` where it is none of these.
+/// with blanks between its words. Returns `None` for any other line.
 pub fn point_line(alloc: Global, text: &str) -> Result<Option<PointLine>, AllocError> {
     let mut words = text.split_whitespace();
     let line = match words.next() {

@@ -1,4 +1,4 @@
--- Why the program stops where its site isn't read.
+-- Why the program stops if its site can't be read.
 use Rattle.std.specs.Prelude.{⊤, ◌≡◌, ℕ, List, Err}
 use Rattle.site_rules.specs.declared.fault.SiteFault.{SiteFault}
 use Rattle.site_rules.specs.declared.fault.SiteFault.TheVariants as site_fault

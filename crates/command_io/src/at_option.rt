@@ -1,12 +1,12 @@
-//! How far `--at` says that a script or a journal is played.
+//! The end of a script or a journal that `--at` names.
 
 use crate::program_fault::ProgramFault;
 use crate::unzoned::note_unzoned;
 use journal_file::ScriptEnd;
 use ocpp_scalars::read_instant;
 
-/// How far `--at` says that a script is played: a number of lines, or a moment. Says where that has
-/// no zone.
+/// Returns the end up to which a script is played by `--at`: a number of lines, or a moment. Prints
+/// a note if the moment has no zone.
 pub fn script_end<R: Eprint>(rt: &R, at: Option<&str>) -> Result<ScriptEnd, ProgramFault> {
     let Some(at) = at else {
         return Ok(ScriptEnd::Whole);

@@ -1,4 +1,4 @@
-//! The file of those who may come.
+//! The file of keys.
 
 use crate::program_fault::ProgramFault;
 use journal_file::or_stop;
@@ -9,10 +9,10 @@ use std::fs;
 use std::fs::File;
 use std::rt::Files;
 
-/// The most bytes of a file of keys.
+/// The largest size of a file of keys, in bytes.
 const MAX_KEY_BYTES: usize = 1_048_576;
 
-/// Reads the keys of a file. One that can't be read is named on standard error.
+/// Reads the keys of a file. If it can't be read, prints its name to standard error.
 pub fn read_key_file<R: Files<File = File> + Eprint + AllocGlobal>(
     rt: &R,
     path: &str,
@@ -21,7 +21,7 @@ pub fn read_key_file<R: Files<File = File> + Eprint + AllocGlobal>(
     Ok(Keys::read(rt.alloc(), bytes.as_slice())?)
 }
 
-/// Reads the bytes of a file of keys. One that can't be read is named on standard error.
+/// Reads the bytes of a file of keys. If it can't be read, prints its name to standard error.
 pub fn read_key_bytes<R: Files<File = File> + Eprint + AllocGlobal>(
     rt: &R,
     path: &str,

@@ -1,4 +1,4 @@
-//! What the commands of the program read and print, and why they stop, with the exit statuses.
+//! Input and output of the program's commands, why they stop, and the exit statuses.
 #![tactic(auto)]
 
 mod at_option;

@@ -1,4 +1,4 @@
-//! Who a client says that it is.
+//! The name and the key of a client.
 
 use crate::payload_file::read_payload_file;
 use crate::program_fault::ProgramFault;

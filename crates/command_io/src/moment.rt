@@ -1,11 +1,10 @@
 //! The present moment.
 
 use crate::program_fault::ProgramFault;
-use journal_file::SystemClock;
-use ocpp_scalars::{Instant, Moments};
+use ocpp_scalars::{Instant, Moments, SystemClock};
 use std::rt::Clock;
 
-/// The present moment, by the system's clock.
+/// Returns the present moment, by the system's clock.
 pub fn now<R: Clock>(rt: &R) -> Result<Instant, ProgramFault> {
     match (SystemClock { rt }).now() {
         Some(now) => Ok(now),

@@ -7,18 +7,18 @@ use std::io::Write;
 use std::rt::Files;
 use std::{fs, io};
 
-/// What is known of standard output.
+/// The properties of standard output.
 #[derive(Clone, Copy)]
 pub struct Screen {
     /// Whether it is a terminal.
     pub is_terminal: bool,
 }
 
-/// The columns of a terminal that doesn't tell how many it has.
+/// The columns assumed for a terminal: its real number isn't known.
 const COLUMNS: usize = 80;
 
 impl Screen {
-    /// How many columns a page has, where it is for a terminal.
+    /// Returns how many columns a page has, if it is for a terminal.
     pub fn columns(self) -> Option<usize> {
         if self.is_terminal {
             Some(COLUMNS)
@@ -28,17 +28,17 @@ impl Screen {
     }
 }
 
-/// The exit status where what is printed is without lines that were refused, or that are torn.
+/// The exit status if lines that were refused or are torn are missing in the output.
 const NOT_ALL: u8 = 2;
 
-/// The exit status of a page of what a script or a journal leads to.
+/// Returns the exit status of a page on a script or a journal, given whether it includes all lines.
 pub fn page_status(is_whole: bool) -> u8 {
     if is_whole { 0 } else { NOT_ALL }
 }
 
-/// Says on standard error how many lines of a script have a fault or were refused, if any: what is
-/// printed of the script is without them. Where that can't be written nothing else is lost. Whether
-/// there are none.
+/// Prints to standard error how many lines of a script have a fault or were refused, if any: the
+/// output is without them. If this can't be written, nothing else is lost. Returns whether there
+/// are none.
 pub fn note_refused_lines<R: Eprint>(rt: &R, playing: &Playing<'_>) -> bool {
     let count = playing.refused_lines();
     if count > 0 {
@@ -49,7 +49,8 @@ pub fn note_refused_lines<R: Eprint>(rt: &R, playing: &Playing<'_>) -> bool {
     count == 0
 }
 
-/// Prints a page. One whose reader left, as `head` does, counts as printed. Says why it can't be.
+/// Prints a page. If its reader closes the pipe, as `head` does, it counts as printed. Prints why
+/// it can't be.
 pub fn print_page<R: Print + Eprint>(rt: &R, page: &str) -> Result<(), ProgramFault> {
     let mut writer = io::writer(rt);
     match writer
@@ -61,7 +62,8 @@ pub fn print_page<R: Print + Eprint>(rt: &R, page: &str) -> Result<(), ProgramFa
     }
 }
 
-/// What comes of a write of help to standard output: a pipe that its reader closed is no fault.
+/// Returns the result of printing help to standard output: a pipe that its reader closed is no
+/// fault.
 pub fn as_printed(written: io::Result<()>) -> Result<(), ProgramFault> {
     match written {
         Ok(()) => Ok(()),
@@ -70,8 +72,8 @@ pub fn as_printed(written: io::Result<()>) -> Result<(), ProgramFault> {
     }
 }
 
-/// Writes a page to a file, in the place of what was there. One that can't be written is named on
-/// standard error, with the cause.
+/// Writes a page to a file, replacing its content. If that fails, prints the file's name and the
+/// cause to standard error.
 pub fn write_file<R: Files + Eprint>(rt: &R, path: &str, page: &str) -> Result<(), ProgramFault> {
     let created = fs::create(rt, path);
     let mut file = or_stop(rt, path, created, ProgramFault::Write)?;

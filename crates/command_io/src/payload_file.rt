@@ -1,4 +1,4 @@
-//! The file of a payload, opened and read.
+//! The file of a payload.
 
 use crate::program_fault::ProgramFault;
 use journal_file::or_stop;
@@ -8,10 +8,10 @@ use std::fs::File;
 use std::io::Read;
 use std::rt::Files;
 
-/// The most bytes of a payload's file: no message may have more.
+/// The largest size of a payload's file, in bytes: no message may be longer.
 const MAX_PAYLOAD_BYTES: u64 = 1_048_576;
 
-/// Reads the text of a file. One that can't be read is named on standard error, with the cause.
+/// Reads the text of a file. If it can't be read, prints its name and the cause to standard error.
 pub fn read_payload_file<R: Files<File = File> + Eprint + AllocGlobal>(
     rt: &R,
     path: &str,
@@ -19,7 +19,7 @@ pub fn read_payload_file<R: Files<File = File> + Eprint + AllocGlobal>(
     let opened = fs::open(rt, path);
     let mut file = or_stop(rt, path, opened, ProgramFault::File)?;
     let mut bytes = Vec::new(rt.alloc());
-    // One byte more is asked for, to see whether there is one.
+    // One more byte is requested, to see whether the file is too long.
     let read = file
         .by_ref()
         .take(MAX_PAYLOAD_BYTES + 1)

@@ -11,19 +11,19 @@ use site_keys::{KeysFault, NewKeyFault};
 use site_rules::SiteFault;
 use std::alloc::{AllocError, AllocFailed};
 
-/// Why the program stops, in the words of its one line on standard error.
+/// The reason why the program stops, in the words of its one line on standard error.
 #[derive(Debug, Drop, thiserror::Error)]
 pub enum ProgramFault {
     /// A word of the command line isn't UTF-8.
     #[error("central: command line: not UTF-8")]
     Words,
-    /// The site file says no site.
+    /// The site file describes no site.
     #[error("central: site: {0}")]
     Site(SiteFault),
     /// The site file can't be read.
     #[error("central: device: read")]
     SiteFile,
-    /// Standard output can't be written, by another command than a replay.
+    /// Standard output can't be written, by a command other than a replay.
     #[error("central: device: write")]
     Write,
     /// The replay stopped.
@@ -32,14 +32,14 @@ pub enum ProgramFault {
     /// The server's sockets failed.
     #[error("central: device: socket")]
     Socket,
-    /// Nothing comes of the journal of the folder of the data.
+    /// The journal in the folder of the data can't be used.
     #[error("central: {0}")]
     Folder(FolderFault),
     /// A client stopped.
     #[error("central: {0}")]
     Client(ClientFault),
-    /// A script's file or a file of keys can't be read. Or that of a payload or a profile can't be, isn't
-    /// UTF-8, or is longer than a message may be.
+    /// A script's file or a file of keys can't be read. Or a file of a payload or a profile can't
+    /// be read, isn't UTF-8, or is longer than a message may be.
     #[error("central: device: read")]
     File,
     /// The site has no point of the identity that the command line names.
@@ -48,76 +48,78 @@ pub enum ProgramFault {
     /// The point has no connector of the number that the command line names.
     #[error("central: command line: the point has no such connector")]
     NoSuchConnector,
-    /// The command line names no instant.
+    /// The start isn't an instant.
     #[error("central: command line: --start is no instant, such as 2025-01-01T12:00:00Z, and not now")]
     NoInstant,
-    /// The command line names no duration.
+    /// The duration isn't valid.
     #[error("central: command line: --duration is none from 1 second to 31 days, such as 3600, 90m, 12h, 2d or PT1H30M")]
     NoDuration,
-    /// The command line names neither a number of lines nor an instant.
+    /// The end of the script is neither a number of lines nor an instant.
     #[error("central: command line: --at is no number of lines, and no instant")]
     NoScriptEnd,
-    /// The connector of a remote start is no number.
+    /// The connector of a remote start isn't a number.
     #[error("central: command line: the CONNECTOR of --remote-start is no whole number from 0 on")]
     NoNumber,
-    /// The points of a site are called, or calls are checked by what they have, or there is no site.
+    /// A site is given without `--all` and `--data`, or one of these without a site.
     #[error("central: command line: --site F is for --all or --data DIR, and each of them needs it")]
     AllWithoutSite,
-    /// The URL names one point, and all are called.
+    /// The URL names one point, but all are called.
     #[error("central: command line: with --all the URL ends in /operator, before the points")]
     AllElsewhere,
-    /// What goes to all points, and is checked by what they have, are the calls of options.
+    /// All points are called, or calls are checked by a journal, but no option gives a call.
     #[error("central: command line: --all and --data DIR are for the calls of options, and there is none")]
     AllWithoutCalls,
-    /// A line of a journal is undone at its point alone, by what that has now.
+    /// A line is undone without a journal, or at all points: it is undone at its own point, by the
+    /// present state.
     #[error("central: command line: --undo LINE needs --data DIR, and goes without --all")]
     UndoWithoutData,
     /// The journal has no message on the line that is to be undone.
     #[error("central: command line: the journal has no message on the line of --undo")]
     NoUndoLine,
-    /// The URL is that of the operator of another point than that of the line.
+    /// The URL is that of another point than the point of the line.
     #[error("central: command line: the line of --undo is of another point than the URL")]
     UndoElsewhere,
-    /// What the command line asks for ends past the last instant.
+    /// The requested time ends after the last instant.
     #[error("central: command line: it would end past the year 9999")]
     PastCalendar,
-    /// The name of a picture's file ends in neither form.
+    /// The name of a picture's file doesn't end in one of the two forms.
     #[error("central: command line: the name of a picture's file ends in .svg or .html")]
     NoPicture,
-    /// The name of a zone is none, or the system's database hasn't its file.
+    /// The name of a zone isn't valid, or the system's database has no file of it.
     #[error("central: command line: --zone names no time zone of /usr/share/zoneinfo, such as Europe/Berlin")]
     NoZone,
-    /// What is printed for programs, and what is drawn, has its times in UTC.
+    /// A zone is given for JSON or a picture, which have their times in UTC.
     #[error("central: command line: --zone is for the table, and goes without --json and --picture")]
     ZoneElsewhere,
-    /// By the zone's clock what is explained would begin before 1970, or it ends in the last days of the calendar.
+    /// By the zone's clock, the explained time would begin before 1970, or it ends in the last days
+    /// of the calendar.
     #[error("central: command line: with --zone it begins in 1970 or later by that clock, and ends before 9999-12-31")]
     ZonePastCalendar,
     /// An address to listen at has no port.
     #[error("central: command line: --listen and --status want HOST:PORT, such as 127.0.0.1:9000")]
     NoPort,
-    /// Without keys nobody from elsewhere may connect.
+    /// Without keys, no client on another machine may connect.
     #[error("central: command line: without --keys it listens at this machine alone, such as 127.0.0.1:9000")]
     NoKeys,
     /// The status port has no passwords.
     #[error("central: command line: without --status-open the status port is at this machine alone, such as 127.0.0.1:9100")]
     StatusOpen,
-    /// A URL is none of a status port.
+    /// A URL can't be that of a status port.
     #[error("central: url: not http://HOST:PORT")]
     StatusUrl,
-    /// Whoever answers at a URL isn't the status port of a site that is run.
+    /// The server at a URL isn't the status port of a running site.
     #[error("central: url: no status of a site there")]
     NoStatus,
-    /// A line of the file of keys is no key.
+    /// A line of the file of keys isn't a key.
     #[error("central: keys: {0}")]
     Keys(KeysFault),
     /// The file of `--login` has no name with a key.
     #[error("central: login: no NAME:KEY in the file of --login; central key prints one")]
     Login,
-    /// A key is to be made for a name that none may have.
+    /// A key can't be made for this name.
     #[error("central: command line: --name is empty, or has a blank, a colon or a control character")]
     KeyName,
-    /// The clock tells no moment.
+    /// The clock can't be read.
     #[error("central: device: clock")]
     Clock,
     /// The system gives no random bytes.
@@ -129,7 +131,7 @@ pub enum ProgramFault {
 }
 
 impl ProgramFault {
-    /// The program's exit status.
+    /// Returns the program's exit status.
     pub fn status(&self) -> u8
         ensures { result ≡ fault_status self.now }
     {
@@ -161,7 +163,7 @@ impl ProgramFault {
     }
 }
 
-/// The program's exit status where nothing comes of a folder's journal.
+/// Returns the program's exit status if a folder's journal can't be used.
 fn folder_status(fault: &FolderFault) -> u8
     ensures { result ≡ folder_status fault.now }
 {
@@ -181,7 +183,7 @@ fn folder_status(fault: &FolderFault) -> u8
     }
 }
 
-/// The program's exit status after a whole replay.
+/// Returns the program's exit status after a whole replay.
 pub fn summary_status(summary: Summary) -> u8
     ensures { result ≡ summary_status summary }
 {
@@ -196,6 +198,7 @@ impl From<SiteFault> for ProgramFault {
 
     fn from(fault: SiteFault) -> ProgramFault {
         match fault {
+            // A failed allocation is no fault of the file, and has an exit status of its own.
             SiteFault::OutOfMemory => ProgramFault::OutOfMemory,
             fault => ProgramFault::Site(fault),
         }

@@ -1,4 +1,4 @@
-//! The script that a command reads: that of standard input or of a file, or the journal of a folder.
+//! The script that a command reads: from standard input or a file, or the journal of a folder.
 
 ghost use Rattle.std.specs.Prelude.{◌≤◌, IfOk, vec_len};
 ghost use Rattle.replay.specs.Limits.{max_script_bytes};
@@ -13,8 +13,8 @@ use std::fs::File;
 use std::io::Read;
 use std::rt::Files;
 
-/// Reads what is to be played: the script of standard input or of a file, or the journal of a folder
-/// as a script.
+/// Reads the script to play: that of standard input or of a file, or the journal of a folder as a
+/// script.
 pub fn read_script_of<R: Files<File = File> + Input + Eprint + AllocGlobal>(
     rt: &R,
     source: Source<'_>,
@@ -40,7 +40,8 @@ fn read_script<R: Input + AllocGlobal>(rt: &R) -> Result<Vec<u8>, ProgramFault>
     }
 }
 
-/// Reads the script of a file. One that can't be read is named on standard error, with the cause.
+/// Reads the script of a file. If it can't be read, prints its name and the cause to standard
+/// error.
 fn read_script_file<R: Files<File = File> + Eprint + AllocGlobal>(
     rt: &R,
     path: &str,
@@ -50,7 +51,7 @@ fn read_script_file<R: Files<File = File> + Eprint + AllocGlobal>(
     let opened = fs::open(rt, path);
     let mut file = or_stop(rt, path, opened, ProgramFault::File)?;
     let mut script = Vec::new(rt.alloc());
-    // One byte more is asked for, to see whether there is one.
+    // One more byte is requested, to see whether the file is too long.
     let read = file
         .by_ref()
         .take(MAX_SCRIPT_BYTES as u64 + 1)

@@ -37,10 +37,11 @@ pub fn read_digested_site<R: Files + AllocGlobal>(
     Ok((site, Sha256::digest(bytes.as_slice())))
 }
 
-/// Says on standard error why a site file can't be read. Another try tells the system's cause: the
-/// first one keeps to one line for `replay` and `serve`.
+/// Prints to standard error why a site file can't be read. Opens it again for the system's cause,
+/// since the first attempt keeps to one line for `replay` and `serve`.
 pub fn say_unread<R: Files + Eprint>(rt: &R, path: &str) {
     let cause = match fs::open(rt, path) {
+        // A folder can be opened, and fails only when it is read.
         Ok(mut file) => file.read(&mut [0u8; 1]).err(),
         Err(error) => Some(error),
     };

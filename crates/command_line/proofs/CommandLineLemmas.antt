@@ -1,4 +1,4 @@
--- What clap says of a command line, said of this program's command.
+-- The clauses of clap on a command line, for this program's command.
 use Rattle.std.proofs.Common.{◌≡◌, ℕ, ◌<◌, ◌^◌, Bool, List, [], ◌∷◌, inl, inr, Option, Some, None, IfSome, Result, Ok, Err, IfOk, option_map, true, false, refl, sym, ap, ◌∙◌, subst}
 use Rattle.std.specs.Prelude.{IsSomeAnd}
 use Rattle.std.specs.Str.Parse.{IsNumeral, ParsesUnsigned, digits_value, without_leading_plus}
@@ -17,7 +17,7 @@ central_is_free : is_simple_and_free central_app ≡ true
 unfolding central_app clap_on_literals
 central_is_free = refl
 
--- what clap says of the words' faults, said of this program's command
+-- clap's clause on the faults of words, for this program's command
 fault_as : (app : App) (words : List Text) (P : Kinds → Type 0) → app ≡ central_app → (is_simple_and_free app ≡ true → P (fault_of app words)) → P (fault_of central_app words)
 fault_as app words P same fails = subst (λ (a : App). P (fault_of a words)) same (fails (ap is_simple_and_free same ∙ central_is_free))
 
@@ -29,7 +29,7 @@ kind_of_first : (kinds next : Kinds) (e : Error) → HasKind kinds e → HasKind
 kind_of_first kinds next e (inl memory) = inl memory
 kind_of_first kinds next e (inr among) = inr (among_first _ kinds next among)
 
--- an error of clap's is one of the line
+-- an error of clap is one of the line
 pub fails_as : (app : App) (words : List Text) (e : Error) → app ≡ central_app → (is_simple_and_free app ≡ true → HasKind (fault_of app words) e) → HasKind (line_faults words) e
 unfolding line_faults
 fails_as app words e same fails = kind_of_first _ _ e (fault_as app words (λ kinds. HasKind kinds e) same fails)
@@ -37,7 +37,7 @@ fails_as app words e same fails = kind_of_first _ _ e (fault_as app words (λ ki
 second : (kinds next : Kinds) → kinds ≡ [] → or_else kinds next ≡ next
 second kinds next none = rw none refl
 
--- where clap takes the words, the line's faults are those of its scripts
+-- if clap accepts the words, the line's faults are those of its scripts
 pub faults_of_scripts : (app : App) (words : List Text) (name : Text) (rows : List Row) → app ≡ central_app
     → (is_simple_and_free app ≡ true → fault_of app words ≡ []) → subcommand_named words ≡ Some (name, rows)
     → line_faults words ≡ script_faults (Some (name, rows))
@@ -58,7 +58,7 @@ central_is_simple : is_simple central_app ≡ true
 unfolding central_app clap_on_literals
 central_is_simple = refl
 
--- the subcommand that was met is the one that the words name
+-- the subcommand that clap found is the one that the words name
 pub met_is_named : (app : App) (words : List Text) (all : ArgMatches) → app ≡ central_app → HasMatchesOf app words all
     → subcommand_rows_of all ≡ subcommand_named words
 unfolding subcommand_named
@@ -74,12 +74,12 @@ paired f g (Some met) both name rows same named given =
     let same_rows : rows ≡ g met = cc in
     rw (same, same_name, same_rows) refl
 
--- the name and the options of the subcommand that was met, together
+-- the name and the options of the subcommand that clap found, together
 pub met_with : (all : ArgMatches) (name : Text) (rows : List Row) → Some name ≡ subcommand_name_of all
     → Some rows ≡ option_map (λ p. p.1) (subcommand_rows_of all) → subcommand_rows_of all ≡ Some (name, rows)
 met_with all name rows named given = paired _ _ (out-ArgMatches all).subcommand (subcommand_rows_of all) name rows refl named given
 
--- what is so of the subcommand that was met is so of the one that the words name
+-- a property of the subcommand that clap found holds for the one that the words name
 pub named_with : (P : Text × List Row → Type 0) (met : Option (Text × List Row)) (words : List Text) (name : Text) (rows : List Row)
     → met ≡ subcommand_named words → met ≡ Some (name, rows) → P (name, rows) → IsSomeAnd (subcommand_named words) P
 named_with P met words name rows same is holds =

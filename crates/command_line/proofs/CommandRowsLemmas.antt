@@ -1,4 +1,4 @@
--- What clap is told of a command, row by row.
+-- The clap command of a row, built option by option.
 use Rattle.std.proofs.Common.{◌≡◌, ℕ, ◌+◌, ◌<◌, ◌≤◌, Bool, not, List, [], ◌∷◌, Result, Ok, Err, IfOk, true, false, drop, fold, get_or, length, refl, sym, ap, ◌∙◌}
 use Rattle.std.proofs.lemmas.List.{at_drop_all, at_drop_more}
 use Rattle.clap.specs.Words.{AddsArg, AddsSubcommand, App, Rule, app_of, new_app, rule_of, with_rule, with_subcommand}
@@ -14,12 +14,12 @@ pub on_ok : {A E : Type 0} (P Q : A → Type 0) (r : Result A E) → ((x : A) �
 on_ok P Q (Ok x) step h = step x h
 on_ok P Q (Err e) step h = tt
 
--- a command with one argument more
+-- a command with one more argument
 argued : (old new : Command) (arg : Arg) (rule : Rule) → AddsArg old arg new → arg.global ≡ false → rule_of arg ≡ rule
     → app_of new ≡ with_rule (app_of old) rule
 argued old new arg rule adds local of = adds.shape local ∙ ap (with_rule (app_of old)) of
 
--- with the next row's option, what is to come of the rows comes to the same
+-- with the next row's option, the remaining rows lead to the same command
 pub next_row : (rows : List OptionRow) (i : ℕ) (d : OptionRow) (old new : Command) (arg : Arg) (whole : App)
     → i < length rows → AddsArg old arg new → arg.global ≡ false → rule_of arg ≡ rule_of_row (get_or rows i d)
     → fold with_row (app_of old) (drop i rows) ≡ whole → fold with_row (app_of new) (drop (i + 1) rows) ≡ whole
@@ -28,7 +28,7 @@ next_row rows i d old new arg whole lt adds local of so_far =
     ∙ sym (at_drop_more (fold with_row (app_of old)) rows i d lt)
     ∙ so_far
 
--- behind the last row the command is whole
+-- after the last row the command is complete
 pub last_row : (rows : List OptionRow) (i : ℕ) (app whole : App) → length rows ≤ i → fold with_row app (drop i rows) ≡ whole → app ≡ whole
 last_row rows i app whole le so_far = sym (at_drop_all (fold with_row app) rows i le) ∙ so_far
 
@@ -45,7 +45,7 @@ is_plain_with : (rows : List OptionRow) (app : App) → app.top.is_plain ≡ tru
 is_plain_with [] app plain = plain
 is_plain_with (row ∷ rows) app plain = is_plain_with rows (with_row app row) plain
 
--- a command with one subcommand more, of a row
+-- a command with one more subcommand, which a row defines
 pub joined : (old new sub : Command) (row : CommandRow) → AddsSubcommand old sub new → app_of sub ≡ app_of_row row
     → app_of new ≡ with_subcommand (app_of old) (app_of_row row).top
 joined old new sub row adds of =
@@ -53,7 +53,7 @@ joined old new sub row adds of =
     adds.shape (has_no_globals sub (ap (λ (a : App). a.top.is_plain) of ∙ plain))
     ∙ ap (λ (a : App). with_subcommand (app_of old) a.top) of
 
--- the same, where the row is one of these commands
+-- the same, for the row of one of these commands
 pub added_to : (app old new row only : App) → old ≡ app → new ≡ with_subcommand old row.top → row ≡ only
     → new ≡ with_subcommand app only.top
 added_to app old new row only is adds of =

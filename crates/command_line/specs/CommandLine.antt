@@ -1,5 +1,5 @@
--- What a command line says, by clap's definition of how words are read; and one rule more, that
--- of two scripts.
+-- The meaning of a command line, by clap's definition of how words are read, and one rule more:
+-- that of two scripts.
 use Rattle.std.specs.Prelude.{◌≡◌, ◌<◌, ◌≤◌, ◌^◌, ◌&&◌, Bool, true, false, ℕ, List, [], ◌∷◌, codes, Option, None, Some, IfSome, if◌then◌else◌, is_some, option_map}
 use Rattle.std.specs.Option.{option_map_or}
 use Rattle.std.specs.Str.Parse.{IsNumeral, digits_value, without_leading_plus}
@@ -31,15 +31,15 @@ use Rattle.jobs.specs.declared.job.Source.TheVariants as source
 abbrev pub option : Text → Rule
 option name = record (new_rule name) { long = Some name; action = Some Set }
 
--- the same, and the help has a name for the value
+-- the same, with a name for the value in the help
 abbrev pub optional : Text → Rule
 optional name = record (option name) { value_names = 1 }
 
--- an option that is needed
+-- a required option
 abbrev pub needed : Text → Rule
 needed name = record (optional name) { required = true }
 
--- an option the value of which is a whole number from one to another
+-- an option whose value is a whole number from a least to a most
 abbrev pub numbered : ℕ → ℕ → Rule → Rule
 numbered least most rule = record rule { parser = Some (Unsigned least most) }
 
@@ -47,7 +47,7 @@ numbered least most rule = record rule { parser = Some (Unsigned least most) }
 abbrev pub flag : Text → Rule
 flag name = record (new_rule name) { long = Some name; action = Some SetTrue }
 
--- what a site is run on: `--site F --data DIR --listen A [--keys FILE]`
+-- the site, folder, address and keys of a run: `--site F --data DIR --listen A [--keys FILE]`
 abbrev pub with_places : App → App
 with_places app =
     with_rule (with_rule (with_rule (with_rule app
@@ -56,7 +56,7 @@ with_places app =
     (needed (codes "listen")))
     (optional (codes "keys"))
 
--- how many, and how long: `[--seats N] [--workers N] [--call-timeout SECONDS]`
+-- counts and a time: `[--seats N] [--workers N] [--call-timeout SECONDS]`
 abbrev pub with_counts : App → App
 with_counts app =
     with_rule (with_rule (with_rule app
@@ -87,7 +87,7 @@ key_command =
 abbrev pub journal_command : App
 journal_command = with_rule (new_app (codes "journal")) (needed (codes "data"))
 
--- which script is played: `[--data DIR | --script FILE]`
+-- the script to play: `[--data DIR | --script FILE]`
 abbrev pub with_script : App → App
 with_script app =
     with_rule (with_rule app
@@ -107,7 +107,7 @@ serve_command =
     (numbered 1 max_workers (needed (codes "workers"))))
     (numbered 1 max_sessions (needed (codes "sessions")))
 
--- an option that takes two whole numbers, for which the help has names
+-- an option with two whole numbers, which have names in the help
 abbrev pub optional_numbers : Text → ℕ → Rule
 optional_numbers name most = record (option name) {
   range = Some (record { start_inclusive = 2; end_inclusive = 2 });
@@ -115,14 +115,14 @@ optional_numbers name most = record (option name) {
   parser = Some (Unsigned 0 most);
 }
 
--- an option that takes two values or three, for which the help has names
+-- an option with two or three values, which have names in the help
 abbrev pub optional_values : Text → Rule
 optional_values name = record (option name) {
   range = Some (record { start_inclusive = 2; end_inclusive = 3 });
   value_names = 3;
 }
 
--- where calls go: `--url U [--login FILE] [--all] [--site F] [--data DIR]`
+-- the destinations of calls: `--url U [--login FILE] [--all] [--site F] [--data DIR]`
 abbrev pub with_callees : App → App
 with_callees app =
     with_rule (with_rule (with_rule (with_rule (with_rule app
@@ -132,8 +132,8 @@ with_callees app =
     (optional (codes "site")))
     (optional (codes "data"))
 
--- what they are: `[--set-profile FILE] [--clear CRITERIA] [--remote-start CONNECTOR TAG [FILE]]
--- [--ask CONNECTOR SECONDS] [--audit CONNECTOR SECONDS] [--status]`
+-- the calls: `[--set-profile FILE] [--clear CRITERIA] [--remote-start CONNECTOR TAG [FILE]] [--ask
+-- CONNECTOR SECONDS] [--audit CONNECTOR SECONDS] [--status]`
 abbrev pub with_calls : App → App
 with_calls app =
     with_rule (with_rule (with_rule (with_rule (with_rule (with_rule app
@@ -144,7 +144,7 @@ with_calls app =
     (optional_numbers (codes "audit") 2147483647))
     (flag (codes "status"))
 
--- what is undone, and whether calls are sent: `[--undo LINE] [--force] [--dry-run]`
+-- the line to undo, and whether calls are sent: `[--undo LINE] [--force] [--dry-run]`
 abbrev pub with_sending : App → App
 with_sending app =
     with_rule (with_rule (with_rule app
@@ -171,7 +171,7 @@ point_command =
 abbrev pub status_command : App
 status_command = with_rule (new_app (codes "status")) (needed (codes "url"))
 
--- what is explained: `--site F --point ID --connector C --start INSTANT --duration D`
+-- the schedule to explain: `--site F --point ID --connector C --start INSTANT --duration D`
 abbrev pub with_request : App → App
 with_request app =
     with_rule (with_rule (with_rule (with_rule (with_rule app
@@ -218,7 +218,7 @@ top_command name =
       top = record (new_app name).top { has_version = true; subcommand_required = true };
     }
 
--- the commands that have to do with sockets
+-- the commands that use sockets
 abbrev pub with_served : App → App
 with_served app =
     with_subcommand (with_subcommand (with_subcommand (with_subcommand (with_subcommand
@@ -235,11 +235,11 @@ with_readers app =
 unfoldable pub central_app : App
 central_app = with_readers (with_served (top_command (codes "central")))
 
--- the subcommand that the words name, and what they say of its options
+-- the subcommand that the words name, and its options
 unfoldable pub subcommand_named : List Text → Option (Text × List Row)
 subcommand_named words = subcommand_of central_app words
 
--- two options say what is read as a script
+-- two options name a script
 abbrev pub has_two_scripts : List Row → Bool
 has_two_scripts rows =
     is_some (first_of (codes "data") rows) && is_some (first_of (codes "script") rows)
@@ -248,21 +248,21 @@ abbrev pub script_faults : Option (Text × List Row) → Kinds
 script_faults named = option_map_or (λ named.
     if has_two_scripts named.1 then ArgumentConflict ∷ [] else []) named []
 
--- the kinds of error that the words give, by clap or because they name two scripts; none where
--- they are taken
+-- the kinds of error that the words give, by clap or because they name two scripts; none if they
+-- are accepted
 unfoldable pub line_faults : List Text → Kinds
 line_faults words = or_else (fault_of central_app words) (script_faults (subcommand_named words))
 
 -- ---- the job
 
--- the value of an option is a numeral of this number, in decimal, where a plus may stand first
+-- the value of an option is a numeral of this number in decimal, which may begin with a plus
 abbrev pub IsNumber : Text → List Row → ℕ → Type 0
 IsNumber option rows number =
     (text : Text) × (one_of option rows ≡ Some text)
     × IsNumeral 10 (without_leading_plus text)
     × (number ≡ digits_value 10 (without_leading_plus text))
 
--- the value of an option that is given is a numeral of this number, and each in 64 bits is read
+-- the value of a given option is a numeral of this number, and every numeral within 64 bits is read
 pub record IsOptionalNumber (option : Text) (rows : List Row) (number : Option ℕ) : Type 0 where
   pub value : IfSome number (IsNumber option rows)
   pub given :
@@ -278,7 +278,7 @@ pub record IsFlag (option : Text) (rows : List Row) (is_given : Bool) : Type 0 w
   pub default : one_of option rows ≡ Some (codes "false") → is_given ≡ false
   pub absent : one_of option rows ≡ None → is_given ≡ false
 
--- how a site is to be served
+-- the options for serving a site
 pub record IsServing (rows : List Row) (serving : Serving) : Type 0 where
   pub site : first_of (codes "site") rows ≡ Some serving.site.now
   pub listen : first_of (codes "listen") rows ≡ Some serving.listen.now
@@ -287,7 +287,7 @@ pub record IsServing (rows : List Row) (serving : Serving) : Type 0 where
   pub sessions : IsNumber (codes "sessions") rows serving.sessions
   pub some_sessions : 1 ≤ serving.sessions
 
--- what is read as a script: of the two options at most one is given
+-- the source of the script: at most one of the two options is given
 abbrev pub IsSource : List Row → Source → Type 0
 IsSource rows source.Input =
     (first_of (codes "data") rows ≡ None) × (first_of (codes "script") rows ≡ None)
@@ -296,7 +296,7 @@ IsSource rows (source.File file) =
 IsSource rows (source.Journal folder) =
     (first_of (codes "data") rows ≡ Some folder.now) × (first_of (codes "script") rows ≡ None)
 
--- which script is to be played, on which site
+-- the script to play, and its site
 pub record IsReplaying (rows : List Row) (replaying : Replaying) : Type 0 where
   pub site : first_of (codes "site") rows ≡ Some replaying.site.now
   pub source : IsSource rows replaying.source
@@ -305,13 +305,13 @@ abbrev pub number_or : ℕ → Option ℕ → ℕ
 number_or default None = default
 number_or default (Some number) = number
 
--- the value of an option that is given as a number, or else this one
+-- the value of an option as a number, or this default
 pub record IsNumberOr (option : Text) (rows : List Row) (default number : ℕ) : Type 0 where
   pub given : Option ℕ
   pub is : IsOptionalNumber option rows given
   pub value : number ≡ number_or default given
 
--- how a site is to be run
+-- the options for running a site
 pub record IsRunning (rows : List Row) (running : Running) : Type 0 where
   pub site : first_of (codes "site") rows ≡ Some running.site.now
   pub folder : first_of (codes "data") rows ≡ Some running.folder.now
@@ -326,18 +326,17 @@ pub record IsRunning (rows : List Row) (running : Running) : Type 0 where
   pub status : first_of (codes "status") rows ≡ option_map (λ text. text.now) running.status
   pub status_open : IsFlag (codes "status-open") rows running.is_status_open
 
--- whose key is to be made
+-- the owner of the key to make
 pub record IsKeyMaking (rows : List Row) (making : KeyMaking) : Type 0 where
   pub name : first_of (codes "name") rows ≡ Some making.name.now
   pub operator : IsFlag (codes "operator") rows making.is_operator
 
--- what is to be asked: the texts of the connector and the seconds
+-- a request for a schedule: the texts of the connector and the seconds
 abbrev pub IsAsking : Option (List Text) → Option Asking → Type 0
 IsAsking given None = given ≡ None
 IsAsking given (Some asking) = given ≡ Some (asking.connector.now ∷ asking.seconds.now ∷ [])
 
--- the texts of what is to be started: the connector, the idTag, and the profile's file if it is
--- given
+-- the texts of a remote start: the connector, the idTag, and the profile's file if it is given
 abbrev pub texts_of_start : Text → Text → Option Text → List Text
 texts_of_start connector id_tag None = connector ∷ id_tag ∷ []
 texts_of_start connector id_tag (Some profile) = connector ∷ id_tag ∷ profile ∷ []
@@ -348,7 +347,7 @@ IsStarting given (Some starting) =
     given ≡ Some (texts_of_start starting.connector.now starting.id_tag.now
     (option_map (λ text. text.now) starting.profile))
 
--- what an operator's client is to send, where that isn't read from standard input
+-- the calls that an operator's client sends, unless it reads them from standard input
 pub record IsCalling (rows : List Row) (calling : Calling) : Type 0 where
   pub url : first_of (codes "url") rows ≡ Some calling.url.now
   pub login : first_of (codes "login") rows ≡ option_map (λ text. text.now) calling.login
@@ -366,14 +365,14 @@ pub record IsCalling (rows : List Row) (calling : Calling) : Type 0 where
   pub force : IsFlag (codes "force") rows calling.force
   pub dry_run : IsFlag (codes "dry-run") rows calling.dry_run
 
--- which point is simulated, and where it connects
+-- the simulated point, and its connection
 pub record IsPointing (rows : List Row) (pointing : Pointing) : Type 0 where
   pub url : first_of (codes "url") rows ≡ Some pointing.url.now
   pub site : first_of (codes "site") rows ≡ Some pointing.site.now
   pub id : first_of (codes "id") rows ≡ Some pointing.id.now
   pub login : first_of (codes "login") rows ≡ option_map (λ text. text.now) pointing.login
 
--- which schedule is to be explained, and how
+-- the schedule to explain, and how
 pub record IsExplaining (rows : List Row) (explaining : Explaining) : Type 0 where
   pub site : first_of (codes "site") rows ≡ Some explaining.site.now
   pub point : first_of (codes "point") rows ≡ Some explaining.point.now
@@ -386,21 +385,21 @@ pub record IsExplaining (rows : List Row) (explaining : Explaining) : Type 0 whe
   pub picture : first_of (codes "picture") rows ≡ option_map (λ text. text.now) explaining.picture
   pub json : IsFlag (codes "json") rows explaining.json
 
--- which site is to be checked, with a file of keys and a script
+-- the site to check, with a file of keys and a script
 pub record IsChecking (rows : List Row) (checking : Checking) : Type 0 where
   pub site : first_of (codes "site") rows ≡ Some checking.site.now
   pub keys : first_of (codes "keys") rows ≡ option_map (λ text. text.now) checking.keys
   pub source : IsSource rows checking.source
   pub trace : IsFlag (codes "trace") rows checking.trace
 
--- which site is to be shown, after how many lines of a script, and how
+-- the site to show, the end up to which a script is played, and how
 pub record IsShowing (rows : List Row) (showing : Showing) : Type 0 where
   pub site : first_of (codes "site") rows ≡ Some showing.site.now
   pub source : IsSource rows showing.source
   pub at : first_of (codes "at") rows ≡ option_map (λ text. text.now) showing.at
   pub json : IsFlag (codes "json") rows showing.json
 
--- what a subcommand with its options asks for
+-- the job of a subcommand with its options
 abbrev pub IsJob : Text → List Row → Job → Type 0
 IsJob name rows (Replay replaying) = (name ≡ codes "replay") × IsReplaying rows replaying
 IsJob name rows (Run running) = (name ≡ codes "run") × IsRunning rows running

@@ -1,4 +1,4 @@
--- What the rows of the code's tables say of commands and options.
+-- The commands and options that the rows of the code's tables define.
 use Rattle.std.specs.Prelude.{fold}
 use Rattle.clap.specs.Words.{App, Rule, new_app, with_rule}
 use Rattle.command_line.specs.CommandLine.{flag, needed, numbered, optional, optional_numbers, optional_values}

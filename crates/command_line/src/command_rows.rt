@@ -1,4 +1,4 @@
-//! The program's commands and their options, with what the help says of them.
+//! The program's commands and their options, with their help.
 
 ghost use Rattle.std.specs.Prelude.{◌≡◌};
 ghost use Rattle.command_line.specs.CommandLine.{call_command, check_command, explain_command, journal_command, key_command, point_command, replay_command, run_command, serve_command, show_command, status_command};

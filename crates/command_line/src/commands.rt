@@ -1,4 +1,4 @@
-//! The program's commands, as clap has them.
+//! The program's commands, as clap defines them.
 
 ghost use Rattle.std.specs.Prelude.{◌≡◌, IfOk, fold};
 ghost use Rattle.clap.specs.Words.{app_of, with_subcommand};
@@ -13,7 +13,7 @@ use crate::option_row::{CommandRow, OptionRow, arg_of};
 use clap::Command;
 use std::alloc::{AllocError, Global};
 
-/// The program's commands, with what the help says of them.
+/// Returns the program's commands, with their help.
 #[tactic(auto, unfolding(crate::specs::CommandLine::central_app))]
 pub fn central_command<'a>(alloc: Global) -> Result<Command<'a>, AllocError>
     ensures { IfOk result (λ command. app_of command ≡ central_app) }
@@ -27,7 +27,7 @@ pub fn central_command<'a>(alloc: Global) -> Result<Command<'a>, AllocError>
     with_readers(alloc, served)
 }
 
-/// Adds the commands that have to do with sockets.
+/// Adds the commands that use sockets.
 fn with_served<'a>(alloc: Global, command: Command<'a>) -> Result<Command<'a>, AllocError>
     ensures { IfOk result (λ added. app_of added ≡ with_served (app_of command.entry)) }
 {

@@ -1,4 +1,4 @@
-//! The program's command line: its commands and options, and the one job that words ask for.
+//! The program's command line: its commands and options, and the one job that words request.
 #![tactic(auto)]
 
 mod command_rows;

@@ -1,4 +1,4 @@
-//! A command and its options as data, and what clap is told of an option.
+//! A command and its options as data, and the clap argument of an option.
 
 ghost use Rattle.std.specs.Prelude.{◌≡◌, false};
 ghost use Rattle.clap.specs.Words.{rule_of};
@@ -10,7 +10,7 @@ use clap::builder::ValueParser;
 use clap::{Arg, ArgAction};
 use std::alloc::Global;
 
-/// A command: its name, what it does, what the help says below its options, and those.
+/// A command: its name, its description, the notes below its options in the help, and its options.
 #[derive(Clone, Copy)]
 pub(crate) struct CommandRow {
     pub(crate) name: &'static str,
@@ -19,26 +19,26 @@ pub(crate) struct CommandRow {
     pub(crate) options: &'static [OptionRow],
 }
 
-/// An option: its name, how the help names its value, and what the help says of it.
+/// An option: its name, the name of its value in the help, and its description.
 #[derive(Clone, Copy)]
 pub(crate) enum OptionRow {
-    /// It is needed, and its value is a text.
+    /// Required; its value is a text.
     Needed(&'static str, &'static str, &'static str),
     /// Its value is a text.
     Optional(&'static str, &'static str, &'static str),
-    /// It is needed, and its value is a whole number from one to another.
+    /// Required; its value is a whole number from a least to a most.
     NeededNumber(&'static str, &'static str, &'static str, u64, u64),
-    /// Its value is a whole number from one to another.
+    /// Its value is a whole number from a least to a most.
     Number(&'static str, &'static str, &'static str, u64, u64),
     /// It has no value.
     Flag(&'static str, &'static str),
-    /// It has two whole numbers, CONNECTOR and SECONDS.
+    /// Its values are two whole numbers, CONNECTOR and SECONDS.
     Asking(&'static str, &'static str),
-    /// It has two texts or three, CONNECTOR, TAG and FILE.
+    /// Its values are two or three texts, CONNECTOR, TAG and FILE.
     Starting(&'static str, &'static str),
 }
 
-/// What clap is told of an option.
+/// Returns the clap argument of an option.
 pub(crate) fn arg_of<'a>(alloc: Global, row: &OptionRow) -> Arg<'a>
     ensures rule { rule_of result ≡ rule_of_row row.now }
     ensures global { result.global ≡ false }
@@ -59,6 +59,7 @@ pub(crate) fn arg_of<'a>(alloc: Global, row: &OptionRow) -> Arg<'a>
         OptionRow::Asking(name, help) => option(alloc, name, help)
             .num_args(2usize)
             .value_names(ASK_VALUES.as_slice())
+            // Both become fields of a message, which are read as `i32`.
             .value_parser(ValueParser::unsigned(0, 2_147_483_647)),
         OptionRow::Starting(name, help) => option(alloc, name, help)
             .num_args(2usize..=3usize)
@@ -66,7 +67,7 @@ pub(crate) fn arg_of<'a>(alloc: Global, row: &OptionRow) -> Arg<'a>
     }
 }
 
-/// An option that takes a value.
+/// Returns the argument of an option that takes a value.
 fn option<'a>(alloc: Global, name: &'a str, help: &'a str) -> Arg<'a>
     ensures rule { rule_of result ≡ option name.now }
     ensures global { result.global ≡ false }

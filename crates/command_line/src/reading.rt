@@ -13,15 +13,15 @@ use jobs::{
     Showing, Source, Starting,
 };
 use std::alloc::{AllocError, Global};
-/// How many connections are served at a time, and how many workers compile, where that isn't said.
+/// The defaults of `--seats` and `--workers`.
 const SEATS: u64 = 256;
 
 const WORKERS: u64 = 2;
 
-/// For so many seconds a call waits for its reply, where that isn't said.
+/// The default number of seconds that a call waits for its reply.
 const CALL_TIMEOUT: u64 = 60;
 
-/// The job of a command line, whose first word is the program's name.
+/// Returns the job of a command line, whose first word is the program's name.
 pub fn job_of<'a>(alloc: Global, words: &'a [String]) -> Result<Job<'a>, Error>
     ensures job { IfOk result (λ job. IsSomeAnd (subcommand_named (map string_bytes words.now))
         (λ named. IsJob named.0 named.1 job)) }
@@ -32,17 +32,18 @@ pub fn job_of<'a>(alloc: Global, words: &'a [String]) -> Result<Job<'a>, Error>
     let Some((name, given)) = matches.subcommand() else {
         return Err(Error::from(AllocError));
     };
+    // This rule isn't part of the definition that clap reads words by.
     if has_two_scripts(given) {
         return Err(command.error(ErrorKind::ArgumentConflict, TWO_SCRIPTS)?);
     }
-    // clap has seen to it that the options are there, and their numbers in range.
+    // clap has checked that the required options are there, and that numbers are in range.
     let Some(job) = job_named(name, given) else {
         return Err(Error::from(AllocError));
     };
     Ok(job)
 }
 
-/// The job of a subcommand with its options.
+/// Returns the job of a subcommand with its options.
 fn job_named<'a>(name: &str, given: &ArgMatches<'a>) -> Option<Job<'a>>
     ensures { IfSome result (λ job. IsJob name.now (rows_of (found_of given.now)) job) }
 {
@@ -73,7 +74,7 @@ fn job_named<'a>(name: &str, given: &ArgMatches<'a>) -> Option<Job<'a>>
     reader_named(name, given)
 }
 
-/// The job of a subcommand that reads a script or a journal, and prints what it has.
+/// Returns the job of a subcommand that reads a script or a journal, and prints its content.
 fn reader_named<'a>(name: &str, given: &ArgMatches<'a>) -> Option<Job<'a>>
     ensures { IfSome result (λ job. IsJob name.now (rows_of (found_of given.now)) job) }
 {
@@ -88,7 +89,7 @@ fn reader_named<'a>(name: &str, given: &ArgMatches<'a>) -> Option<Job<'a>>
     page_named(name, given)
 }
 
-/// The job of a subcommand that prints a page for people.
+/// Returns the job of a subcommand that prints a page for people.
 fn page_named<'a>(name: &str, given: &ArgMatches<'a>) -> Option<Job<'a>>
     ensures { IfSome result (λ job. IsJob name.now (rows_of (found_of given.now)) job) }
 {
@@ -114,6 +115,7 @@ fn serving_of<'a>(given: &ArgMatches<'a>) -> Option<Serving<'a>>
     let listen = text_of(given, "listen")?;
     let workers = number_of(given, "workers")?;
     let sessions = number_of(given, "sessions")?;
+    // clap checks the ranges, too, but the contract of `number_of` has no bounds.
     if workers < 1 || sessions < 1 {
         return None;
     }
@@ -144,6 +146,7 @@ fn running_of<'a>(given: &ArgMatches<'a>) -> Option<Running<'a>>
     let keys = text_of(given, "keys");
     let status = text_of(given, "status");
     let is_status_open = is_given(given, "status-open");
+    // As above, `1` has to be shown here: running a site requires at least one of each.
     if seats < 1 || workers < 1 {
         return None;
     }
@@ -203,7 +206,7 @@ fn calling_of<'a>(given: &ArgMatches<'a>) -> Option<Calling<'a>>
     })
 }
 
-/// What is to be started, where it is given. None where its values are neither two nor three.
+/// Returns the remote start, if one is given. None if it has neither two nor three values.
 fn starting_of<'a>(given: &ArgMatches<'a>) -> Option<Option<Starting<'a>>>
     ensures { IfSome result (λ starting.
         IsStarting (all_of (codes "remote-start") (rows_of (found_of given.now))) starting) }
@@ -224,7 +227,7 @@ fn starting_of<'a>(given: &ArgMatches<'a>) -> Option<Option<Starting<'a>>>
     }
 }
 
-/// What is asked for by the two values of an option, where it is given. None where they aren't two.
+/// Returns the request in the two values of an option, if it is given. None if there aren't two.
 fn asking_of<'a>(given: &ArgMatches<'a>, option: &str) -> Option<Option<Asking<'a>>>
     ensures { IfSome result
         (λ asking. IsAsking (all_of option.now (rows_of (found_of given.now))) asking) }
@@ -308,7 +311,7 @@ fn showing_of<'a>(given: &ArgMatches<'a>) -> Option<Showing<'a>>
     })
 }
 
-/// What is read as a script. None where two options say it.
+/// Returns the source of the script. None if two options name one.
 fn source_of<'a>(given: &ArgMatches<'a>) -> Option<Source<'a>>
     ensures { IfSome result (λ source. IsSource (rows_of (found_of given.now)) source) }
 {
@@ -316,18 +319,19 @@ fn source_of<'a>(given: &ArgMatches<'a>) -> Option<Source<'a>>
         (None, None) => Some(Source::Input),
         (None, Some(file)) => Some(Source::File(file)),
         (Some(folder), None) => Some(Source::Journal(folder)),
+        // `job_of` has refused two scripts before this.
         (Some(_), Some(_)) => None,
     }
 }
 
-/// Whether two options say what is read as a script.
+/// Returns whether two options name a script.
 fn has_two_scripts(given: &ArgMatches<'_>) -> bool
     ensures { result ≡ has_two_scripts (rows_of (found_of given.now)) }
 {
     text_of(given, "data").is_some() && text_of(given, "script").is_some()
 }
 
-/// The value of an option.
+/// Returns the value of an option.
 fn text_of<'a>(given: &ArgMatches<'a>, option: &str) -> Option<&'a str>
     ensures { option_map (λ text. text.now) result
         ≡ first_of option.now (rows_of (found_of given.now)) }
@@ -335,7 +339,7 @@ fn text_of<'a>(given: &ArgMatches<'a>, option: &str) -> Option<&'a str>
     given.get_str(option)
 }
 
-/// The values of an option.
+/// Returns the values of an option.
 fn texts_of<'b, 'a>(given: &'b ArgMatches<'a>, option: &str) -> Option<&'b [&'a str]>
     ensures { option_map (λ texts. map (λ text. text.now) texts.now) result
         ≡ all_of option.now (rows_of (found_of given.now)) }
@@ -343,7 +347,7 @@ fn texts_of<'b, 'a>(given: &'b ArgMatches<'a>, option: &str) -> Option<&'b [&'a 
     given.get_raw(option)
 }
 
-/// The whole number that is the value of an option.
+/// Returns the whole number that is the value of an option.
 fn number_of(given: &ArgMatches<'_>, option: &str) -> Option<u64>
     ensures { IfSome result
         (λ number. IsNumber option.now (rows_of (found_of given.now)) number) }
@@ -351,14 +355,14 @@ fn number_of(given: &ArgMatches<'_>, option: &str) -> Option<u64>
     given.get_one(option)
 }
 
-/// The whole number that is the value of an option, where it is given.
+/// Returns the whole number that is the value of an option, if it is given.
 fn optional_number_of(given: &ArgMatches<'_>, option: &str) -> Option<u64>
     ensures { IsOptionalNumber option.now (rows_of (found_of given.now)) result }
 {
     given.get_one(option)
 }
 
-/// Whether an option without a value is given.
+/// Returns whether an option without a value is given.
 fn is_given(given: &ArgMatches<'_>, option: &str) -> bool
     ensures { IsFlag option.now (rows_of (found_of given.now)) result }
 {

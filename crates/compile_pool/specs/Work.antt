@@ -1,6 +1,6 @@
 -- How much work a request for a schedule is, at most: how often the limit of one of the profiles changes
 -- that are looked at on its way (OCPP 1.6, 5.7).
-use Rattle.std.specs.Prelude.{ℕ, ◌+◌, ◌*◌, ◌/◌, ◌==◌, Bool, ◌||◌, nat_le, Option, List, length, sum_by, count_by, is_some, if◌then◌else◌}
+use Rattle.std.specs.Prelude.{ℕ, ◌+◌, ◌*◌, ◌/◌, ◌==◌, Bool, ◌||◌, nat_le, Option, Some, None, List, length, sum_by, count_by, is_some, if◌then◌else◌}
 use Rattle.profile.specs.Kind.{recurrence_length}
 use Rattle.profile.specs.declared.kind.Kind.{Kind}
 use Rattle.profile.specs.declared.kind.Kind.TheVariants.{Absolute, Recurring, Relative}
@@ -45,8 +45,9 @@ work_at state ask row =
 abbrev pub work_of : PointState → Ask → ℕ
 work_of state ask = sum_by (work_at state ask) state.rows
 
-abbrev pub is_at_most : ℕ → RequestedJob → Bool
-is_at_most changes job = nat_le (work_of (state_of job.book) job.ask) changes
+-- the work, if it is at most this
+abbrev pub work_if_within : ℕ → ℕ → Option ℕ
+work_if_within most work = if nat_le work most then Some work else None
 
 abbrev pub is_short : RequestedJob → Bool
-is_short job = is_at_most most_of_short job
+is_short job = nat_le (work_of (state_of job.book) job.ask) most_of_short

@@ -4,7 +4,7 @@ ghost use Rattle.std.specs.Prelude.{◌≡◌, ◌⊎◌, IfErr, IsTrue};
 ghost use Rattle.compile_pool.specs.Unsent.{job_of};
 ghost use Rattle.compile_pool.specs.Work.{is_short};
 
-use crate::work::is_short;
+use crate::work::short_work;
 use crossbeam_channel::{Sender, TrySendError};
 use std::sync::Wait;
 use version_store::Job;
@@ -43,28 +43,31 @@ impl<'a> Jobs<'a> {
     }
 
     /// The way of a job: only short ones go the way of short ones.
-    fn way_of(&self, job: &Job) -> &'a Sender<Job>
+    fn way_of(&self, job: &Job, short: bool) -> &'a Sender<Job>
+        requires { IsTrue short → IsTrue (is_short job.now) }
         ensures { (result ≡ self.now.long)
             ⊎ ((result ≡ self.now.short) × IsTrue (is_short job.now)) }
     {
-        if is_short(job) { self.short } else { self.long }
+        if short { self.short } else { self.long }
     }
 
     /// Sends a job on its way, once there is room. It comes back where nobody takes it.
     pub fn send<R: Wait>(&self, rt: &R, job: Job) -> Result<(), Job>
         ensures back { IfErr result (λ back. back ≡ job) }
     {
-        match self.way_of(&job).send(rt, job) {
+        let short = short_work(&job).is_some();
+        match self.way_of(&job, short).send(rt, job) {
             Ok(()) => Ok(()),
             Err(unsent) => Err(unsent.into_inner()),
         }
     }
 
-    /// The same, if there is room at once.
-    pub fn try_send<R: Wait>(&self, rt: &R, job: Job) -> Result<(), Unsent>
+    /// The same, if there is room at once, of a job that is known to be short or not.
+    pub fn try_send<R: Wait>(&self, rt: &R, job: Job, short: bool) -> Result<(), Unsent>
+        requires short { IsTrue short → IsTrue (is_short job) }
         ensures back { IfErr result (λ unsent. job_of unsent ≡ job) }
     {
-        match self.way_of(&job).try_send(rt, job) {
+        match self.way_of(&job, short).try_send(rt, job) {
             Ok(()) => Ok(()),
             Err(TrySendError::Full(job)) => Err(Unsent::NoRoom(job)),
             Err(unsent) => Err(Unsent::NoWorker(unsent.into_inner())),

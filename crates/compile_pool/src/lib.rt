@@ -10,8 +10,8 @@ mod workers;
 
 pub use gate::{Gate, Open};
 pub use jobs::{Jobs, Unsent};
-pub use wait::wait_answer;
-pub use work::{MOST_OF_SHORT, is_at_most};
+pub use wait::{collect_answer, wait_answer};
+pub use work::short_work;
 pub use workers::{answer_job, answer_unmade, run_pool, worker};
 
 /// How many jobs wait for a worker at most: as many as there are requests.

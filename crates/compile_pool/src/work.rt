@@ -1,61 +1,48 @@
 //! How much work a job is at most.
 
-ghost use Rattle.std.specs.Prelude.{◌≡◌, ◌≤◌, ◌<◌, ◌*◌, ◌^◌, IsTrue, length, nat_le};
+ghost use Rattle.std.specs.Prelude.{◌≡◌, ◌≤◌, ◌<◌, ◌^◌, IfSome, IsTrue, length};
 ghost use Rattle.meaning.specs.Limits.{max_duration};
 ghost use Rattle.meaning.specs.View.{point_state};
 ghost use Rattle.point_book.specs.Book.{state_of};
-ghost use Rattle.compile_pool.specs.Work.{active_count, changes_of, is_at_most, is_short, looks_at, turns_within, work_at, work_of};
+ghost use Rattle.compile_pool.specs.Work.{active_count, changes_of, is_short, looks_at, turns_within, work_if_within, work_of};
 
 use meaning::{Ask, View};
 use ocpp_scalars::Instant;
-use point_book::PointBook;
 use profile::{Kind, Row};
 use version_store::Job;
 
 /// A job of no more changes of limits than these is short. They take some 3 milliseconds.
-pub const MOST_OF_SHORT: u64 = 10_000;
+const MOST_OF_SHORT: u64 = 10_000;
 
-/// Whether a job is short.
-pub(crate) fn is_short(job: &Job) -> bool
-    ensures { IsTrue result → IsTrue (is_short job.now) }
-{
-    is_at_most(job, MOST_OF_SHORT)
-}
-
-/// Whether a job takes no more changes of limits than these: those of the profiles that it looks at
-/// don't change more often, whatever they are. False where the job can't be looked into.
-pub fn is_at_most(job: &Job, changes: u64) -> bool
-    ensures { IsTrue result → IsTrue (is_at_most changes job.now) }
+/// The work of a short job: how many changes of limits it takes at most, whatever its profiles are.
+/// None of a long job, or of one that can't be examined.
+pub fn short_work(job: &Job) -> Option<u64>
+    ensures work { IfSome result (λ work. work ≡ work_of (state_of job.now.book) job.now.ask) }
+    ensures short { IfSome result (λ work. IsTrue (is_short job.now)) }
 {
     match job.share_book() {
-        Ok(book) => is_ask_at_most(&book, job.ask(), changes),
-        Err(_) => false,
+        Ok(book) => work_within(&book.view(), job.ask(), MOST_OF_SHORT),
+        Err(_) => None,
     }
 }
 
-/// Whether what is asked of a book takes no more changes than these.
-fn is_ask_at_most(book: &PointBook, ask: &Ask, changes: u64) -> bool
-    ensures { result ≡ nat_le (work_of (state_of book.now) ask.now) changes }
-{
-    is_work_at_most(&book.view(), ask, changes)
-}
-
-/// The same of what a point has. Each row's work is taken from what is left, so that no sum grows large.
-fn is_work_at_most(view: &View<'_>, ask: &Ask, changes: u64) -> bool
+/// The work of a request, if it is at most this. Each row's work is taken from the rest, so that no
+/// sum grows large.
+fn work_within(view: &View<'_>, ask: &Ask, most: u64) -> Option<u64>
     requires few { length view.now.starts.now < 2 ^ 32 }
-    ensures { result ≡ nat_le (work_of (point_state view.now) ask.now) changes }
+    ensures { result ≡ work_if_within most (work_of (point_state view.now) ask.now) }
 {
     let active = active_count(view.starts);
-    let mut left = changes;
+    let mut left = most;
     for index in 0..view.rows.len() {
         let row = &view.rows[index];
         let work = looks_at(active, ask.connector, row.connector) * changes_of(row, ask.duration);
         if work > left {
-            return false;
+            return None;
         }
         left -= work;
     }
-    true
+    Some(most - left)
 }
 
 /// How many connectors have an active transaction.

@@ -7,8 +7,8 @@ ghost use Rattle.version_store.specs.Answers.{awaits};
 ghost use Rattle.compile_pool.specs.Workers.{IsOfJob, PostsOrDrops};
 
 use crate::gate::Gate;
-use ghost_list::ListName;
 use crossbeam_channel::Receiver;
+use ghost_list::ListName;
 use meaning::Ask;
 use point_book::PointBook;
 use std::alloc::Global;

@@ -1,4 +1,4 @@
--- Which connectors are looked at for a row.
+-- The connectors for which a row is checked.
 use Rattle.std.proofs.Common.{◌≡◌, ℕ, zero, suc, ◌<◌, ◌^◌, ◌==◌, nat_lt, Bool, true, false, ◌&&◌, ◌||◌, length, cond, Option, Some, None, is_some, option_and_then, ap, sym, ◌∙◌, arith}
 use Rattle.std.proofs.lemmas.Bool.Decides.{nat_tests}
 use Rattle.std.proofs.lemmas.Option.{slice_get_past}
@@ -33,7 +33,7 @@ past_is : (state : PointState) (connector : ℕ) → length state.starts < conne
 past_is state zero h = absurd (omega (arith, h))
 past_is state (suc before) h = ap (option_and_then (λ (start : Option ℕ). start)) (slice_get_past state.starts before (omega (arith, h)))
 
--- a connector that is active is one of those that the point has
+-- an active connector is one of the point's
 pub none_past : (state : PointState) (row : Row) (connector : ℕ) → is_of_active state row connector ≡ true → length state.starts < connector → ⊥
 none_past state row connector active h =
     active_some (active_since state connector) ((row.connector == 0) || (row.connector == connector)) (nat_lt connector (2 ^ 32)) active (past_is state connector h)

@@ -1,4 +1,4 @@
--- Where no period has begun at an offset, none has at those before it.
+-- If no period has begun at an offset, none has begun at an earlier one.
 use Rattle.std.proofs.Common.{◌≡◌, ℕ, ◌≤◌, Bool, true, false, not, List, [], ◌∷◌, filter, cond, Option, Some, None, is_some, nat_le, option_map, refl, ap, ◌∙◌, arith}
 use Rattle.std.proofs.lemmas.Bool.Decides.{nat_tests}
 use Rattle.profile.specs.declared.period.Period.{Period}

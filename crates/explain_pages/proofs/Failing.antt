@@ -1,4 +1,4 @@
--- What is so for one connector, as it is said of all that are looked at.
+-- A reason that holds for one connector, or fails there, over all for which the row is checked.
 use Rattle.std.proofs.Common.{◌≡◌, ℕ, ◌+◌, ◌<◌, ◌≤◌, Option, Some, None, subst, sym}
 use Rattle.meaning.specs.declared.ask.Ask.{Ask}
 use Rattle.explain_pages.specs.declared.explained_ask.NoPart.{NoPart}

@@ -1,4 +1,4 @@
--- Where a row that counts has a limit, the one that prevails is of its level at least.
+-- If a row that counts has a limit, the one that prevails has at least its stack level.
 use Rattle.std.proofs.Common.{◌≡◌, ℕ, zero, suc, ◌<◌, ◌≤◌, Bool, true, false, List, [], ◌∷◌, length, filter, get_or, cond, Option, Some, None, is_some, nat_lt, option_map, refl, ap, sym, subst, ◌∙◌, ◌⊎◌, inl, inr, arith}
 use Rattle.std.specs.List.{filter_map, cons_option}
 use Rattle.std.proofs.lemmas.Bool.Decides.{nat_tests}
@@ -13,7 +13,7 @@ use Rattle.meaning.specs.Prevailing.{counted, has_its_transaction}
 use Rattle.meaning.specs.Cause.{with_limit, row_limit, level_of, prevailing_row}
 use Rattle.explain_pages.specs.ByCases.Throughout.{Reaches}
 
--- ---- what stands in a list
+-- ---- members of a list
 
 abbrev Among : {X : Type 0} → X → List X → Type 0
 Among x [] = ⊥
@@ -50,7 +50,7 @@ among_passing {X = X} test (z ∷ xs) x h (inr later) = go (test z) (among_passi
     go true k = inr k
     go false k = k
 
--- ---- the greatest is no less than what stands there
+-- ---- the greatest is no less than any member
 
 record Above {X : Type 0} (key : X → ℕ) (xs : List X) (x : X) : Type 0 where
   best : X

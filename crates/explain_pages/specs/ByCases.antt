@@ -1,2 +1,2 @@
--- Definitions of private clauses, by cases: nothing here has to be believed.
+-- Definitions of private clauses, by cases: no reader has to trust them.
 pub mod Throughout

@@ -1,4 +1,4 @@
--- Why a profile never sets the limit in an explanation.
+-- The reasons why a profile never sets the limit in an explanation.
 use Rattle.std.specs.Prelude.{◌≡◌, ◌≢◌, ◌⊎◌, ℕ, ◌+◌, ◌<◌, ◌≤◌, ◌^◌, ◌==◌, nat_lt, Bool, true, false, not, ◌&&◌, ◌||◌, Option, Some, None, is_some, slice_get, if◌then◌else◌}
 use Rattle.profile.specs.declared.row.Row.{Row}
 use Rattle.profile.specs.ChargingProfile.{offset, rate, is_before, is_from}
@@ -18,12 +18,13 @@ use Rattle.explain_pages.specs.declared.explained_ask.NotCounted.{NotCounted}
 
 -- ---- at one second
 
--- the limit of a row that counts for a connector at an instant, in a schedule asked from `asked` on
+-- the limit of a row that counts for a connector at an instant, in a schedule requested from
+-- `asked` on
 abbrev pub limit_for : PointState → ℕ → ℕ → ℕ → Row → Option ℕ
 limit_for state at asked instant row =
     rate row.profile (base row (active_since state at) asked) instant
 
--- the schedule is over, or none of its periods has begun, at an offset that there may be
+-- the schedule is past its duration, or none of its periods has begun, at an offset if there is one
 abbrev pub is_over_at : Row → Option ℕ → Bool
 is_over_at row None = false
 is_over_at row (Some offset) = not (is_before offset row.profile.schedule.duration)
@@ -51,9 +52,10 @@ holds_for BelowHigherLevel state at asked instant row =
 holds_for BehindTxProfile state at asked instant row =
     is_tx_default row.profile.purpose && is_some (prevailing_row TxProfile state at asked instant)
 
--- What a reason says of a row for a connector at a second, in a schedule asked from `asked` on.
--- NotPrevailing: the row doesn't prevail, for this cause. NoLimit: it has no limit. BehindOthers: it has no
--- limit or doesn't prevail. NotLeast: it prevails. A ChargePointMaxProfile prevails for the whole point.
+-- The claim of a reason about a row for a connector at a second, in a schedule requested from
+-- `asked` on. NotPrevailing: the row doesn't prevail, for this cause. NoLimit: it has no limit.
+-- BehindOthers: it has no limit or doesn't prevail. NotLeast: it prevails. A ChargePointMaxProfile
+-- prevails for the whole point.
 abbrev pub SaysAt : NoPart → PointState → ℕ → ℕ → ℕ → Row → Type 0
 SaysAt (NotPrevailing why) state connector asked second row =
     holds_for why state (counts_for row.profile.purpose connector) asked second row ≡ true
@@ -67,23 +69,25 @@ SaysAt NoActiveConnector state connector asked second row = ⊥
 
 -- ---- in a request
 
--- whether one connector alone is looked at: the one that is asked, or 0 for a ChargePointMaxProfile
+-- whether a row is checked for one connector alone: the requested one, or 0 for a
+-- ChargePointMaxProfile
 abbrev pub is_of_one : ℕ → Row → Bool
 is_of_one asked row = not (asked == 0) || is_charge_point_max row.profile.purpose
 
--- whether a row may speak for a connector with a transaction (connectors are numbered by 32 bits)
+-- whether a row may apply to a connector with a transaction (connector numbers have 32 bits)
 abbrev pub is_of_active : PointState → Row → ℕ → Bool
 is_of_active state row connector =
     is_some (active_since state connector) && ((row.connector == 0) || (row.connector == connector))
     && nat_lt connector (2 ^ 32)
 
--- A connector is looked at for a row: the one that is asked; for the whole point each with a
--- transaction for which the row may speak.
+-- A row is checked for a connector: the requested one, or for the whole point each one with a
+-- transaction to which the row may apply.
 abbrev pub LooksAt : PointState → ℕ → Row → ℕ → Type 0
 LooksAt state asked row connector =
     (if is_of_one asked row then connector == asked else is_of_active state row connector) ≡ true
 
--- a reason says so at each second of a request for each connector looked at, and there is one
+-- a reason holds at each second of a request for each connector for which the row is checked, and
+-- there is such a connector
 pub record SaysThroughout (reason : NoPart) (state : PointState) (ask : Ask) (row : Row)
     : Type 0 where
   pub one : ℕ
@@ -93,7 +97,7 @@ pub record SaysThroughout (reason : NoPart) (state : PointState) (ask : Ask) (ro
       → ask.start ≤ second → second < ask.start + ask.duration
       → SaysAt reason state connector ask.start second row
 
--- a row prevails at a second of a request for a connector that is looked at
+-- a row prevails at a second of a request for a connector for which it is checked
 pub record PrevailsOnce (state : PointState) (ask : Ask) (row : Row) : Type 0 where
   pub connector : ℕ
   pub looked : LooksAt state ask.connector row connector
@@ -102,8 +106,8 @@ pub record PrevailsOnce (state : PointState) (ask : Ask) (row : Row) : Type 0 wh
   pub before : second < ask.start + ask.duration
   pub is : SaysAt NotLeast state connector ask.start second row
 
--- A reason of a row holds throughout the request. NotLeast says that the row prevails at some second.
--- NoActiveConnector says that no connector is looked at for the row.
+-- A reason of a row holds throughout the request. NotLeast says that the row prevails at some
+-- second. NoActiveConnector says that the row is checked for no connector.
 abbrev pub IsReason : NoPart → PointState → Ask → Row → Type 0
 IsReason (NotPrevailing why) state ask row = SaysThroughout (NotPrevailing why) state ask row
 IsReason NoLimit state ask row = SaysThroughout NoLimit state ask row

@@ -1,4 +1,4 @@
-//! The strip below a picture's field that names what sets the limit of each interval.
+//! The strip below a picture's plot that names the cause of each interval's limit.
 
 use crate::drawing::{Sketch, push_letter};
 use crate::entries::{Entry, place_of};
@@ -10,13 +10,13 @@ use crate::words::{push_length, push_limit, push_short_cause, push_why};
 use std::alloc::{AllocError, Global};
 use sweep_compiler::Interval;
 
-/// The upper edge of the strip, and its lower one.
+/// The upper and the lower edge of the strip.
 const UPPER: u64 = BOTTOM + 54;
 
 pub(crate) const LOWER: u64 = UPPER + 26;
 
-/// Appends the strip: a field for each interval with the name of its cause, where that has room, else with
-/// its letter. Each field has a title that a pointing device shows.
+/// Appends the strip: a field for each interval with the name of its cause, or only its letter if
+/// the name doesn't fit. Each field has a title that a pointing device shows.
 pub(crate) fn push_causes(
     alloc: Global,
     out: &mut String,
@@ -30,7 +30,7 @@ pub(crate) fn push_causes(
     let mut is_odd = false;
     for interval in sketch.explained.intervals.iter().take(MAX_INTERVALS) {
         let field = Field::of(sketch.scale, interval, is_odd);
-        // Without breadth nobody sees it.
+        // A field without width can't be seen.
         if field.breadth > 0 {
             push_field(alloc, out, sketch.explained, field)?;
             push_name(alloc, out, field, sketch.entries)?;
@@ -83,7 +83,7 @@ fn push_field(
     out.push_str("</title></rect>\n")
 }
 
-/// Appends the name of a cause where its field has room for it, or its letter.
+/// Appends the name of a cause if its field has room for it, or else the letter if that fits.
 fn push_name(
     alloc: Global,
     out: &mut String,
@@ -108,7 +108,7 @@ fn push_name(
     }
 }
 
-/// Whether a text of ASCII fits into a field: a character takes less than 8 units.
+/// Returns whether an ASCII text fits into a field, at 7 units a character and a margin of 4.
 fn has_room(field: Field<'_>, text: &str) -> bool {
     (text.len() as u64).saturating_mul(7).saturating_add(4) <= field.breadth
 }

@@ -10,9 +10,9 @@ use sweep_compiler::Interval;
 /// The cells of an interval.
 #[derive(Drop)]
 pub(crate) struct Cells {
-    /// When it begins, with the date where the interval before begins on another day.
+    /// Its start, with the date if the interval before it starts on another day.
     pub(crate) from: String,
-    /// When it ends, with the date where that isn't the day of its beginning.
+    /// Its end, with the date if that isn't the day of its start.
     pub(crate) to: String,
     pub(crate) length: String,
     pub(crate) limit: String,
@@ -21,14 +21,14 @@ pub(crate) struct Cells {
     pub(crate) why: String,
 }
 
-/// Makes the cells of one interval after another.
+/// A formatter of one interval after another.
 #[derive(Drop)]
 pub(crate) struct CellMaker<'a> {
     explained: &'a ExplainedAsk<'a>,
-    /// The zone by whose clock times are, if not in UTC.
+    /// The zone to which times are local; UTC without one.
     zone: Option<ZoneClock<'a>>,
     with_seconds: bool,
-    /// The day on which the interval before begins.
+    /// The day on which the interval before starts.
     day: Option<u64>,
 }
 
@@ -45,7 +45,7 @@ impl<'a> CellMaker<'a> {
         }
     }
 
-    /// The cells of the next interval.
+    /// Formats the next interval.
     pub(crate) fn cells(
         &mut self,
         alloc: Global,
@@ -82,7 +82,7 @@ impl<'a> CellMaker<'a> {
     }
 }
 
-/// The cells of all intervals.
+/// Formats all intervals.
 pub(crate) fn all_cells(
     alloc: Global,
     explained: &ExplainedAsk<'_>,

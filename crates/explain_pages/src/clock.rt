@@ -1,4 +1,4 @@
-//! Times of day and dates, in UTC or by the clock of a zone.
+//! Times of day and dates, in UTC or local to a zone.
 
 use crate::explained_ask::ExplainedAsk;
 use crate::zone_clock::{ZoneClock, shown_at};
@@ -13,13 +13,14 @@ pub(crate) const DAY: u64 = 86_400;
 pub(crate) struct ClockTime {
     /// Days since 1970-01-01.
     pub(crate) day: u64,
-    /// Seconds since midnight; 86,400 at the end of the calendar alone.
+    /// Seconds since midnight; 86,400 only at the end of the calendar.
     pub(crate) second: u64,
 }
 
 impl ClockTime {
-    /// What a clock in UTC shows at a moment, in seconds since 1970.
+    /// Returns the UTC time of a moment, in seconds since 1970.
     pub(crate) fn of(moment: u64) -> ClockTime {
+        // A request may end one second after the last instant, which is 24:00 of the last day.
         if moment > LAST_SECOND {
             return ClockTime {
                 day: LAST_SECOND / DAY,
@@ -32,7 +33,7 @@ impl ClockTime {
         }
     }
 
-    /// What the clock of a zone, or else one in UTC, shows at a moment.
+    /// Returns the local time of a moment in a zone, or the UTC time without one.
     pub(crate) fn shown(zone: Option<ZoneClock<'_>>, moment: u64) -> ClockTime {
         ClockTime::of(shown_at(zone, moment))
     }
@@ -78,9 +79,10 @@ pub(crate) fn push_date(alloc: Global, out: &mut String, day: u64) -> Result<(),
     }
 }
 
-/// The day of the week of a day, `Mon`.
+/// Returns the day of the week, such as `Mon`.
 pub(crate) fn weekday(day: u64) -> &'static str {
     match day % 7 {
+        // 1970-01-01 was a Thursday.
         0 => "Thu",
         1 => "Fri",
         2 => "Sat",
@@ -91,7 +93,7 @@ pub(crate) fn weekday(day: u64) -> &'static str {
     }
 }
 
-/// Whether a time in the intervals isn't a whole minute, by the clock of a zone or in UTC.
+/// Returns whether a time of the intervals isn't a whole minute, local to a zone or in UTC.
 pub(crate) fn needs_seconds(explained: &ExplainedAsk<'_>, zone: Option<ZoneClock<'_>>) -> bool {
     for interval in explained.intervals {
         if has_seconds(zone, explained.moment(interval.start))

@@ -12,7 +12,7 @@ use ocpp_scalars::{push_integer, push_tenths};
 use profile::Unit;
 use std::alloc::{AllocError, Global};
 
-/// What a picture is drawn of.
+/// The input of a picture's drawing.
 #[derive(Clone, Copy)]
 pub(crate) struct Sketch<'a> {
     pub(crate) explained: &'a ExplainedAsk<'a>,
@@ -47,7 +47,7 @@ pub(crate) fn push_path(out: &mut String, scale: Scale, steps: &Steps) -> Result
     Ok(())
 }
 
-/// Appends the limit as a thick line, over the area below it.
+/// Appends the limit as a thick line, with the area below it.
 pub(crate) fn push_limit_line(
     out: &mut String,
     scale: Scale,
@@ -62,7 +62,7 @@ pub(crate) fn push_limit_line(
     out.push_str("\"/>\n")
 }
 
-/// Appends the line of an entry, by its place among them, with its letter at its beginning.
+/// Appends the line of an entry, styled by the entry's place.
 pub(crate) fn push_entry_line(
     out: &mut String,
     scale: Scale,
@@ -86,7 +86,7 @@ pub(crate) fn push_entry_line(
     }
 }
 
-/// The class of a ceiling's line.
+/// Returns the CSS class of a ceiling's line.
 pub(crate) fn ceiling_class(entry: &Entry) -> &'static str {
     match entry.cause {
         Cause::PointCeiling => "ceiling whole",
@@ -94,13 +94,14 @@ pub(crate) fn ceiling_class(entry: &Entry) -> &'static str {
     }
 }
 
-/// Appends the names of a profile's colour and dash, by its place.
+/// Appends the CSS classes of a profile's colour and dash pattern, by the profile's place.
 pub(crate) fn push_style(out: &mut String, place: usize) -> Result<(), AllocError> {
+    // Six colours and eight dashes give 24 different lines before one repeats.
     let (colour, dash) = (place % 6, place % 8);
     write!(out, "c{colour} d{dash}")
 }
 
-/// Appends the letter of an entry by its place: A to Z, and then A1 and on.
+/// Appends the letter of an entry by its place: A to Z, then A1, B1 and so on.
 pub(crate) fn push_letter(out: &mut String, place: usize) -> Result<(), AllocError> {
     out.push((b'A' + (place % 26) as u8) as char)?;
     if place >= 26 {
@@ -109,7 +110,7 @@ pub(crate) fn push_letter(out: &mut String, place: usize) -> Result<(), AllocErr
     Ok(())
 }
 
-/// Appends the ticks of the limits, with a line of the grid for each.
+/// Appends the ticks of the limit axis, each with a grid line.
 pub(crate) fn push_limit_axis(
     out: &mut String,
     scale: Scale,
@@ -144,7 +145,7 @@ fn push_limit_tick(
     out.push_str("</text>\n")
 }
 
-/// Appends the ticks of the times, and the dates.
+/// Appends the ticks of the time axis, and the dates.
 pub(crate) fn push_time_axis(
     alloc: Global,
     out: &mut String,
@@ -164,7 +165,7 @@ pub(crate) fn push_time_axis(
     push_dates(alloc, out, explained, scale)
 }
 
-/// The second of a request at which a moment is, at most its duration.
+/// Returns the second of a request at which a moment is, at most the request's duration.
 fn second_at(explained: &ExplainedAsk<'_>, moment: u64) -> u32 {
     let second = moment.saturating_sub(explained.moment(0));
     second.min(u64::from(explained.ask.duration)) as u32
@@ -173,7 +174,7 @@ fn second_at(explained: &ExplainedAsk<'_>, moment: u64) -> u32 {
 fn push_time_tick(out: &mut String, x: u64, moment: u64, step: u64) -> Result<(), AllocError> {
     let (foot, base) = (BOTTOM + 5, BOTTOM + 20);
     let has_seconds = step % 60 != 0;
-    // A time with seconds would go past the right edge of the picture.
+    // A label with seconds is wider, and would go past the right edge of the picture.
     let middle = if has_seconds { x.min(RIGHT - 8) } else { x };
     write!(out, "<path class=\"grid\" d=\"M{x} {TOP}V{foot}\"/>")?;
     write!(
@@ -184,8 +185,8 @@ fn push_time_tick(out: &mut String, x: u64, moment: u64, step: u64) -> Result<()
     out.push_str("</text>\n")
 }
 
-/// Appends the date where the request begins, and where each day begins in it. Of more than 8 days
-/// it is where each second or fourth one begins.
+/// Appends the date at the start of the request, and at each midnight in it. In more than 8 days
+/// only each second or fourth midnight has one.
 fn push_dates(
     alloc: Global,
     out: &mut String,
@@ -196,6 +197,7 @@ fn push_dates(
     let step = u64::from(date_step(explained.ask.duration).max(1));
     let first_midnight = (start / step).saturating_add(1).saturating_mul(step);
     let room = scale.x(second_at(explained, first_midnight)) - LEFT;
+    // The first date is left out if the one of the next midnight would overlap it.
     if start % step == 0 || end <= first_midnight || room >= 100 {
         push_day(alloc, out, start / DAY, LEFT)?;
     }

@@ -1,4 +1,5 @@
-//! What a picture shows besides the limit: the profiles that have one in its time, and the ceilings.
+//! The lines of a picture besides the limit: the profiles that have a limit in its time, and the
+//! ceilings.
 
 ghost use Rattle.std.specs.Prelude.{◌≡◌};
 ghost use Rattle.meaning.specs.Cause.{profile_of};
@@ -10,7 +11,7 @@ use ocpp_scalars::Instant;
 use profile::{Purpose, Row};
 use std::alloc::{AllocError, Global};
 
-/// What may set the limit, with its own limit through the time.
+/// A profile, a ceiling or the sum, with its own limit over the time of the request.
 #[derive(Drop)]
 pub(crate) struct Entry {
     pub(crate) cause: Cause,
@@ -20,15 +21,16 @@ pub(crate) struct Entry {
 /// The line of an entry.
 #[derive(Drop)]
 pub(crate) enum Line {
-    /// A profile's.
+    /// A profile's limits.
     Steps(Steps),
-    /// A ceiling's, in tenths.
+    /// A ceiling, in tenths.
     Level(u32),
-    /// None of its own, as the sum.
+    /// No line of its own: the sum.
     Nothing,
 }
 
-/// The profiles that have a limit in the time of the request, the ceilings, and what else sets a limit.
+/// Returns the profiles that have a limit in the time of the request, the ceilings, and the other
+/// causes of limits.
 pub(crate) fn entries_of(
     alloc: Global,
     explained: &ExplainedAsk<'_>,
@@ -40,6 +42,7 @@ pub(crate) fn entries_of(
         }
     }
     push_ceilings(&mut entries, explained)?;
+    // Later intervals aren't drawn, so their causes need no line in the legend.
     for interval in explained.intervals.iter().take(MAX_INTERVALS) {
         let cause = interval.reason.cause;
         if place_of(entries.as_slice(), cause).is_none() {
@@ -52,12 +55,12 @@ pub(crate) fn entries_of(
     Ok(entries)
 }
 
-/// The place of a cause among the entries.
+/// Returns the place of a cause among the entries.
 pub(crate) fn place_of(entries: &[Entry], cause: Cause) -> Option<usize> {
     entries.iter().position(|entry| entry.cause == cause)
 }
 
-/// The entry of a profile, where it may set a limit and has one in the time of the request.
+/// Returns the entry of a profile if it may set a limit, and has one in the time of the request.
 fn profile_entry(
     alloc: Global,
     explained: &ExplainedAsk<'_>,
@@ -70,20 +73,21 @@ fn profile_entry(
     Ok(steps.and_then(|steps| stepped_entry(row, steps)))
 }
 
-/// Whether a row may set a limit of the request: it stands for its connector, and has the transaction that it needs.
+/// Returns whether a row may set a limit of the request: it applies to the connector, and has the
+/// transaction that it needs.
 fn may_count(explained: &ExplainedAsk<'_>, row: &Row) -> bool {
     let started = started_for(&explained.view, &explained.ask, row);
     applies(explained, row) && has_its_transaction(row.profile.purpose, started)
 }
 
-/// The steps of a row in the time of the request.
+/// Returns the steps of a row in the time of the request.
 fn steps_of(alloc: Global, explained: &ExplainedAsk<'_>, row: &Row) -> Result<Steps, AllocError> {
     let ask = &explained.ask;
     let base = row.base(started_for(&explained.view, ask, row), ask.start);
     profile_steps(alloc, &row.profile, base, ask)
 }
 
-/// The entry of a row with its steps, where one of them has a limit.
+/// Returns the entry of a row with its steps, if one of them has a limit.
 fn stepped_entry(row: &Row, steps: Steps) -> Option<Entry> {
     if steps.has_limit() {
         Some(Entry {
@@ -95,7 +99,7 @@ fn stepped_entry(row: &Row, steps: Steps) -> Option<Entry> {
     }
 }
 
-/// What identifies the profile of a row.
+/// Returns the values that identify the profile of a row.
 pub fn profile_of(row: &Row) -> PrevailingProfile
     ensures { result ≡ profile_of row.now }
 {
@@ -107,14 +111,14 @@ pub fn profile_of(row: &Row) -> PrevailingProfile
     }
 }
 
-/// Whether a row stands for the connector of the request.
+/// Returns whether a row applies to the connector of the request.
 fn applies(explained: &ExplainedAsk<'_>, row: &Row) -> bool {
     let connector = explained.ask.connector;
     connector == 0 || row.connector == 0 || row.connector == connector
 }
 
-/// The start of the transaction from which a row counts: that at the connector of the request; for the whole
-/// point that at the connector of the row, or the first one.
+/// Returns the start of the transaction from which a row counts: the one at the connector of the
+/// request. For the whole point it is the one at the row's connector, or else the first one.
 fn started_for(view: &View<'_>, ask: &Ask, row: &Row) -> Option<Instant> {
     if ask.connector > 0 {
         return view.active_since(ask.connector as usize);
@@ -125,9 +129,9 @@ fn started_for(view: &View<'_>, ask: &Ask, row: &Row) -> Option<Instant> {
     view.starts.iter().find_map(|start| *start)
 }
 
-/// The instant of a request whose reason says most about why a profile never sets the limit. It is the first at
-/// which the profile's schedule has a limit, or the start where it has none. Before it the reason would only be
-/// that the profile is yet to come.
+/// Returns the instant whose reason best explains why a profile never sets the limit. It is the
+/// first one at which the profile's schedule has a limit, or the start of the request. Before that
+/// instant the reason would only be that the profile hasn't begun.
 pub fn telling_instant(view: &View<'_>, ask: &Ask, row: &Row) -> Instant {
     let base = row.base(started_for(view, ask, row), ask.start);
     first_limit(&row.profile, base, ask)

@@ -1,4 +1,4 @@
-//! What is explained.
+//! A request for a schedule, with the intervals that answer it.
 
 ghost use Rattle.std.specs.Prelude.{◌≡◌, ◌+◌, ◌<◌, ◌^◌};
 
@@ -6,7 +6,7 @@ use meaning::{Ask, Cause, PrevailingProfile, View, WhyNot};
 use profile::Unit;
 use sweep_compiler::Interval;
 
-/// What is explained: a request of a point's schedule (chapter 5.7), with the intervals that answer it.
+/// A request for a point's schedule (chapter 5.7), with the intervals that answer it.
 #[derive(Clone, Copy)]
 pub struct ExplainedAsk<'a> {
     /// The identity of the charge point.
@@ -14,7 +14,7 @@ pub struct ExplainedAsk<'a> {
     /// The unit of the site's limits.
     pub unit: Unit,
     pub ask: Ask,
-    /// What the point has.
+    /// The point's profiles, ceilings and transactions.
     pub view: View<'a>,
     /// The intervals of the request, in order.
     pub intervals: &'a [Interval],
@@ -22,30 +22,31 @@ pub struct ExplainedAsk<'a> {
     pub not_counted: &'a [NotCounted],
 }
 
-/// A profile that never sets the limit, with its reason.
+/// A profile that never sets the limit, with the reason.
 #[derive(Clone, Copy, PartialEq, Eq)]
 pub struct NotCounted {
     pub profile: PrevailingProfile,
     pub reason: NoPart,
 }
 
-/// Why a profile never sets the limit.
+/// The reason why a profile never sets the limit.
 #[derive(Clone, Copy, PartialEq, Eq)]
 pub enum NoPart {
-    /// It doesn't prevail, for one reason at every second.
+    /// It doesn't prevail, for the same reason at every second.
     NotPrevailing(WhyNot),
-    /// It has no limit at any second, for one reason after another.
+    /// It has no limit at any second, but not for one reason throughout.
     NoLimit,
-    /// Wherever it has a limit, another profile comes first.
+    /// Whenever it has a limit, another profile takes precedence.
     BehindOthers,
-    /// It prevails, but another limit is as low or lower.
+    /// It prevails at some second, but another limit is as low or lower.
     NotLeast,
-    /// The whole point is asked, and no connector for which it speaks has a transaction.
+    /// The request is for the whole point, and no connector to which the profile applies has a
+    /// transaction.
     NoActiveConnector,
 }
 
 impl ExplainedAsk<'_> {
-    /// The second behind the last one of the request, in seconds since 1970.
+    /// Returns the first second after the request, in seconds since 1970.
     pub(crate) fn end(&self) -> u64
         ensures value { result ≡ self.now.ask.start + self.now.ask.duration }
         ensures small { result < 2 ^ 40 }
@@ -53,7 +54,7 @@ impl ExplainedAsk<'_> {
         self.ask.start.seconds() + u64::from(self.ask.duration)
     }
 
-    /// A second of the request, in seconds since 1970.
+    /// Returns a second of the request, in seconds since 1970.
     pub(crate) fn moment(&self, second: u32) -> u64
         ensures value { result ≡ self.now.ask.start + second }
         ensures small { result < 2 ^ 40 }
@@ -62,7 +63,7 @@ impl ExplainedAsk<'_> {
     }
 }
 
-/// Whether a profile sets a limit in one of the intervals, or a share of it.
+/// Returns whether a profile sets the limit, or a share of it, in one of the intervals.
 pub fn is_named(intervals: &[Interval], profile: PrevailingProfile) -> bool {
     let cause = Cause::Profile(profile);
     for interval in intervals {

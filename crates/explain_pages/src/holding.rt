@@ -1,4 +1,4 @@
-//! Up to when each reason why a profile doesn't prevail goes on to hold.
+//! How long each reason why a profile doesn't prevail continues to hold.
 
 ghost use Rattle.std.specs.Prelude.{◌≡◌, ◌+◌, ◌-◌, ◌<◌, true, Some, None, IfSome, is_some, if◌then◌else◌};
 ghost use Rattle.ocpp_scalars.specs.Limits.{last_second};
@@ -16,11 +16,11 @@ use ocpp_scalars::{Instant, LAST_SECOND};
 use profile::{Kind, Profile, Purpose, Row, is_candidate};
 use recurrence::{next_change, rate_at};
 
-/// The second behind the last instant.
+/// The first second after the last instant.
 const END_OF_TIME: u64 = LAST_SECOND + 1;
 
 impl Looked<'_> {
-    /// Whether the row stands at another connector.
+    /// Returns whether the row is installed at another connector.
     pub(crate) fn is_elsewhere(&self) -> bool
         ensures { result ≡ is_elsewhere self.now.row.now.profile.purpose self.now.at
             self.now.row.now.connector }
@@ -33,7 +33,7 @@ impl Looked<'_> {
         }
     }
 
-    /// Whether the row needs a transaction, and there is none.
+    /// Returns whether the row needs a transaction, and there is none.
     pub(crate) fn lacks_transaction(&self) -> bool
         ensures { result
             ≡ lacks_transaction (point_state self.now.view) self.now.at self.now.row.now }
@@ -42,7 +42,7 @@ impl Looked<'_> {
             && self.view.active_since(self.at).is_none()
     }
 
-    /// Whether a TxDefaultProfile of the connector's own has the level of the row.
+    /// Returns whether the connector has a TxDefaultProfile of its own at the row's stack level.
     pub(crate) fn is_hidden(&self) -> bool
         ensures { result ≡ true
             → is_hidden (point_state self.now.view) self.now.at self.now.row.now ≡ true }
@@ -53,7 +53,7 @@ impl Looked<'_> {
             && !is_candidate(Purpose::TxDefaultProfile, self.view.rows, self.at, self.row)
     }
 
-    /// From where a row counts its seconds here.
+    /// Returns the instant from which a row counts its seconds if it has no start of its own.
     pub(crate) fn base_of(&self, row: &Row) -> Instant
         ensures { result ≡ base row.now (active_since (point_state self.now.view) self.now.at)
             self.now.ask.start }
@@ -61,7 +61,7 @@ impl Looked<'_> {
         row.base(self.view.active_since(self.at), self.ask.start)
     }
 
-    /// Where the row's schedule begins.
+    /// Returns the instant at which the row's schedule begins.
     pub(crate) fn anchor(&self) -> Instant
         ensures { result ≡ anchor self.now.row.now.profile (base self.now.row.now
             (active_since (point_state self.now.view) self.now.at) self.now.ask.start) }
@@ -69,7 +69,7 @@ impl Looked<'_> {
         self.row.profile.anchor(self.base_of(self.row))
     }
 
-    /// Up to when the row's schedule goes on to be over, where it is.
+    /// Returns until when the row's schedule remains past its duration, if it is.
     pub(crate) fn over_until(&self, instant: Instant) -> Option<u64>
         ensures { IfSome result (IsSoUntil (Holds PastDuration self.now) instant) }
     {
@@ -83,7 +83,7 @@ impl Looked<'_> {
         Some(counts_on_until(profile, base, instant, offset))
     }
 
-    /// Up to when none of the row's periods has begun, where none has.
+    /// Returns until when none of the row's periods has begun, if none has.
     pub(crate) fn ahead_until(&self, instant: Instant) -> Option<u64>
         ensures { IfSome result (IsSoUntil (Holds BeforeFirstPeriod self.now) instant) }
     {
@@ -97,14 +97,15 @@ impl Looked<'_> {
         }
         let turn = counts_on_until(profile, base, instant, offset);
         let until = turn.min(instant.seconds().saturating_add(first - offset));
-        // What begins first begins behind the last of these seconds.
+        // No period has begun at the last of these seconds, so none has at an earlier one.
         match periods.limit_in_force(offset + (until - 1 - instant.seconds())) {
             None => Some(until),
             Some(_) => None,
         }
     }
 
-    /// Up to when a profile of the row's purpose with a higher stack level goes on to have a limit.
+    /// Returns until when a profile of the row's purpose with a higher stack level has a limit, if
+    /// one has.
     pub(crate) fn above_until(&self, instant: Instant) -> Option<u64>
         ensures { IfSome result (IsSoUntil (Holds BelowHigherLevel self.now) instant) }
     {
@@ -112,7 +113,7 @@ impl Looked<'_> {
         self.other_until(profile.purpose, profile.stack_level + 1, instant)
     }
 
-    /// Up to when a TxProfile goes on to have a limit, where the row is a TxDefaultProfile.
+    /// Returns until when a TxProfile has a limit, if the row is a TxDefaultProfile and one has.
     pub(crate) fn tx_until(&self, instant: Instant) -> Option<u64>
         ensures { IfSome result (IsSoUntil (Holds BehindTxProfile self.now) instant) }
     {
@@ -122,7 +123,8 @@ impl Looked<'_> {
         }
     }
 
-    /// Up to when a row of a purpose, of this level at least, goes on to have a limit.
+    /// Returns until when a row of a purpose at the stack level `least` or above has a limit, if
+    /// one has.
     fn other_until(&self, purpose: Purpose, least: u32, instant: Instant) -> Option<u64>
         ensures { IfSome result (IsSoUntil (λ k. Reaches least (prevailing_row purpose
             (point_state self.now.view) self.now.at self.now.ask.start k)) instant) }
@@ -144,14 +146,14 @@ impl Looked<'_> {
     }
 }
 
-/// What holds always, or never.
+/// Returns the end of time for a reason that always holds, and `None` for one that never does.
 pub(crate) fn always(holds: bool) -> Option<u64>
     ensures { result ≡ (if holds then Some (last_second + 1) else None) }
 {
     if holds { Some(END_OF_TIME) } else { None }
 }
 
-/// An instant that is still to come.
+/// Returns the seconds of `bound` if it is still to come.
 pub(crate) fn before(bound: Option<Instant>, instant: Instant) -> Option<u64>
     ensures { IfSome result (λ until. (instant < until) × (bound ≡ Some until)) }
 {
@@ -163,7 +165,7 @@ pub(crate) fn before(bound: Option<Instant>, instant: Instant) -> Option<u64>
     }
 }
 
-/// Up to when a profile goes on to have the limit that it has at an instant, or none.
+/// Returns until when a profile keeps the limit that it has at an instant, or keeps having none.
 pub(crate) fn rate_until(profile: &Profile, base: Instant, instant: Instant) -> u64
     ensures { IsSoUntil
         (λ k. rate profile.now base k ≡ rate profile.now base instant) instant result }
@@ -174,19 +176,21 @@ pub(crate) fn rate_until(profile: &Profile, base: Instant, instant: Instant) -> 
     }
 }
 
-/// Up to when a profile that has a limit at an instant goes on to have one, though not always to the last second.
+/// Returns an instant until which a profile that has a limit now keeps having one. It may have one
+/// for longer.
 fn limit_until(profile: &Profile, base: Instant, instant: Instant) -> u64
     requires { is_some (rate profile.now base instant) ≡ true }
     ensures { IsSoUntil (λ k. is_some (rate profile.now base k) ≡ true) instant result }
 {
-    // A schedule without a gap and an end isn't gone through period by period.
+    // Without a gap or an end the schedule has a limit for as long as it is valid. Going from
+    // change to change would take a step for each period.
     if profile.schedule.duration.is_none() && profile.schedule.periods.as_slice()[0].start == 0 {
         return valid_until(profile, instant);
     }
     rate_until(profile, base, instant)
 }
 
-/// The end of the validity of a profile that is valid at an instant.
+/// Returns the end of the validity of a profile that is valid at an instant.
 fn valid_until(profile: &Profile, instant: Instant) -> u64
     requires { is_before instant profile.now.valid_to ≡ true }
     ensures { IsSoUntil (λ k. is_before k profile.now.valid_to ≡ true) instant result }
@@ -197,13 +201,14 @@ fn valid_until(profile: &Profile, instant: Instant) -> u64
     }
 }
 
-/// Up to when the schedule of a profile counts on from the offset that it has at an instant.
+/// Returns until when a schedule counts on from the offset that it has at an instant.
 fn counts_on_until(profile: &Profile, base: Instant, instant: Instant, at: u64) -> u64
     requires { offset profile.now base instant ≡ Some at }
     ensures { IsSoUntil
         (λ k. offset profile.now base k ≡ Some (at + (k - instant))) instant result }
 {
     match profile.kind {
+        // A recurring schedule then counts from 0 again.
         Kind::Recurring(recurrency) => instant.seconds() + (recurrency.length() - at),
         Kind::Absolute | Kind::Relative => END_OF_TIME,
     }

@@ -1,4 +1,4 @@
-//! The same for programs, as JSON (RFC 8259).
+//! The JSON of an explained schedule (RFC 8259), for programs.
 
 use crate::explained_ask::{ExplainedAsk, NotCounted};
 use crate::words::{reason_name, sentence};
@@ -9,9 +9,10 @@ use ocpp_scalars::{Instant, push_instant, push_tenths};
 use std::alloc::{AllocError, Global};
 use sweep_compiler::Interval;
 
-/// An explained schedule as one line of JSON: `point`, `connector`, `unit`, `start`, `duration` in seconds,
-/// `intervals`, each with `start`, `end`, `limit`, `cause` and `shares`, and `notCounted`. Limits have one
-/// decimal, instants are texts (RFC 3339), and an `end` behind the last instant is null.
+/// Formats an explained schedule as one line of JSON: `point`, `connector`, `unit`, `start`,
+/// `duration` in seconds, `intervals`, each with `start`, `end`, `limit`, `cause` and `shares`, and
+/// `notCounted`. Limits have one decimal, and instants are strings (RFC 3339). An `end` after the
+/// last instant is null.
 pub fn write_json(alloc: Global, explained: &ExplainedAsk<'_>) -> Result<String, AllocError> {
     let mut line = JsonLine::new(alloc);
     line.out.begin_object()?;
@@ -32,7 +33,7 @@ pub fn write_json(alloc: Global, explained: &ExplainedAsk<'_>) -> Result<String,
     line.into_text()
 }
 
-/// A line of JSON that is being written. The library's writer sets the commas.
+/// A line of JSON under construction. The library's writer sets the commas.
 #[derive(Drop)]
 struct JsonLine {
     out: Writer,
@@ -47,18 +48,18 @@ impl JsonLine {
         }
     }
 
-    /// The line, ended.
+    /// Returns the line with its line feed.
     fn into_text(self) -> Result<String, AllocError> {
         let mut bytes = self.out.into_inner();
         bytes.push(b'\n')?;
         match String::from_utf8(bytes) {
             Ok(text) => Ok(text),
-            // JSON that was written so is UTF-8.
+            // The writer's bytes are always UTF-8.
             Err(_) => Err(AllocError),
         }
     }
 
-    /// Appends the fields that say what was asked.
+    /// Appends the fields of the request.
     fn push_asked(&mut self, explained: &ExplainedAsk<'_>) -> Result<(), AllocError> {
         self.out.key("point")?;
         self.out.string(explained.point)?;
@@ -141,11 +142,12 @@ impl JsonLine {
         self.out.end_object()
     }
 
-    /// Appends tenths, as a JSON number.
+    /// Appends tenths as a JSON number.
     fn push_tenths(&mut self, tenths: u32) -> Result<(), AllocError> {
         let mut text = String::new(self.alloc);
         push_tenths(&mut text, tenths)?;
-        // It always is one: the writer asks for the test, since no clause joins both forms of numbers.
+        // It always is a number. The writer demands the test, since no clause connects its numbers
+        // with those of `push_tenths`.
         if is_number(text.as_str()) {
             self.out.number(text.as_str())
         } else {
@@ -153,7 +155,8 @@ impl JsonLine {
         }
     }
 
-    /// Appends a moment, in seconds since 1970, as a text, or null behind the last instant.
+    /// Appends a moment, in seconds since 1970, as a string, or null if it is after the last
+    /// instant.
     fn push_moment(&mut self, moment: u64) -> Result<(), AllocError> {
         let Some(instant) = Instant::try_new(moment) else {
             return self.out.null();

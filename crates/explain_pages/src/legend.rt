@@ -1,4 +1,4 @@
-//! What the lines of a picture are.
+//! The legend of a picture.
 
 use crate::causes::LOWER;
 use crate::drawing::{Sketch, ceiling_class, push_letter, push_style};
@@ -11,19 +11,19 @@ use crate::table::push_moment;
 use crate::words::{push_cause, push_limit};
 use std::alloc::{AllocError, Global};
 
-/// The middle of the legend's first line, and from one line to the next.
+/// The middle of the legend's first line, and the distance between its lines.
 const FIRST: u64 = LOWER + 30;
 
 const LINE: u64 = 22;
 
-/// The lower edge of the legend of a number of entries, with some room below it.
+/// Returns the lower edge of a legend with a number of entries, with some room below it.
 pub(crate) fn lower_edge(entries: usize) -> u64 {
     (entries as u64)
         .saturating_mul(LINE)
         .saturating_add(FIRST + 24)
 }
 
-/// Appends the legend: the limit, and each entry with its letter, its line and what it is.
+/// Appends the legend: the limit, and each entry with its letter, a piece of its line and its name.
 pub(crate) fn push_legend(
     alloc: Global,
     out: &mut String,
@@ -42,7 +42,7 @@ pub(crate) fn push_legend(
     Ok(())
 }
 
-/// The middle of an entry's line, by its place.
+/// Returns the middle of an entry's line, by the entry's place.
 fn middle_of(place: usize) -> u64 {
     (place as u64)
         .saturating_mul(LINE)
@@ -72,7 +72,7 @@ fn push_entry(
     }
 }
 
-/// Appends a piece of a line of a class.
+/// Appends a piece of a line with a CSS class.
 fn push_sample(out: &mut String, class: &str, middle: u64) -> Result<(), AllocError> {
     let (from, to) = (LEFT + 28, LEFT + 88);
     write!(out, "<path class=\"{class}\" d=\"M{from} {middle}H{to}\"/>")
@@ -85,7 +85,7 @@ fn push_text(out: &mut String, text: &str, middle: u64) -> Result<(), AllocError
     out.push_str("</text>\n")
 }
 
-/// What an entry is, and what of its line the picture doesn't show.
+/// Returns the name of an entry, with a note if the picture cuts its line or leaves it out.
 fn entry_text(
     alloc: Global,
     explained: &ExplainedAsk<'_>,
@@ -110,7 +110,7 @@ fn entry_text(
     Ok(text)
 }
 
-/// Appends until when a line is drawn, where it was cut.
+/// Appends until when a line is drawn, if it is cut.
 pub(crate) fn push_cut(
     alloc: Global,
     out: &mut String,

@@ -1,4 +1,4 @@
-//! The length of a time in days, hours, minutes and seconds.
+//! Lengths of time in days, hours, minutes and seconds.
 
 ghost use Rattle.std.specs.Prelude.{◌≡◌, ◌+◌, ◌*◌, ◌<◌};
 
@@ -11,7 +11,7 @@ pub struct Length {
     pub seconds: u32,
 }
 
-/// The length of a number of seconds.
+/// Splits a number of seconds into days, hours, minutes and seconds.
 pub fn length_of(seconds: u32) -> Length
     ensures whole { result.days * 86400 + result.hours * 3600 + result.minutes * 60 + result.seconds
         ≡ seconds }

@@ -1,14 +1,14 @@
-//! The letters at the lines of a picture, none upon another.
+//! The letters at the lines of a picture, which don't overlap.
 
 use crate::drawing::push_letter;
 use crate::entries::{Entry, Line};
 use crate::scale::{LEFT, RIGHT, Scale};
 use std::alloc::{AllocError, Global};
 
-/// How far apart letters have to be, to the side and in height.
+/// The minimum distance between letters, horizontally and vertically.
 const APART: (u64, u64) = (20, 13);
 
-/// How often a letter is moved to the side before it is left out.
+/// The number of positions tried before a letter is left out.
 const TRIES: usize = 12;
 
 /// Appends the letter of each entry above the beginning of its line.
@@ -33,7 +33,7 @@ pub(crate) fn push_letters(
     Ok(())
 }
 
-/// The spot above the beginning of a line; of a ceiling at the right edge.
+/// Returns the spot above the start of a line, or at the right edge for a ceiling.
 fn beginning(scale: Scale, line: &Line) -> Option<(u64, u64)> {
     match line {
         Line::Level(_) if scale.is_passed_by(line) => None,
@@ -50,13 +50,14 @@ fn beginning(scale: Scale, line: &Line) -> Option<(u64, u64)> {
     }
 }
 
-/// Just above a limit's line.
+/// Returns the height just above a limit's line.
 fn above(scale: Scale, limit: u32) -> u64 {
     scale.y(limit).saturating_sub(6)
 }
 
-/// The first free spot next to a spot: to its right, or to its left in the right half.
+/// Returns the first free spot beside a spot: to its right, or to its left in the right half.
 fn free_spot(spots: &[(u64, u64)], spot: (u64, u64)) -> Option<(u64, u64)> {
+    // Two lines may begin at one point. A letter that finds no free spot is only in the legend.
     let (mut x, y) = spot;
     let goes_left = x > (LEFT + RIGHT) / 2;
     for _ in 0..TRIES {

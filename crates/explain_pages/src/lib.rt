@@ -1,5 +1,6 @@
-//! ExplainedAsk schedules, for people and for programs: a table with the reason of each limit, the same as JSON,
-//! and a picture as SVG or as an HTML page. Nothing here decides: it prints the intervals that it is given.
+//! Formats explained schedules for people and for programs: a table with the cause of each limit,
+//! the same as JSON, and a picture as SVG or as an HTML page. The limits and their causes are those
+//! of the given intervals.
 #![tactic(auto)]
 
 mod causes;

@@ -1,4 +1,4 @@
-//! Rows of a point as they are looked at in a request.
+//! A point's rows, as they are checked in a request.
 
 ghost use Rattle.std.specs.Prelude.{◌≡◌, Some, slice_get};
 ghost use Rattle.meaning.specs.Cause.{counts_for};
@@ -6,7 +6,7 @@ ghost use Rattle.meaning.specs.Cause.{counts_for};
 use meaning::{Ask, View};
 use profile::Row;
 
-/// A row of a view in a request.
+/// A row of a view, with the request in which it is checked.
 #[derive(Clone, Copy)]
 pub(crate) struct RowAsked<'a> {
     pub view: View<'a>,
@@ -16,7 +16,7 @@ pub(crate) struct RowAsked<'a> {
     pub ghost stands: { slice_get view.rows.now place ≡ Some row.now },
 }
 
-/// A row of a view that is looked at for a connector in a request.
+/// A row of a view, as it is checked for a connector in a request.
 #[derive(Clone, Copy)]
 pub(crate) struct Looked<'a> {
     pub view: View<'a>,

@@ -1,4 +1,5 @@
-//! At which connectors a row is looked at in a request, and what holds at all of them.
+//! The connectors for which a row is checked in a request, and the reasons that hold for all of
+//! them.
 
 ghost use Rattle.std.specs.Prelude.{◌≡◌, MatchBool};
 ghost use Rattle.meaning.specs.View.{point_state};
@@ -11,7 +12,7 @@ use ocpp_scalars::Instant;
 use profile::Purpose;
 
 impl RowAsked<'_> {
-    /// The first connector at which the row is looked at.
+    /// Returns the first connector for which the row is checked.
     pub(crate) fn first_connector(&self) -> Option<u32>
         ensures { FoundConnector self.now result }
     {
@@ -19,6 +20,7 @@ impl RowAsked<'_> {
         if self.is_of_one() {
             return Some(asked);
         }
+        // The limit of the whole point sums up the connectors with a transaction: no other counts.
         for place in 0..self.view.starts.len() {
             let Ok(connector) = u32::try_from(place + 1) else {
                 return None;
@@ -30,7 +32,7 @@ impl RowAsked<'_> {
         None
     }
 
-    /// The first connector, with the first second of the request, at which what a reason says isn't so.
+    /// Returns the first second at which a reason fails, for the first connector where it does.
     pub(crate) fn first_failing(&self, reason: NoPart) -> Option<Instant>
         ensures { FoundFailing reason self.now result }
     {
@@ -51,14 +53,15 @@ impl RowAsked<'_> {
         None
     }
 
-    /// Whether what a reason says is so throughout. Where it isn't so that others come first, the row prevails.
+    /// Returns whether a reason holds at each second for each connector. If `BehindOthers` doesn't,
+    /// the row prevails at some second.
     pub(crate) fn is_throughout(&self, reason: NoPart) -> bool
         ensures { MatchBool result (IsThroughout reason self.now) (FailsSomewhere reason self.now) }
     {
         self.first_failing(reason).is_none()
     }
 
-    /// The row as it is looked at for a connector.
+    /// Returns the row as it is checked for a connector.
     fn looked_at(&self, connector: u32) -> Looked<'_>
         ensures { IsOf self.now connector result }
     {
@@ -76,7 +79,7 @@ impl RowAsked<'_> {
         }
     }
 
-    /// Whether one connector alone is looked at.
+    /// Returns whether the row is checked for one connector alone.
     fn is_of_one(&self) -> bool
         ensures { result ≡ is_of_one self.now.ask.connector self.now.row.now }
     {
@@ -84,7 +87,7 @@ impl RowAsked<'_> {
             || matches!(self.row.profile.purpose, Purpose::ChargePointMaxProfile)
     }
 
-    /// Whether the row may speak for a connector, which has a transaction.
+    /// Returns whether a connector has a transaction, and the row may apply to it.
     fn is_of_active(&self, connector: u32) -> bool
         ensures { result ≡ is_of_active (point_state self.now.view) self.now.row.now connector }
     {

@@ -1,9 +1,9 @@
-//! Texts in XML and in HTML.
+//! Escaped texts in XML and in HTML.
 
 use std::alloc::AllocError;
 
-/// Appends a text so that it stands for itself in XML, in HTML and in an attribute's quotes. A character that
-/// XML lacks becomes U+FFFD.
+/// Appends a text, escaped for XML and HTML within elements and quoted attributes. U+FFFE, U+FFFF
+/// and control characters other than tab and line feed become U+FFFD.
 pub fn push_escaped(out: &mut String, text: &str) -> Result<(), AllocError> {
     for character in text.chars() {
         match character {
@@ -13,6 +13,7 @@ pub fn push_escaped(out: &mut String, text: &str) -> Result<(), AllocError> {
             '"' => out.push_str("&quot;")?,
             '\'' => out.push_str("&#39;")?,
             '\t' | '\n' => out.push(character)?,
+            // An XML parser rejects the whole file for one character that XML 1.0 forbids.
             '\0'..='\u{1f}' | '\u{7f}'..='\u{9f}' | '\u{fffe}' | '\u{ffff}' => {
                 out.push('\u{fffd}')?;
             }
@@ -22,7 +23,7 @@ pub fn push_escaped(out: &mut String, text: &str) -> Result<(), AllocError> {
     Ok(())
 }
 
-/// Appends an element that holds a text alone: its opening tag, the text escaped, its closing tag.
+/// Appends `opening` as it is, `text` escaped, and `closing` as it is.
 pub fn push_element(
     out: &mut String,
     opening: &str,

@@ -1,4 +1,4 @@
-//! The page: the picture with the table below it, as HTML.
+//! The HTML page: the picture with the table below it.
 
 use crate::cells::{CellMaker, Cells};
 use crate::explained_ask::{ExplainedAsk, NotCounted};
@@ -11,9 +11,9 @@ use crate::words::{push_profile, sentence};
 use ocpp_scalars::{Instant, push_instant};
 use std::alloc::{AllocError, Global};
 
-/// An explained schedule as a page, a whole HTML file that loads nothing: the picture, the intervals in a table,
-/// and the profiles that never set the limit. The table has the first `MAX_INTERVALS`; where there are more, the
-/// page says so.
+/// Formats an explained schedule as a whole HTML file that loads nothing: the picture, the
+/// intervals in a table, and the profiles that never set the limit. The table has the first
+/// `MAX_INTERVALS`; a note counts the others.
 pub fn write_page(alloc: Global, explained: &ExplainedAsk<'_>) -> Result<String, AllocError> {
     let mut out = String::new(alloc);
     let title = heading(alloc, explained, None)?;
@@ -37,6 +37,7 @@ pub fn write_page(alloc: Global, explained: &ExplainedAsk<'_>) -> Result<String,
     Ok(out)
 }
 
+// A table wider than the screen scrolls in this region, and a keyboard reaches it as a tab stop.
 const HEAD: &str = r#"<h2 id="intervals">Each limit, and why</h2>
 <div class="wide" role="region" aria-labelledby="intervals" tabindex="0">
 <table>
@@ -64,7 +65,7 @@ fn push_table(
     push_note(out, explained.intervals.len())
 }
 
-/// Appends how many intervals the table leaves out, where it does.
+/// Appends the number of intervals that the table leaves out, if there are any.
 fn push_note(out: &mut String, count: usize) -> Result<(), AllocError> {
     if count <= MAX_INTERVALS {
         return Ok(());
@@ -74,15 +75,16 @@ fn push_note(out: &mut String, count: usize) -> Result<(), AllocError> {
     out.push_str("</p>\n")
 }
 
-/// Appends the length, the limit and why, and ends the row.
+/// Appends the length, the limit and the cause, and ends the row.
 fn push_cells(out: &mut String, cells: &Cells) -> Result<(), AllocError> {
     push_element(out, "</td><td>", cells.length.as_str(), "</td>")?;
     push_element(out, "<td class=\"number\">", cells.limit.as_str(), "</td>")?;
     push_element(out, "<td>", cells.why.as_str(), "</td></tr>\n")
 }
 
-/// Appends a clock time, with its instant for programs.
+/// Appends a clock time as an element `time`, with its instant for programs.
 fn push_clock(out: &mut String, moment: u64, text: &str) -> Result<(), AllocError> {
+    // The end of the calendar's last day has no `Instant`.
     let Some(instant) = Instant::try_new(moment) else {
         return push_escaped(out, text);
     };

@@ -1,4 +1,4 @@
-//! The picture, as SVG.
+//! The picture of an explained schedule, as SVG.
 
 use crate::causes::push_causes;
 use crate::cells::CellMaker;
@@ -17,13 +17,13 @@ use messages::unit_name;
 use ocpp_scalars::push_integer;
 use std::alloc::{AllocError, Global};
 
-/// The most intervals that a picture's description names.
+/// The maximum number of intervals in a picture's description.
 const DESCRIBED: usize = 12;
 
-/// An explained schedule as a picture, a whole SVG file. The limit is a thick line; under it are the profiles and
-/// the ceilings, each with its own dashes and a letter. Below the times stands what sets each limit. A profile's
-/// line has at most `MAX_STEPS` steps and the limit at most `MAX_INTERVALS`; where one is cut, the picture
-/// says so.
+/// Draws an explained schedule as a whole SVG file. The limit is a thick line. The profiles and the
+/// ceilings are drawn beneath it, each with its own dashes and a letter. A strip below the times
+/// names the cause of each limit. A profile's line has at most `MAX_STEPS` steps, and the limit's
+/// at most `MAX_INTERVALS`; the legend says where a line is cut.
 pub fn write_picture(alloc: Global, explained: &ExplainedAsk<'_>) -> Result<String, AllocError> {
     let mut out = String::from_str(alloc, "<?xml version=\"1.0\" encoding=\"UTF-8\"?>\n")?;
     push_picture(alloc, &mut out, explained)?;
@@ -59,12 +59,13 @@ pub(crate) fn push_picture(
 
 fn push_opening(out: &mut String, height: u64) -> Result<(), AllocError> {
     out.push_str("<svg xmlns=\"http://www.w3.org/2000/svg\" class=\"hilfrogwy\" role=\"img\"")?;
+    // A screen reader takes the picture as one image, and reads out these two elements for it.
     out.push_str(" aria-labelledby=\"picture-title picture-description\"")?;
     write!(out, " viewBox=\"0 0 {BREADTH} {height}\"")?;
     write!(out, " width=\"{BREADTH}\" height=\"{height}\">\n")
 }
 
-/// Appends title and description.
+/// Appends the title and the description.
 fn push_description(
     alloc: Global,
     out: &mut String,
@@ -90,7 +91,7 @@ fn push_description(
     out.push_str("</desc>\n")
 }
 
-/// Appends how many intervals come after those that are shown.
+/// Appends the number of intervals that aren't shown, if there are any.
 pub(crate) fn push_more(out: &mut String, count: usize, shown: usize) -> Result<(), AllocError> {
     if count <= shown {
         return Ok(());
@@ -100,7 +101,7 @@ pub(crate) fn push_more(out: &mut String, count: usize, shown: usize) -> Result<
     out.push('.')
 }
 
-/// Appends what is shown, above the field.
+/// Appends the heading above the plot: the point, the connector, the unit and the time.
 fn push_head(
     alloc: Global,
     out: &mut String,
@@ -124,7 +125,7 @@ fn push_head(
     out.push_str("</text>\n")
 }
 
-/// Appends axes, lines, letters, causes and legend.
+/// Appends the axes, the lines, the letters, the causes and the legend.
 fn push_drawing(alloc: Global, out: &mut String, sketch: Sketch<'_>) -> Result<(), AllocError> {
     let scale = sketch.scale;
     push_limit_axis(out, scale, sketch.explained.unit)?;
@@ -132,6 +133,7 @@ fn push_drawing(alloc: Global, out: &mut String, sketch: Sketch<'_>) -> Result<(
     for (place, entry) in sketch.entries.iter().enumerate() {
         push_entry_line(out, scale, place, entry)?;
     }
+    // Drawn after the other lines, so that none of them covers it.
     push_limit_line(out, scale, sketch.limit)?;
     push_letters(alloc, out, scale, sketch.entries)?;
     push_causes(alloc, out, sketch)?;

@@ -1,4 +1,4 @@
-//! Where times and limits lie in a picture.
+//! The positions of times and limits in a picture.
 
 ghost use Rattle.std.specs.Prelude.{◌≤◌};
 
@@ -8,20 +8,20 @@ use crate::steps::Steps;
 use crate::table::largest_limit;
 use crate::ticks::limit_step;
 
-/// The left and the right edge of the field in which the lines are.
+/// The left and the right edge of the plot, in which the lines are drawn.
 pub(crate) const LEFT: u64 = 84;
 
 pub(crate) const RIGHT: u64 = 936;
 
-/// Its upper and its lower edge.
+/// The upper and the lower edge of the plot.
 pub(crate) const TOP: u64 = 76;
 
 pub(crate) const BOTTOM: u64 = 376;
 
-/// How broad a picture is.
+/// The width of a picture.
 pub(crate) const BREADTH: u64 = 960;
 
-/// What the edges of the field stand for.
+/// The time and the limit that the edges of the plot represent.
 #[derive(Clone, Copy)]
 pub(crate) struct Scale {
     /// The duration of the request, in seconds.
@@ -33,11 +33,13 @@ pub(crate) struct Scale {
 }
 
 impl Scale {
-    /// The scale on which the limits have their room. A profile or a ceiling of more than twice the largest
-    /// limit isn't counted: a ceiling is left out then, and a profile is drawn at the upper edge.
+    /// Returns a scale that has room for the limits. It ignores a profile's steps and a ceiling
+    /// above twice the largest limit: the ceiling is left out if it is above the plot, and the
+    /// profile is drawn at the upper edge there.
     pub(crate) fn of(explained: &ExplainedAsk<'_>, entries: &[Entry]) -> Scale {
         let limit = largest_limit(explained);
         let bound = match limit {
+            // Twice 0 would ignore every profile and ceiling.
             0 => u32::MAX,
             _ => limit.saturating_mul(2),
         };
@@ -45,7 +47,7 @@ impl Scale {
         for entry in entries {
             largest = largest.max(largest_within(&entry.line, bound));
         }
-        // Some room above the largest limit.
+        // Leaves some room above the largest limit.
         let largest = largest.saturating_add(largest / 20).max(1);
         let step = limit_step(largest);
         Scale {
@@ -55,7 +57,7 @@ impl Scale {
         }
     }
 
-    /// Where a second of the request lies between the left and the right edge.
+    /// Returns the position of a second of the request between the left and the right edge.
     pub(crate) fn x(self, second: u32) -> u64
         ensures left { LEFT ≤ result }
         ensures right { result ≤ RIGHT }
@@ -65,7 +67,7 @@ impl Scale {
         LEFT + share.min(breadth)
     }
 
-    /// Where a limit lies between the upper and the lower edge.
+    /// Returns the position of a limit between the upper and the lower edge.
     pub(crate) fn y(self, limit: u32) -> u64
         ensures upper { TOP ≤ result }
         ensures lower { result ≤ BOTTOM }
@@ -75,7 +77,7 @@ impl Scale {
         BOTTOM - share.min(height)
     }
 
-    /// Whether a line goes above the upper edge.
+    /// Returns whether a line goes above the upper edge.
     pub(crate) fn is_passed_by(self, line: &Line) -> bool {
         match line {
             Line::Level(limit) => u64::from(*limit) > self.top,
@@ -85,7 +87,7 @@ impl Scale {
     }
 }
 
-/// The largest limit of a line that isn't above a bound.
+/// Returns the largest limit of a line that isn't above a bound, or 0.
 fn largest_within(line: &Line, bound: u32) -> u32 {
     match line {
         Line::Level(limit) if *limit <= bound => *limit,

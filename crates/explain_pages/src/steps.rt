@@ -1,4 +1,4 @@
-//! Limits through time, step by step.
+//! The limits of a profile or a schedule over time, step by step.
 
 ghost use Rattle.std.specs.Prelude.{◌≤◌, IfOk, length};
 ghost use Rattle.explain_pages.specs.Limits.{max_steps};
@@ -10,13 +10,14 @@ use profile::Profile;
 use recurrence::{next_change, rate_at};
 use std::alloc::{AllocError, Global};
 
-/// The most steps of a profile's line.
+/// The maximum number of steps of a profile's line.
+// A Daily profile with 200 periods has some 1,400 steps a week; no file may grow without bound.
 pub const MAX_STEPS: usize = 2_000;
 
-/// The most intervals that a picture or a page shows.
+/// The maximum number of intervals in a picture or a page.
 pub const MAX_INTERVALS: usize = 20_000;
 
-/// A limit from a second on, or none.
+/// The limit from a second on, if there is one.
 #[derive(Clone, Copy)]
 pub(crate) struct Step {
     /// Counted from the start of the request.
@@ -25,22 +26,23 @@ pub(crate) struct Step {
     pub(crate) limit: Option<u32>,
 }
 
-/// Limits through a request, each up to the next.
+/// Limits over the time of a request, each up to the next.
 #[derive(Drop)]
 pub(crate) struct Steps {
     pub(crate) items: Vec<Step>,
-    /// The second behind the last step: the duration of the request, or less where the steps were cut.
+    /// The first second after the last step: the duration of the request, or less if the steps were
+    /// cut.
     pub(crate) end: u32,
 }
 
 impl Steps {
-    /// Whether there is a limit at all.
+    /// Returns whether any step has a limit.
     pub(crate) fn has_limit(&self) -> bool {
         self.items.iter().any(|step| step.limit.is_some())
     }
 }
 
-/// The limits of a profile through a request, counted from a base.
+/// Returns the limits of a profile over a request, counted from a base.
 pub(crate) fn profile_steps(
     alloc: Global,
     profile: &Profile,
@@ -72,8 +74,8 @@ pub(crate) fn profile_steps(
     })
 }
 
-/// The first instant of a request at which a profile has a limit, counted from a base, or its start where it has
-/// none in it.
+/// Returns the first instant of a request at which a profile has a limit, counted from a base. If
+/// none of the first `MAX_STEPS` steps has one, it is the start of the request.
 pub(crate) fn first_limit(profile: &Profile, base: Instant, ask: &Ask) -> Instant {
     let mut instant = ask.start;
     for _ in 0..MAX_STEPS {
@@ -88,13 +90,13 @@ pub(crate) fn first_limit(profile: &Profile, base: Instant, ask: &Ask) -> Instan
     ask.start
 }
 
-/// The second of a request at which an instant is, at most its duration.
+/// Returns the second of a request at which an instant is, at most the request's duration.
 fn second_of(ask: &Ask, instant: Instant) -> u32 {
     let second = instant.seconds().saturating_sub(ask.start.seconds());
     second.min(u64::from(ask.duration)) as u32
 }
 
-/// The limits of the intervals.
+/// Returns the limits of the intervals.
 pub(crate) fn interval_steps(
     alloc: Global,
     explained: &ExplainedAsk<'_>,

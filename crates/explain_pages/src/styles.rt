@@ -1,7 +1,9 @@
-//! The style sheets of pictures and pages: for light and for dark, by colours that have contrast in both.
+//! The style sheets of pictures and pages. Their colours have enough contrast in light and dark
+//! mode.
 
-/// Of a picture, and of one within a page. Each rule names its colour, since viewers that aren't
-/// browsers know no variables; such a one shows the light colours.
+/// The style sheet of a picture, alone or in a page. Each rule names its colours, since viewers
+/// that aren't browsers know no CSS variables. Such a viewer shows the light colours.
+// A style sheet applies to the whole page around its picture, so each rule names the class.
 pub(crate) const PICTURE: &str = r#"<style>
 .hilfrogwy{color:#17202b;background:#fff;font-family:system-ui,-apple-system,"Segoe UI",Roboto,sans-serif;font-size:13px}
 .hilfrogwy text{fill:#17202b}
@@ -44,7 +46,7 @@ pub(crate) const PICTURE: &str = r#"<style>
 </style>
 "#;
 
-/// Of a page.
+/// The style sheet of a page.
 pub(crate) const PAGE: &str = r#"<style>
 :root{color-scheme:light dark;--paper:#fff;--ink:#17202b;--soft:#556070;--rule:#cfd6de}
 @media (prefers-color-scheme:dark){:root{--paper:#14181e;--ink:#edf1f6;--soft:#a9b4c2;--rule:#3a4452}}

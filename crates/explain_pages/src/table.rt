@@ -1,4 +1,4 @@
-//! The table for people.
+//! The plain-text table of an explained schedule.
 
 ghost use Rattle.std.specs.Prelude.{◌≤◌};
 
@@ -12,13 +12,13 @@ use messages::unit_name;
 use ocpp_scalars::push_integer;
 use std::alloc::{AllocError, Global};
 
-/// The fewest columns of a bar, and the most.
+/// The minimum and the maximum width of a bar, in columns.
 const BAR: (usize, usize) = (8, 40);
 
-/// The table of an explained schedule. Each interval has a line with its beginning and its end, its length,
-/// its limit and why. Below them are the profiles that never set the limit. Times are by the clock of the
-/// zone, whose changes are said first, or in UTC where there is none. Where the columns of a terminal are
-/// given, no line is broader than they are (unless one word is), and bars show the limits.
+/// Formats an explained schedule as a table. Each interval has a line with its start, end, length,
+/// limit and cause. The profiles that never set the limit follow. Times are local to `zone`, whose
+/// clock changes come first, or else in UTC. If `columns` is given, bars show the limits, and no
+/// line is wider than that unless a word or an interval's numbers are.
 pub fn write_table(
     alloc: Global,
     explained: &ExplainedAsk<'_>,
@@ -32,7 +32,8 @@ pub fn write_table(
     Ok(out)
 }
 
-/// Appends what is explained, in a line, and the changes of the zone's clock.
+/// Appends a line with the point, the connector, the time and the unit, and then the clock changes
+/// of the zone.
 fn push_heading(
     alloc: Global,
     out: &mut String,
@@ -56,7 +57,7 @@ fn push_heading(
     out.push('\n')
 }
 
-/// Appends a line for each change of a zone's clock in the time that is explained.
+/// Appends a line for each clock change of a zone within the explained time.
 fn push_changes(
     alloc: Global,
     out: &mut String,
@@ -64,6 +65,7 @@ fn push_changes(
     columns: Option<usize>,
 ) -> Result<(), AllocError> {
     let margins = Margins { indent: 0, columns };
+    // The first shift is the offset at the start of the request, not a change of the clock.
     let mut before = None;
     for shift in clock.shifts {
         if let Some(before) = before {
@@ -84,7 +86,7 @@ fn push_changes(
     Ok(())
 }
 
-/// What is explained: the point, the connector, and from when until when.
+/// Returns the point, the connector, and the start, the end and the length of the time.
 pub(crate) fn heading(
     alloc: Global,
     explained: &ExplainedAsk<'_>,
@@ -101,7 +103,7 @@ pub(crate) fn heading(
     Ok(text)
 }
 
-/// The point and the connector.
+/// Returns the point and the connector in words.
 pub(crate) fn place(alloc: Global, explained: &ExplainedAsk<'_>) -> Result<String, AllocError> {
     let mut text = String::from_str(alloc, explained.point)?;
     if explained.ask.connector == 0 {
@@ -113,7 +115,7 @@ pub(crate) fn place(alloc: Global, explained: &ExplainedAsk<'_>) -> Result<Strin
     Ok(text)
 }
 
-/// Appends a second of the request with its date, by the clock of a zone or in UTC.
+/// Appends a second of the request as date and time, local to a zone or in UTC.
 pub(crate) fn push_moment(
     alloc: Global,
     out: &mut String,
@@ -156,7 +158,7 @@ impl Widths {
         widths
     }
 
-    /// The widths where each column has its name above it.
+    /// Returns the widths with a heading above each column.
     fn with_names(self) -> Widths {
         Widths {
             from: self.from.max("from".len()),
@@ -167,7 +169,7 @@ impl Widths {
         }
     }
 
-    /// The columns up to the limit, with the blanks between.
+    /// Returns the width of a line up to the limit, with the blanks between the columns.
     fn numbers(self) -> usize {
         self.from
             .saturating_add(self.to)
@@ -176,27 +178,27 @@ impl Widths {
             .saturating_add(6)
     }
 
-    /// The columns of a whole line, with two blanks before why.
+    /// Returns the width of a whole line, with two blanks before the cause.
     fn whole(self) -> usize {
         self.numbers().saturating_add(2).saturating_add(self.why)
     }
 }
 
-/// How the lines of a table lie.
+/// The layout of a table.
 #[derive(Clone, Copy, PartialEq, Eq)]
 enum Layout {
     /// A line for each interval, and no bar.
     Plain,
-    /// A line for each interval, with a bar of a number of columns in it.
+    /// A line for each interval, with a bar of at most this many columns.
     OneLine(usize),
-    /// Why stands in a line of its own, and a bar of a number of columns is behind the limit.
+    /// The cause has a line of its own; a bar of at most this many columns follows the limit.
     TwoLines(usize),
-    /// Each interval is a paragraph, with a bar of a number of columns.
+    /// A paragraph for each interval, with a bar of at most this many columns.
     Paragraphs(usize),
 }
 
 impl Layout {
-    /// The first layout that has room for a bar.
+    /// Returns the first layout in which a bar has its minimum width, or else paragraphs.
     fn of(bare: Widths, columns: Option<usize>) -> Layout {
         let Some(columns) = columns else {
             return Layout::Plain;
@@ -218,7 +220,7 @@ impl Layout {
     }
 }
 
-/// A table with how it lies.
+/// The cells of a table, with their layout.
 #[derive(Drop)]
 struct Sheet<'a> {
     all: &'a [Cells],
@@ -242,6 +244,7 @@ fn push_intervals(
     let sheet = Sheet {
         all: all.as_slice(),
         widths: match layout {
+            // Paragraphs have no headings, which would only widen their columns.
             Layout::Paragraphs(_) => bare,
             Layout::Plain | Layout::OneLine(_) | Layout::TwoLines(_) => bare.with_names(),
         },
@@ -256,7 +259,7 @@ fn push_intervals(
     Ok(())
 }
 
-/// The largest limit of the intervals, in tenths.
+/// Returns the largest limit of the intervals, in tenths.
 pub(crate) fn largest_limit(explained: &ExplainedAsk<'_>) -> u32 {
     let mut largest = 0;
     for interval in explained.intervals {
@@ -352,7 +355,7 @@ impl Sheet<'_> {
         push_lines(out, cells.why.as_str(), margins)
     }
 
-    /// Appends the bar of a limit with two blanks before it, and says how long it is.
+    /// Appends the bar of a limit after two blanks, and returns its length.
     fn push_bar(&self, out: &mut String, cells: &Cells, room: usize) -> Result<usize, AllocError> {
         let bar = bar_of(cells.tenths, self.largest, room);
         if bar > 0 {
@@ -371,8 +374,8 @@ fn push_ended(out: &mut String, before: &str, text: &str) -> Result<(), AllocErr
     out.push('\n')
 }
 
-/// The length of the bar of a limit, in columns: the room for the largest limit, and at least one column
-/// for any above 0.
+/// Returns the length of a limit's bar, in columns: the whole room for the largest limit, and at
+/// least one column for any limit above 0, if there is room.
 fn bar_of(limit: u32, largest: u32, room: usize) -> usize
     ensures fits { result ≤ room }
 {

@@ -1,4 +1,4 @@
-//! Up to when what is said of a row for a connector stays so.
+//! How long a reason continues to hold for a row at a connector.
 
 ghost use Rattle.std.specs.Prelude.{IfSome, MatchOption};
 ghost use Rattle.explain_pages.specs.declared.explained_ask.NoPart.TheVariants.{NoLimit, BehindOthers};
@@ -12,8 +12,8 @@ use ocpp_scalars::Instant;
 use recurrence::rate_at;
 
 impl Looked<'_> {
-    /// The first second of the request at which what a reason says isn't so, or `None` where it is so at each. Where
-    /// it is that others come first, the row prevails there.
+    /// Returns the first second of the request at which a reason fails, or `None` if it holds
+    /// throughout. Where `BehindOthers` fails, the row prevails.
     pub(crate) fn first_failing(&self, reason: NoPart) -> Option<Instant>
         ensures { FirstFailing reason self.now result }
     {
@@ -23,6 +23,7 @@ impl Looked<'_> {
             let Some(until) = self.says_until(reason, instant) else {
                 return Some(instant);
             };
+            // The reason holds up to the end of the calendar.
             let Some(next) = Instant::try_new(until) else {
                 return None;
             };
@@ -31,7 +32,7 @@ impl Looked<'_> {
         None
     }
 
-    /// Up to when what a reason says stays so, where it is so at an instant.
+    /// Returns until when a reason continues to hold, if it holds at an instant.
     fn says_until(&self, reason: NoPart, instant: Instant) -> Option<u64>
         ensures { MatchOption result (Fails reason self.now instant)
             (IsSoUntil (Says reason self.now) instant) }
@@ -40,11 +41,12 @@ impl Looked<'_> {
             NoPart::NotPrevailing(why) => self.holds_until(why, instant),
             NoPart::NoLimit => self.no_limit_until(instant),
             NoPart::BehindOthers => self.behind_until(instant),
+            // Neither of these makes a claim about each second.
             NoPart::NotLeast | NoPart::NoActiveConnector => None,
         }
     }
 
-    /// Up to when the row goes on to have no limit.
+    /// Returns until when the row has no limit, if it has none at an instant.
     fn no_limit_until(&self, instant: Instant) -> Option<u64>
         ensures { IfSome result (IsSoUntil (Says NoLimit self.now) instant) }
     {
@@ -55,7 +57,7 @@ impl Looked<'_> {
         }
     }
 
-    /// Up to when the row goes on to have no limit, or others come before it. Else it prevails.
+    /// Returns until when the row has no limit or others take precedence, or `None` if it prevails.
     fn behind_until(&self, instant: Instant) -> Option<u64>
         ensures { MatchOption result (Fails BehindOthers self.now instant)
             (IsSoUntil (Says BehindOthers self.now) instant) }
@@ -73,12 +75,14 @@ impl Looked<'_> {
             instant,
             self.place,
         ) {
+            // Nothing is known of how long this reason holds, so the next second is checked again.
             Some(_) => Some(instant.seconds() + 1),
             None => None,
         }
     }
 
-    /// Up to when one of the reasons goes on to hold by which a row with a limit doesn't prevail.
+    /// Returns until when a reason holds that keeps a row with a limit from prevailing, if one
+    /// does.
     fn others_until(&self, instant: Instant) -> Option<u64>
         ensures { IfSome result (IsSoUntil (Says BehindOthers self.now) instant) }
     {
@@ -91,7 +95,7 @@ impl Looked<'_> {
         self.holds_until(WhyNot::BehindTxProfile, instant)
     }
 
-    /// Up to when a reason why the row doesn't prevail goes on to hold, where it holds at an instant.
+    /// Returns until when a reason why the row doesn't prevail holds, if it holds at an instant.
     fn holds_until(&self, why: WhyNot, instant: Instant) -> Option<u64>
         ensures { IfSome result (IsSoUntil (Holds why self.now) instant) }
     {

@@ -1,4 +1,4 @@
-//! How far apart the ticks of an axis are.
+//! The distance between the ticks of an axis.
 
 ghost use Rattle.std.specs.Prelude.{◌*◌, ◌≤◌, IfSome};
 ghost use Rattle.meaning.specs.Limits.{max_duration};
@@ -45,23 +45,26 @@ const LIMIT_STEPS: [u32; 29] = [
     2_000_000_000,
 ];
 
-/// The most spaces between the ticks of the time axis, between its dates, and between the ticks of the
-/// limit axis.
+/// The maximum number of spaces between the ticks of the time axis, between its dates, and between
+/// the ticks of the limit axis.
 pub(crate) const MOST_TIMES: u32 = 12;
 
 pub(crate) const MOST_DATES: u32 = 8;
 
 pub(crate) const MOST_LIMITS: u32 = 6;
 
-/// The seconds between the ticks of a time: the fewest that make at most 12 spaces, or four days.
+/// Returns the seconds between the ticks of a time: the fewest that make at most 12 spaces, or else
+/// four days.
 pub(crate) fn time_step(duration: u32) -> u32
     requires asked { duration ≤ max_duration }
     ensures spans { duration ≤ result * 12 }
 {
+    // A request has at most 31 days: only one of more than 24 needs ticks four days apart.
     first_that_spans(&TIME_STEPS, duration, MOST_TIMES).unwrap_or(345_600)
 }
 
-/// The seconds between the dates of a time: the fewest that make at most 8 spaces, or four days.
+/// Returns the seconds between the dates of a time: the fewest that make at most 8 spaces, or else
+/// four days.
 pub(crate) fn date_step(duration: u32) -> u32
     requires asked { duration ≤ max_duration }
     ensures spans { duration ≤ result * 8 }
@@ -69,14 +72,15 @@ pub(crate) fn date_step(duration: u32) -> u32
     first_that_spans(&DATE_STEPS, duration, MOST_DATES).unwrap_or(345_600)
 }
 
-/// The tenths between the ticks of limits up to the largest: the fewest that make at most 6 spaces.
+/// Returns the tenths between the ticks of limits up to the largest: the fewest that make at most 6
+/// spaces.
 pub(crate) fn limit_step(largest: u32) -> u32
     ensures spans { largest ≤ result * 6 }
 {
     first_that_spans(&LIMIT_STEPS, largest, MOST_LIMITS).unwrap_or(2_000_000_000)
 }
 
-/// The first of some steps of which `count` reach as far as wanted.
+/// Returns the first of the steps of which `count` reach as far as `wanted`.
 fn first_that_spans(steps: &[u32], wanted: u32, count: u32) -> Option<u32>
     ensures spans { IfSome result (λ step. wanted ≤ step * count) }
 {

@@ -1,4 +1,4 @@
-//! Why profiles have no part in an explained schedule.
+//! The reasons why profiles have no part in an explained schedule.
 
 ghost use Rattle.std.specs.Prelude.{◌≡◌, ◌<◌, length, IfOk};
 ghost use Rattle.std.specs.List.{All};
@@ -13,8 +13,9 @@ use meaning::{Ask, View, WhyNot, why_not};
 use std::alloc::{AllocError, Global};
 use sweep_compiler::Interval;
 
-/// The profiles that never set the limit in the intervals of a request, each with its reason. A profile that
-/// prevails at some second isn't the least there; else the reason is what holds at every second.
+/// Returns the profiles that never set the limit in the intervals of a request, each with the
+/// reason. A profile that prevails at some second isn't the lowest limit there; otherwise the
+/// reason holds at every second.
 pub fn not_counted(
     alloc: Global,
     view: &View<'_>,
@@ -32,7 +33,7 @@ pub fn not_counted(
     Ok(rest)
 }
 
-/// The row at a place as one that never sets the limit, with its reason.
+/// Returns the row at a place as one that never sets the limit, with the reason.
 fn not_counted_at(view: &View<'_>, ask: &Ask, place: usize) -> NotCounted
     requires within { place < length view.now.rows.now }
     ensures { HasReason (point_state view.now) ask.now result }
@@ -51,7 +52,7 @@ fn not_counted_at(view: &View<'_>, ask: &Ask, place: usize) -> NotCounted
 }
 
 impl RowAsked<'_> {
-    /// Why the row never sets the limit.
+    /// Returns the reason why the row never sets the limit.
     fn reason(&self) -> NoPart
         ensures { IsReason result (point_state self.now.view) self.now.ask self.now.row.now }
     {
@@ -61,8 +62,8 @@ impl RowAsked<'_> {
         }
     }
 
-    /// The same, where the row is looked at at a connector: the reason that says most there, where it holds
-    /// throughout.
+    /// Returns the reason of a row that is checked for a connector: the most telling one there, if
+    /// it holds throughout.
     fn reason_at(&self, connector: u32) -> NoPart
         requires looked { IsLookedAt self.now connector }
         ensures { IsReason result (point_state self.now.view) self.now.ask self.now.row.now }
@@ -76,12 +77,14 @@ impl RowAsked<'_> {
         }
     }
 
-    /// Why the row never sets the limit, where that isn't for one reason alone.
+    /// Returns the reason of a row for which no single reason is the most telling one throughout.
     fn reason_of_many(&self, connector: u32) -> NoPart
         requires looked { IsLookedAt self.now connector }
         ensures { IsReason result (point_state self.now.view) self.now.ask self.now.row.now }
     {
         let behind_tx = NoPart::NotPrevailing(WhyNot::BehindTxProfile);
+        // The row prevails at some second and sets no limit there, so another one is as low or
+        // lower.
         if !self.is_throughout(NoPart::BehindOthers) {
             NoPart::NotLeast
         } else if self.is_throughout(behind_tx) {

@@ -1,4 +1,4 @@
-//! Limits, causes and reasons in words. The sentences of reasons stand here and nowhere else.
+//! Limits, causes and reasons in words. This is the only place with the sentences of reasons.
 
 use crate::explained_ask::NoPart;
 use crate::length::length_of;
@@ -8,7 +8,7 @@ use ocpp_scalars::{push_integer, push_tenths};
 use profile::Unit;
 use std::alloc::AllocError;
 
-/// The name of a reason, as programs read it.
+/// Returns the name of a reason, as programs read it.
 pub(crate) fn reason_name(reason: NoPart) -> &'static str {
     match reason {
         NoPart::NotLeast => "NotLeast",
@@ -34,7 +34,7 @@ fn why_not_name(why: WhyNot) -> &'static str {
     }
 }
 
-/// A reason in a sentence.
+/// Returns the sentence for a reason.
 pub fn sentence(reason: NoPart) -> &'static str {
     match reason {
         NoPart::NotLeast => "It prevails, but another limit is as low or lower.",
@@ -101,7 +101,7 @@ pub fn push_length(out: &mut String, seconds: u32) -> Result<(), AllocError> {
     Ok(())
 }
 
-/// Appends what identifies a profile: `TxDefaultProfile 1, stack level 0, at connector 0`.
+/// Appends the values that identify a profile: `TxDefaultProfile 1, stack level 0, at connector 0`.
 pub fn push_profile(out: &mut String, profile: PrevailingProfile) -> Result<(), AllocError> {
     push_short_profile(out, profile)?;
     out.push_str(", stack level ")?;
@@ -137,7 +137,7 @@ pub(crate) fn push_short_cause(out: &mut String, cause: Cause) -> Result<(), All
     }
 }
 
-/// Appends why a limit is what it is, with the shares where it is a sum.
+/// Appends the cause of a limit, with its shares if it is a sum.
 pub fn push_why(out: &mut String, reason: &Reason, unit: Unit) -> Result<(), AllocError> {
     push_cause(out, reason.cause)?;
     if reason.cause != Cause::Sum {

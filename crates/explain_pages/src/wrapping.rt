@@ -1,14 +1,14 @@
-//! Texts broken into lines of at most a given number of columns.
+//! Texts wrapped into lines of at most a given number of columns.
 
 use ocpp_scalars::character_count;
 use std::alloc::AllocError;
 
-/// Where lines begin and end.
+/// The margins of wrapped lines.
 #[derive(Clone, Copy)]
 pub(crate) struct Margins {
-    /// So many blanks stand before a line.
+    /// The number of blanks before a line.
     pub(crate) indent: usize,
-    /// The most columns of a line, where there is a bound.
+    /// The maximum width of a line in columns, if there is one.
     pub(crate) columns: Option<usize>,
 }
 
@@ -24,8 +24,8 @@ pub(crate) fn push_times(
     Ok(())
 }
 
-/// Appends a text as lines, each ended, broken at its blanks. A line after the first stands two columns
-/// further in. A word that no line holds has one of its own.
+/// Appends a text as lines, broken at its blanks and each ended by a line feed. A line after the
+/// first is indented by two more columns. A word wider than any line has a line of its own.
 pub(crate) fn push_lines(out: &mut String, text: &str, margins: Margins) -> Result<(), AllocError> {
     push_times(out, ' ', margins.indent)?;
     let indent = margins.indent.saturating_add(2);
@@ -49,18 +49,18 @@ pub(crate) fn push_lines(out: &mut String, text: &str, margins: Margins) -> Resu
     out.push('\n')
 }
 
-/// Whether a line that is filled up to a column has room for a blank and a word.
+/// Returns whether a line that is filled up to `column` has room for a blank and a word.
 fn fits(column: usize, width: usize, columns: Option<usize>) -> bool {
     columns.is_none_or(|columns| column.saturating_add(width) < columns)
 }
 
-/// Appends a text of ASCII, with blanks before it up to a width.
+/// Appends an ASCII text, padded with blanks on its left to a width.
 pub(crate) fn push_right(out: &mut String, text: &str, width: usize) -> Result<(), AllocError> {
     push_times(out, ' ', width.saturating_sub(text.len()))?;
     out.push_str(text)
 }
 
-/// Appends a text of ASCII, with blanks behind it up to a width.
+/// Appends an ASCII text, padded with blanks on its right to a width.
 pub(crate) fn push_left(out: &mut String, text: &str, width: usize) -> Result<(), AllocError> {
     out.push_str(text)?;
     push_times(out, ' ', width.saturating_sub(text.len()))

@@ -4,26 +4,27 @@ use crate::clock::push_two_digits;
 use ocpp_scalars::push_integer;
 use std::alloc::AllocError;
 
-/// How far a clock is ahead of UTC from a moment on.
+/// The offset of a clock from UTC from a moment on.
 #[derive(Clone, Copy, PartialEq, Eq)]
 pub struct ClockShift {
     /// The moment, in seconds since 1970.
     pub from: u64,
-    /// Seconds ahead of UTC, less than 0 where the clock is behind.
+    /// Seconds ahead of UTC, negative if the clock is behind.
     pub ahead: i32,
 }
 
-/// The clock of a time zone in the time that is explained.
+/// The clock of a time zone over the explained time.
 #[derive(Clone, Copy)]
 pub struct ZoneClock<'a> {
     /// The name of the zone, such as `Europe/Berlin`.
     pub name: &'a str,
-    /// How far it is ahead at the first second that is explained, and from each change on; in order.
+    /// The offset at the first second of the explained time, and the one after each change, in
+    /// order.
     pub shifts: &'a [ClockShift],
 }
 
 impl ZoneClock<'_> {
-    /// The seconds that the clock is ahead of UTC at a moment, in seconds since 1970.
+    /// Returns the seconds that the clock is ahead of UTC at a moment, in seconds since 1970.
     fn ahead_at(&self, moment: u64) -> i32 {
         let mut ahead = 0;
         for shift in self.shifts {
@@ -34,7 +35,7 @@ impl ZoneClock<'_> {
         ahead
     }
 
-    /// Appends the zone, with how far it is ahead at first.
+    /// Appends the name of the zone, with its offset at the start.
     pub(crate) fn push_name(&self, out: &mut String) -> Result<(), AllocError> {
         out.push_str(self.name)?;
         out.push_str(" (")?;
@@ -43,7 +44,8 @@ impl ZoneClock<'_> {
     }
 }
 
-/// What a clock shows at a moment: that of a zone, or else one in UTC. Both are in seconds since 1970.
+/// Returns the local time of a moment in a zone, or the moment itself (UTC) without one. Both are
+/// in seconds since 1970.
 pub(crate) fn shown_at(zone: Option<ZoneClock<'_>>, moment: u64) -> u64 {
     match zone {
         Some(clock) => moment.saturating_add_signed(i64::from(clock.ahead_at(moment))),
@@ -51,7 +53,7 @@ pub(crate) fn shown_at(zone: Option<ZoneClock<'_>>, moment: u64) -> u64 {
     }
 }
 
-/// Appends how far a clock is ahead of UTC: `UTC`, `UTC+1`, `UTC-3:30`.
+/// Appends an offset from UTC: `UTC`, `UTC+1`, `UTC-3:30`.
 pub(crate) fn push_ahead(out: &mut String, ahead: i32) -> Result<(), AllocError> {
     out.push_str("UTC")?;
     if ahead == 0 {

@@ -21,7 +21,6 @@ has_fault findings = list_any (λ (finding : Finding). is_fault finding.severity
 abbrev pub has_warning : List Finding → Bool
 has_warning findings = list_any (λ (finding : Finding). is_warning finding.severity) findings
 
--- 1 where there is a fault, 2 where there are warnings and no fault, and else 0: a remark counts
--- for nothing
+-- 1 with a fault, 2 with warnings and no fault, otherwise 0: remarks have no effect
 abbrev pub exit_status : List Finding → ℕ
 exit_status findings = if has_fault findings then 1 else if has_warning findings then 2 else 0

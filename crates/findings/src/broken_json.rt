@@ -1,5 +1,5 @@
-//! Where a JSON text (RFC 8259) breaks: the first character that can't stand where it stands. The
-//! library reads the tokens; how they nest, and where within a token it breaks, is sought here.
+//! Finds the break of a text that isn't JSON (RFC 8259): the first character that isn't allowed.
+//! The library reads the tokens; this module checks their nesting, and finds the break in a token.
 
 ghost use Rattle.std.specs.Prelude.{◌≡◌, ◌↔◌, IfOk, IsSome, None};
 ghost use Rattle.ocppj_frame.specs.Read.{tree_of_text};
@@ -10,29 +10,31 @@ use json::{Reader, Scratch, Token};
 use ocppj_frame::{FrameFault, ReadingMemory, read_tree};
 use std::alloc::{AllocError, Global};
 
-/// The most lists and objects inside one another.
+/// The maximum nesting depth of lists and objects.
+// The limit of serde_json, which defines which texts are JSON here; the token reader has none.
 const MAX_DEPTH: usize = 127;
 
-/// What was seen of a text so far.
+/// The state of a walk through the tokens of a text.
 #[derive(Drop)]
 struct Walk {
-    /// The objects (`true`) and lists whose end hasn't come.
+    /// The open objects (`true`) and lists.
     open: Vec<bool>,
-    /// What has to come next.
+    /// The token that has to come next.
     wanted: Wanted,
 }
 
-/// A token, and where it stands.
+/// A token and its offsets.
 #[derive(Clone, Copy)]
 struct Lexeme<'a> {
     token: Token<'a>,
     /// Its offset, in bytes.
     start: usize,
-    /// The offset of the comma behind it, if one is.
+    /// The offset of the comma after it, if there is one.
+    // The library skips a comma together with the value before it, and gives no token for it.
     comma: Option<usize>,
 }
 
-/// Where a text breaks: exactly where no tree is read from it.
+/// Returns the break of a text, or none if a tree can be read from it.
 pub fn break_of(alloc: Global, text: &str) -> Result<Option<JsonFault>, AllocError>
     ensures { IfOk result (λ fault. IsSome fault ↔ (tree_of_text text.now ≡ None)) }
 {
@@ -44,7 +46,7 @@ pub fn break_of(alloc: Global, text: &str) -> Result<Option<JsonFault>, AllocErr
     }
 }
 
-/// Where a text breaks from which no tree is read.
+/// Returns the break of a text from which no tree can be read.
 pub fn first_break(alloc: Global, text: &str) -> Result<JsonFault, AllocError> {
     let bytes = text.as_bytes();
     let mut scratch = Scratch::new(alloc);
@@ -53,7 +55,7 @@ pub fn first_break(alloc: Global, text: &str) -> Result<JsonFault, AllocError> {
         open: Vec::new(alloc),
         wanted: Wanted::Value,
     };
-    // Each token has a byte at least.
+    // Each token has at least one byte, so this range ends the loop without a proof of its own.
     for _ in 0..text.len() {
         let start = reader.offset();
         let Some(token) = reader.next() else {
@@ -76,7 +78,7 @@ pub fn first_break(alloc: Global, text: &str) -> Result<JsonFault, AllocError> {
     Ok(fault_at(text, end))
 }
 
-/// The comma that stands last between two offsets, but for blanks.
+/// Returns the offset of a comma that only blanks separate from `end`.
 fn comma_between(bytes: &[u8], start: usize, end: usize) -> Option<usize> {
     let mut comma = None;
     let mut offset = start;
@@ -91,7 +93,7 @@ fn comma_between(bytes: &[u8], start: usize, end: usize) -> Option<usize> {
     comma
 }
 
-/// A break, with the character that stands there.
+/// Adds the character at a break to it.
 fn fault_at(text: &str, broken: Break) -> JsonFault {
     let Break { offset, wanted } = broken;
     let mut found = None;
@@ -109,7 +111,7 @@ fn fault_at(text: &str, broken: Break) -> JsonFault {
 }
 
 impl Walk {
-    /// Takes the next token. Returns where the text breaks, if it does there.
+    /// Takes the next token. Returns the break, if the text breaks at this token.
     fn take(&mut self, bytes: &[u8], lexeme: Lexeme<'_>) -> Result<Option<Break>, AllocError> {
         match lexeme.token {
             Token::BeginObject if self.wants_value() => self.begin(lexeme.start, true),
@@ -144,7 +146,7 @@ impl Walk {
         matches!(self.wanted, Wanted::ValueOrEnd | Wanted::CommaOrListEnd)
     }
 
-    /// An object or a list begins.
+    /// Opens an object or a list.
     fn begin(&mut self, start: usize, is_object: bool) -> Result<Option<Break>, AllocError> {
         if self.open.len() >= MAX_DEPTH {
             return Ok(Some(Break {
@@ -161,13 +163,13 @@ impl Walk {
         Ok(None)
     }
 
-    /// The end of the object or list that is open.
+    /// Closes the innermost object or list.
     fn end(&mut self, comma: Option<usize>) -> Option<Break> {
         let _ = self.open.pop();
         self.end_value(comma)
     }
 
-    /// A value ended, and a comma may have followed. Behind the outermost value none can stand.
+    /// Ends a value, after which a comma may have come. It is a break after the outermost value.
     fn end_value(&mut self, comma: Option<usize>) -> Option<Break> {
         let wanted = self.wanted_behind_value();
         let Some(offset) = comma else {
@@ -190,8 +192,8 @@ impl Walk {
         }
     }
 
-    /// Where the text breaks at a token that can't stand there: at its begin, within it, or behind
-    /// it.
+    /// Returns the break at a token that isn't allowed: at its first byte, in it, or after it.
+    // The library gives no cause with a bad token, only its offset, so its bytes are read again.
     fn break_in(&self, bytes: &[u8], start: usize) -> Break {
         let may_begin = match bytes.get(start) {
             Some(b'"') => self.wants_name() || self.wants_value(),
@@ -218,7 +220,7 @@ impl Walk {
     }
 }
 
-/// Whether it is a whole value.
+/// Returns whether a token is a value by itself.
 fn is_scalar(token: Token<'_>) -> bool {
     matches!(
         token,
@@ -226,7 +228,7 @@ fn is_scalar(token: Token<'_>) -> bool {
     )
 }
 
-/// The first offset from this one on at which no blank stands.
+/// Returns the offset of the first byte from `start` on that isn't blank.
 fn behind_blanks(bytes: &[u8], start: usize) -> usize {
     let mut offset = start;
     for byte in bytes.get(start..).unwrap_or(&[]) {

@@ -1,4 +1,4 @@
-//! What is found wrong with a site file or a script.
+//! Findings in a site file or a script: their severities, places and messages.
 
 ghost use Rattle.std.specs.Prelude.{◌≡◌};
 ghost use Rattle.findings.specs.ExitStatus.{exit_status, has_fault, has_warning};
@@ -6,43 +6,43 @@ ghost use Rattle.findings.specs.ExitStatus.{exit_status, has_fault, has_warning}
 use std::alloc::AllocError;
 use std::fmt;
 
-/// How much a finding matters.
+/// The severity of a finding.
 #[derive(Clone, Copy, PartialEq, Eq)]
 pub enum Severity {
-    /// It is refused: the file isn't accepted, the line isn't played, or its message is refused.
+    /// The file isn't accepted, the line isn't played, or its message is refused.
     Fault,
-    /// It is let in, and does something else than it says.
+    /// It is accepted, but probably does something unintended.
     Warning,
-    /// It is let in, and is worth a look.
+    /// It is accepted, and worth a look.
     Remark,
 }
 
-/// Where a finding stands.
+/// The place of a finding.
 #[derive(PartialEq, Eq, Drop)]
 pub enum Location {
     /// The whole file.
     File,
     /// A character of the file, both counted from 1.
     Character { line: u64, column: u64 },
-    /// A point of the site file, counted from 0, and its identity where it has one.
+    /// A point of the site file, counted from 0, and its identity if it has one.
     Point { index: usize, id: Option<String> },
     /// A line of the script, counted from 1.
     Line(u64),
-    /// What the point of this identity has when the script ends.
+    /// The state of the point of this identity when the script ends.
     End(String),
 }
 
-/// One thing that is wrong, or worth a look.
+/// A mistake, or something worth a look.
 #[derive(Drop)]
 pub struct Finding {
     pub severity: Severity,
     pub place: Location,
-    /// What was found and what is wanted, in one line.
+    /// The problem, in one line, with the value wanted where there is one.
     pub message: String,
 }
 
 impl Finding {
-    /// A fault.
+    /// Makes a fault.
     pub fn fault(place: Location, message: String) -> Finding {
         Finding {
             severity: Severity::Fault,
@@ -51,7 +51,7 @@ impl Finding {
         }
     }
 
-    /// A warning.
+    /// Makes a warning.
     pub fn warning(place: Location, message: String) -> Finding {
         Finding {
             severity: Severity::Warning,
@@ -60,7 +60,7 @@ impl Finding {
         }
     }
 
-    /// A remark.
+    /// Makes a remark.
     pub fn remark(place: Location, message: String) -> Finding {
         Finding {
             severity: Severity::Remark,
@@ -98,7 +98,7 @@ impl fmt::Display for Location {
     }
 }
 
-/// One line: the place, `warning` or `remark` where it is one, and the message.
+/// Writes one line: the place, the severity unless it is a fault, and the message.
 impl fmt::Display for Finding {
     fn fmt<W: fmt::Write>(&self, f: &mut fmt::Formatter<W>) -> fmt::Result {
         let place = &self.place;
@@ -110,14 +110,13 @@ impl fmt::Display for Finding {
     }
 }
 
-/// Puts the findings in a script, from different passes over it, in the order of its lines. Those
-/// of one line stay in their order. What belongs to no line stands first, and what points have at
-/// the end stands last.
+/// Sorts the findings of several passes over a script by line. Those of one line keep their order.
+/// Findings without a line come first, and those in the points at the end come last.
 pub fn sort_by_line(findings: &mut Vec<Finding>) -> Result<(), AllocError> {
     findings.sort_by_key(|finding| line_of(&finding.place))
 }
 
-/// The line of the script, or what sorts a finding before or behind all lines.
+/// Returns the line of a place, or a number below or above all lines.
 fn line_of(place: &Location) -> u64 {
     match place {
         Location::Line(number) => *number,
@@ -126,8 +125,8 @@ fn line_of(place: &Location) -> u64 {
     }
 }
 
-/// The exit status of a check: 0 where all is well, 1 where there is a fault, 2 where there are
-/// warnings alone. A remark has no effect.
+/// Returns the exit status of a check: 1 with a fault, 2 with warnings only, otherwise 0. Remarks
+/// have no effect.
 pub fn exit_status(findings: &[Finding]) -> u8
     ensures { result ≡ exit_status findings.now }
 {
@@ -140,7 +139,7 @@ pub fn exit_status(findings: &[Finding]) -> u8
     }
 }
 
-/// Whether one of these findings is a fault.
+/// Returns whether one of these findings is a fault.
 pub fn has_fault(findings: &[Finding]) -> bool
     ensures { result ≡ has_fault findings.now }
 {

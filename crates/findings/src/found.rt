@@ -1,13 +1,13 @@
-//! What stands at a field, and what is wanted there, in words.
+//! Messages about a field: the value found there, and the value wanted.
 
 use crate::words::excerpt;
 use ocppj_frame::Node;
 use std::alloc::{AllocError, Global};
 
-/// What a limit is.
+/// The description of a valid limit in messages.
 pub const LIMIT: &str = "a number from 0 to 100000000.0 with at most one decimal";
 
-/// How a value looks from outside.
+/// A JSON value without the contents of its lists and objects.
 #[derive(Clone, Copy)]
 pub enum Glance<'a> {
     Null,
@@ -18,16 +18,16 @@ pub enum Glance<'a> {
     Object,
 }
 
-/// What is wanted at a field.
+/// A field and the value wanted there.
 #[derive(Clone, Copy)]
 pub struct ExpectedField<'a> {
     pub field: &'a str,
     pub wanted: &'a str,
-    /// A field next to it that may be meant.
+    /// An unknown field of the same object that is probably meant to be this one.
     pub hint: Option<&'a str>,
 }
 
-/// What is wrong with a field: what stands there, and what is wanted.
+/// Describes the fault of a field: the value found there, and the value wanted.
 pub fn field_message(
     alloc: Global,
     value: Option<Glance<'_>>,
@@ -37,6 +37,7 @@ pub fn field_message(
     let wanted = expected.wanted;
     let found = what_stands(alloc, value)?;
     match expected.hint {
+        // A field that is present is spelled right, so no other one is meant to be it.
         Some(hint) if value.is_none() => {
             let hint = excerpt(alloc, hint)?;
             format!(in alloc;
@@ -47,12 +48,12 @@ pub fn field_message(
     }
 }
 
-/// What was found, and what is wanted.
+/// Joins the description of the value found and that of the value wanted.
 pub fn message_of(alloc: Global, found: &str, wanted: &str) -> Result<String, AllocError> {
     format!(in alloc; "{found}; {wanted} is wanted")
 }
 
-/// What stands at a place.
+/// Describes the value at a place.
 pub fn what_stands(alloc: Global, value: Option<Glance<'_>>) -> Result<String, AllocError> {
     match value {
         None => String::from_str(alloc, "it is absent"),
@@ -71,7 +72,7 @@ pub fn what_stands(alloc: Global, value: Option<Glance<'_>>) -> Result<String, A
     }
 }
 
-/// How the value of a node looks.
+/// Returns the value of a node.
 pub fn glance_at<'memory>(node: Node<'_, 'memory>) -> Glance<'memory> {
     if let Some(text) = node.text() {
         Glance::Text(text)

@@ -1,40 +1,40 @@
-//! Where a JSON text breaks, in words.
+//! Messages about the character at which a text stops being JSON.
 
 use std::alloc::{AllocError, Global};
 use std::fmt;
 
-/// What is wanted where a JSON text breaks.
+/// The token or character wanted where a JSON text breaks.
 #[derive(Clone, Copy, PartialEq, Eq)]
 pub enum Wanted {
     Value,
-    /// A value, behind a comma.
+    /// A value after a comma.
     NextValue,
     /// A value, or the end of the list.
     ValueOrEnd,
     /// A name, or the end of the object.
     NameOrEnd,
-    /// A name, behind a comma.
+    /// A name after a comma.
     NextName,
     Colon,
     CommaOrObjectEnd,
     CommaOrListEnd,
-    /// The text is at its end.
+    /// The end of the text.
     Nothing,
     Digit,
-    /// The end of a text.
+    /// The closing quote of a string.
     Quote,
     /// The letter of an escape.
     Escape,
     HexDigit,
-    /// The second half of a surrogate pair.
+    /// The other half of a surrogate pair.
     LowSurrogate,
-    /// A control character has to be escaped.
+    /// An escape in place of a control character.
     NoControl,
-    /// There are 127 lists and objects inside one another.
+    /// Less nesting: 127 lists and objects are open.
     LessDepth,
 }
 
-/// The first character that can't stand where it stands.
+/// The first character of a text that JSON doesn't allow at its place.
 #[derive(Clone, Copy, PartialEq, Eq)]
 pub struct JsonFault {
     /// Its offset, in bytes.
@@ -67,7 +67,7 @@ impl fmt::Display for Wanted {
     }
 }
 
-/// What is wanted where a text breaks, what stands there, and how it is mended where that is plain.
+/// Describes a break: the token wanted, the character found, and the cure of a common mistake.
 pub fn json_fault_text(alloc: Global, fault: &JsonFault) -> Result<String, AllocError> {
     let wanted = fault.wanted;
     let mut text = match fault.found {
@@ -87,7 +87,8 @@ pub fn json_fault_text(alloc: Global, fault: &JsonFault) -> Result<String, Alloc
     Ok(text)
 }
 
-/// Whether a character is seen where it is printed.
+/// Returns whether a character is visible in print.
+// A no-break space looks like a space, and a byte order mark like nothing: their codes are printed.
 fn is_printable(character: char) -> bool {
     match character {
         '\u{0}'..='\u{20}' | '\u{7f}'..='\u{a0}' | '\u{2000}'..='\u{200f}' | '\u{feff}' => false,
@@ -95,7 +96,7 @@ fn is_printable(character: char) -> bool {
     }
 }
 
-/// How a common mistake is mended.
+/// Returns the cure of a common mistake.
 fn hint_of(fault: &JsonFault) -> Option<&'static str> {
     match (fault.wanted, fault.found?) {
         (Wanted::NextValue, ']') | (Wanted::NextName, '}') => Some(

@@ -1,9 +1,9 @@
-//! Where a string, a number or a word of JSON (RFC 8259) ends, or where it breaks. Offsets count
+//! Finds the end of a string, a number or a literal of JSON (RFC 8259), or its break. Offsets count
 //! bytes.
 
 use crate::json_fault::Wanted;
 
-/// Where a text breaks, and what is wanted there.
+/// The offset at which a text breaks, and the token or character wanted there.
 #[derive(Clone, Copy)]
 pub(crate) struct Break {
     pub offset: usize,
@@ -14,12 +14,12 @@ pub(crate) fn is_blank(byte: u8) -> bool {
     matches!(byte, b' ' | b'\t' | b'\n' | b'\r')
 }
 
-/// Whether a string, a number or a word may begin with this.
+/// Returns whether a string, a number or a literal may begin with this byte.
 pub(crate) fn begins_lexeme(byte: u8) -> bool {
     matches!(byte, b'"' | b'-' | b'0'..=b'9' | b't' | b'f' | b'n')
 }
 
-/// The offset behind the string, number or word that begins at this one, or where it breaks.
+/// Returns the offset after the string, number or literal that begins at `start`, or its break.
 pub(crate) fn lexeme_end(bytes: &[u8], start: usize) -> Result<usize, Break> {
     match byte_at(bytes, start) {
         b'"' => string_end(bytes, start.saturating_add(1)),
@@ -30,7 +30,7 @@ pub(crate) fn lexeme_end(bytes: &[u8], start: usize) -> Result<usize, Break> {
     }
 }
 
-/// The byte at an offset, or 0 behind the last, which no lexeme has.
+/// Returns the byte at an offset, or 0 after the last: no lexeme has this byte.
 fn byte_at(bytes: &[u8], offset: usize) -> u8 {
     bytes.get(offset).copied().unwrap_or(0)
 }
@@ -39,7 +39,7 @@ fn broken<T>(offset: usize, wanted: Wanted) -> Result<T, Break> {
     Err(Break { offset, wanted })
 }
 
-/// The end of a word of which all but the end of the text has to be there.
+/// Returns the end of a literal, each letter of which has to be there.
 fn word_end(bytes: &[u8], start: usize, word: &[u8]) -> Result<usize, Break> {
     let mut offset = start;
     for letter in word {
@@ -51,12 +51,13 @@ fn word_end(bytes: &[u8], start: usize, word: &[u8]) -> Result<usize, Break> {
     Ok(offset)
 }
 
-/// The end of a number (section 6).
+/// Returns the end of a number (section 6).
 fn number_end(bytes: &[u8], start: usize) -> Result<usize, Break> {
     let mut offset = start;
     if byte_at(bytes, offset) == b'-' {
         offset = offset.saturating_add(1);
     }
+    // JSON has no leading zeros: a number ends after its first 0, so in 01 the break is at the 1.
     if byte_at(bytes, offset) == b'0' {
         offset = offset.saturating_add(1);
     } else {
@@ -75,7 +76,7 @@ fn number_end(bytes: &[u8], start: usize) -> Result<usize, Break> {
     Ok(offset)
 }
 
-/// The end of digits, of which there has to be one.
+/// Returns the end of one or more digits.
 fn digits_end(bytes: &[u8], start: usize) -> Result<usize, Break> {
     let mut offset = start;
     for byte in bytes.get(start..).unwrap_or(&[]) {
@@ -90,10 +91,10 @@ fn digits_end(bytes: &[u8], start: usize) -> Result<usize, Break> {
     Ok(offset)
 }
 
-/// The end of a string, from behind its first quote (section 7).
+/// Returns the end of a string, from the offset after its opening quote (section 7).
 fn string_end(bytes: &[u8], start: usize) -> Result<usize, Break> {
     let mut offset = start;
-    // Each turn passes a byte at least.
+    // Each iteration passes at least one byte, so this range ends the loop without a proof.
     for _ in start..bytes.len() {
         match bytes.get(offset) {
             None => break,
@@ -106,7 +107,7 @@ fn string_end(bytes: &[u8], start: usize) -> Result<usize, Break> {
     broken(bytes.len(), Wanted::Quote)
 }
 
-/// The end of an escape, from its backslash.
+/// Returns the end of an escape, from the offset of its backslash.
 fn escape_end(bytes: &[u8], start: usize) -> Result<usize, Break> {
     let letter = start.saturating_add(1);
     match bytes.get(letter) {
@@ -119,8 +120,9 @@ fn escape_end(bytes: &[u8], start: usize) -> Result<usize, Break> {
     }
 }
 
-/// The end of an escape from behind `\u`, and of the other half where it is the first one of a
-/// surrogate pair.
+/// Returns the end of an escape, from the offset after `\u`. The escape of a first surrogate
+/// includes that of the second.
+// RFC 8259 leaves a lone surrogate open, but a Rust string is UTF-8 and can't hold one.
 fn surrogates_end(bytes: &[u8], start: usize) -> Result<usize, Break> {
     let end = start.saturating_add(4);
     match code_at(bytes, start)? {
@@ -130,7 +132,7 @@ fn surrogates_end(bytes: &[u8], start: usize) -> Result<usize, Break> {
     }
 }
 
-/// The end of the escape that has to be the second half of a surrogate pair.
+/// Returns the end of the escape at `start`, which has to be the second half of a surrogate pair.
 fn low_surrogate_end(bytes: &[u8], start: usize) -> Result<usize, Break> {
     let mut offset = start;
     for wanted in b"\\u" {
@@ -147,7 +149,7 @@ fn low_surrogate_end(bytes: &[u8], start: usize) -> Result<usize, Break> {
     }
 }
 
-/// The number that four digits of base 16 make.
+/// Returns the number of four hexadecimal digits.
 fn code_at(bytes: &[u8], start: usize) -> Result<u32, Break> {
     let mut code: u32 = 0;
     let mut offset = start;

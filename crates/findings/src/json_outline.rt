@@ -1,22 +1,22 @@
-//! Where the parts of a JSON text stand.
+//! The outline of a JSON text: its parts, each with its parent and its name or index.
 
 use json::{Reader, Scratch, Token};
 use std::alloc::{AllocError, Global};
 
-/// A span of a text, in bytes: its first, and the one behind its last.
+/// A range of bytes in a text. The byte at `end` isn't part of it.
 #[derive(Clone, Copy, PartialEq, Eq)]
 pub struct Span {
     pub start: usize,
     pub end: usize,
 }
 
-/// What a part is of the object or list that it stands in.
+/// The name or the index of a part in its object or list.
 #[derive(Clone, Copy, PartialEq, Eq)]
 pub enum Label {
     /// The whole text.
     Root,
-    /// The member whose name begins here, behind its quote. The span is as long as the name, so
-    /// it is the name where that has no escape, and has a backslash else.
+    /// The member of this name. The span begins after the opening quote and is as long as the
+    /// decoded name. So it covers a name without escapes, and contains a backslash of any other.
     Member(Span),
     /// The entry at this index, from 0.
     Entry(usize),
@@ -25,31 +25,31 @@ pub enum Label {
 /// The whole text, a member of an object, or an object or a list in a list.
 #[derive(Clone, Copy)]
 pub struct Part {
-    /// The index among the parts of the object or list that it stands in.
+    /// The index of its object or list among the parts.
     pub parent: Option<usize>,
     pub label: Label,
 }
 
-/// The parts of a text in their order.
+/// The parts of a text, in their order.
 #[derive(Drop)]
 pub struct Outline {
     pub parts: Vec<Part>,
     open: Vec<Open>,
-    /// The name that was read last.
+    /// The name read last.
     name: Span,
 }
 
-/// An object or a list whose end hasn't come.
+/// An object or a list that isn't closed yet.
 #[derive(Clone, Copy)]
 struct Open {
     is_object: bool,
     /// Its index among the parts.
     part: usize,
-    /// How many entries of a list have begun.
+    /// The number of a list's entries that have begun.
     entries: usize,
 }
 
-/// The parts of a text that is JSON.
+/// Returns the outline of a text that is JSON.
 pub fn outline_of(alloc: Global, text: &str) -> Result<Outline, AllocError> {
     let mut scratch = Scratch::new(alloc);
     let mut reader = Reader::new(text, &mut scratch)?;
@@ -58,7 +58,7 @@ pub fn outline_of(alloc: Global, text: &str) -> Result<Outline, AllocError> {
         open: Vec::new(alloc),
         name: Span { start: 0, end: 0 },
     };
-    // Each token has a byte at least.
+    // Each token has at least one byte, so this range ends the loop without a proof of its own.
     for _ in 0..text.len() {
         let start = reader.offset();
         match reader.next() {
@@ -90,7 +90,7 @@ impl Outline {
         }
     }
 
-    /// An object or a list begins.
+    /// Opens an object or a list.
     fn begin_parts(&mut self, is_object: bool) -> Result<(), AllocError> {
         let part = self.parts.len();
         self.add_part()?;
@@ -102,7 +102,8 @@ impl Outline {
         Ok(())
     }
 
-    /// Adds a value that is no object and no list. Those in a list are counted alone.
+    /// Adds a value that is no object or list. One in a list is only counted.
+    // The checks read the names of members; a list of numbers has none, and may be long.
     fn add_scalar(&mut self) -> Result<(), AllocError> {
         match self.open.last() {
             Some(open) if !open.is_object => {
@@ -113,7 +114,7 @@ impl Outline {
         }
     }
 
-    /// Adds the value that begins to the parts.
+    /// Adds a part for the value that begins.
     fn add_part(&mut self) -> Result<(), AllocError> {
         let name = self.name;
         let part = match self.open.last() {
@@ -135,7 +136,7 @@ impl Outline {
         Ok(())
     }
 
-    /// One more entry of the list that is open.
+    /// Counts an entry of the innermost list.
     fn count_entry(&mut self) {
         if let Some(open) = self.open.last_mut() {
             open.entries = open.entries.saturating_add(1);

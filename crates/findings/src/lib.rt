@@ -1,5 +1,4 @@
-//! What is wrong with a site file, and what all findings are made of: where they are, how much they
-//! matter, and their words.
+//! Checks a site file, and defines findings: their places, their severities and their words.
 #![tactic(auto)]
 
 mod broken_json;

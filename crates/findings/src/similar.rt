@@ -1,13 +1,14 @@
-//! The name that was probably meant.
+//! Finds the name that was probably meant by a misspelled one.
 
 use std::alloc::{AllocError, Global};
 use strsim::osa_distance;
 
-/// The longest names that are compared, in bytes.
+/// The maximum length of a name to compare, in bytes.
+// A comparison takes time by the product of both lengths, and the checked text chooses one of them.
 const MAX_COMPARED: usize = 64;
 
-/// The one of these names that differs least from the one that is there. It differs in case alone,
-/// or by at most two letters, three if it is long, and at most one in four.
+/// Returns the name that differs least from `found`, if one is similar: it differs only in case, or
+/// by at most two letters (three from 12 bytes on) and a quarter of the shorter name plus one.
 pub fn similar_name<'a>(
     alloc: Global,
     found: &str,
@@ -24,12 +25,12 @@ pub fn similar_name<'a>(
     Ok(nearest.map(|(_, name)| name))
 }
 
-/// Whether two different names are much alike.
+/// Returns whether two different names are similar.
 pub fn is_similar(alloc: Global, found: &str, name: &str) -> Result<bool, AllocError> {
     Ok(distance_to(alloc, found, name)?.is_some())
 }
 
-/// By how many letters a name differs from one that is much like it; 0 where only the case differs.
+/// Returns the number of letters by which two similar names differ; 0 if only their case differs.
 fn distance_to(alloc: Global, found: &str, name: &str) -> Result<Option<usize>, AllocError> {
     if found == name || found.len() > MAX_COMPARED || name.len() > MAX_COMPARED {
         return Ok(None);
@@ -39,7 +40,7 @@ fn distance_to(alloc: Global, found: &str, name: &str) -> Result<Option<usize>, 
     }
     let shorter = found.len().min(name.len());
     let longer = found.len().max(name.len());
-    // Each edit of a letter outside ASCII changes up to four bytes.
+    // An edit changes the length by at most four bytes, and at most three edits are similar.
     if longer - shorter > 12 {
         return Ok(None);
     }

@@ -1,4 +1,4 @@
-//! All that is wrong with a site file.
+//! Finds all faults of a site file.
 
 use crate::broken_json::first_break;
 use crate::finding::{Finding, Location};
@@ -15,19 +15,19 @@ use profile::{Named, Unit};
 use site_rules::{MAX_SITE_BYTES, SiteFault, read_site};
 use std::alloc::{AllocError, Global};
 
-/// The most points of a site.
+/// The maximum number of points of a site.
 const MAX_POINTS: usize = 1_000;
 
-/// What was read of the file's object: the last value of each field that counts.
+/// The values read from the file's object: the last one of each known field.
 #[derive(Drop)]
 struct SiteParts<'a> {
     unit: Option<Glance<'a>>,
     points: Option<PointsPart<'a>>,
 }
 
-/// All faults of a site file in the order in which they are checked, and then the warnings and
-/// remarks. The first fault is the one that `site_rules::read_site` names, and there is none where
-/// it reads a site.
+/// Returns the faults of a site file in the order of their checks, each point's remark after its
+/// faults, and then the warnings. The first fault is the one that `site_rules::read_site` names;
+/// there is none if that reads a site.
 pub fn check_site(alloc: Global, bytes: &[u8]) -> Result<Vec<Finding>, AllocError> {
     if bytes.len() > MAX_SITE_BYTES {
         return alone(alloc, too_large(alloc, bytes.len())?);
@@ -38,7 +38,7 @@ pub fn check_site(alloc: Global, bytes: &[u8]) -> Result<Vec<Finding>, AllocErro
     }
 }
 
-/// One finding and no other.
+/// Returns a list of one finding.
 fn alone(alloc: Global, finding: Finding) -> Result<Vec<Finding>, AllocError> {
     let mut findings = Vec::new(alloc);
     findings.push(finding)?;
@@ -55,7 +55,7 @@ fn not_utf8(alloc: Global, offset: usize) -> Result<Finding, AllocError> {
     Ok(site_fault(SiteFault::NotUtf8, message))
 }
 
-/// A fault of the file that is no point's.
+/// Makes a fault of the file as a whole.
 fn site_fault(fault: SiteFault, message: String) -> Finding {
     Finding::fault(Location::File, message)
 }
@@ -64,6 +64,7 @@ fn site_fault(fault: SiteFault, message: String) -> Finding {
 fn check_site_text(alloc: Global, text: &str) -> Result<Vec<Finding>, AllocError> {
     let mut room = Vec::new(alloc);
     let marked = mark_text(text, &mut room)?;
+    // This comes before any field: a text that isn't JSON has no other fault, wherever it breaks.
     if !is_json(alloc, text, marked)? {
         return alone(alloc, not_json(alloc, text)?);
     }
@@ -77,12 +78,12 @@ fn check_site_text(alloc: Global, text: &str) -> Result<Vec<Finding>, AllocError
     Ok(findings)
 }
 
-/// Whether a tree is read from a text.
+/// Returns whether a tree can be read from a text.
 fn is_json(alloc: Global, text: &str, marked: &str) -> Result<bool, AllocError> {
     match verdict_on(alloc, marked)? {
         Verdict::Json => Ok(true),
         Verdict::NotJson => Ok(false),
-        // Nobody writes such a file.
+        // Only a tree decides this, which takes many times the file's size; such files are rare.
         Verdict::Unsure => match read_site(alloc, text.as_bytes()) {
             Err(SiteFault::OutOfMemory) => Err(AllocError),
             Err(SiteFault::NotJson) => Ok(false),
@@ -91,7 +92,7 @@ fn is_json(alloc: Global, text: &str, marked: &str) -> Result<bool, AllocError> 
     }
 }
 
-/// Where the text breaks.
+/// Makes the fault of a text that isn't JSON, at its break.
 fn not_json(alloc: Global, text: &str) -> Result<Finding, AllocError> {
     let fault = first_break(alloc, text)?;
     let place = place_in_text(text, fault.offset);
@@ -99,7 +100,7 @@ fn not_json(alloc: Global, text: &str) -> Result<Finding, AllocError> {
     Ok(Finding::fault(place, message))
 }
 
-/// All faults of a site file that is JSON, from its marked text, and the remarks on its points.
+/// Returns the faults of a marked site file that is JSON, and the remarks on its points.
 fn check_marked(
     alloc: Global,
     marked: &str,
@@ -135,7 +136,7 @@ fn read_fields<'a>(
     while let Some(key) = reader.next_key()? {
         let name = after_mark(key, b's');
         if name == Some("points") {
-            // Of several the last one counts.
+            // Of duplicate fields the last one counts. The earlier points are freed first.
             site.points = None;
             site.points = Some(read_points(alloc, names, reader)?);
         } else {
@@ -194,7 +195,7 @@ fn check_unit(
     Ok(())
 }
 
-/// That `points` is no list.
+/// Makes the fault that `points` is no list.
 fn bad_points(
     alloc: Global,
     names: &SiteNames<'_>,

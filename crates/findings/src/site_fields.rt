@@ -1,4 +1,4 @@
-//! Fields of a site file that nothing looks at, and those that stand in their object twice.
+//! Finds the unknown and the duplicate fields of a site file.
 
 use crate::finding::{Finding, Location};
 use crate::json_outline::Span;
@@ -14,40 +14,40 @@ const SITE_FIELDS: [&str; 2] = ["unit", "points"];
 /// The fields of a point.
 const POINT_FIELDS: [&str; 3] = ["id", "ceiling", "connectors"];
 
-/// The most fields of either sort that are reported.
+/// The maximum number of fields of either kind to report.
+// For each report the lines are counted from the beginning of the file, which may have 16 MiB.
 const MAX_REPORTED: usize = 100;
 
-/// A field that nothing looks at.
+/// An unknown field, which has no effect.
 #[derive(Clone, Copy)]
 struct UnknownField<'text> {
-    /// The index of its point, or none where it stands beside `unit`.
+    /// The index of its point, or none for a field of the site.
     point: Option<usize>,
     name: &'text str,
-    /// Where its name begins, in bytes.
+    /// The offset of its name, in bytes.
     offset: usize,
 }
 
-/// A field that stands in its object before, too.
+/// A duplicate field: an earlier one of its object has the same name.
 #[derive(Clone, Copy)]
 struct RepeatedField {
     name: &'static str,
-    /// Where its name begins, in bytes.
+    /// The offset of its name, in bytes.
     offset: usize,
 }
 
-/// The fields of a site file that nothing looks at, and those that are repeated, a hundred of each
-/// at the most.
+/// The unknown and the duplicate fields of a site file, at most 100 of each.
 #[derive(Drop)]
 pub(crate) struct SiteNames<'text> {
     unknown: Vec<UnknownField<'text>>,
-    /// Whether there are more of them.
+    /// Whether there are more unknown fields.
     more: bool,
-    /// For each of them, the field that is probably meant.
+    /// For each unknown field, the known one that is probably meant.
     meant: Vec<Option<&'static str>>,
     repeated: Vec<RepeatedField>,
 }
 
-/// What an object or a list is.
+/// The role of an object or a list in a site file.
 #[derive(Clone, Copy)]
 enum Owner {
     Site,
@@ -55,32 +55,32 @@ enum Owner {
     Points,
     /// The point at this index.
     Point(usize),
-    /// Nothing of which a field is looked at.
+    /// Any other, none of whose fields is known.
     Other,
 }
 
-/// An object or a list whose end hasn't come.
+/// An object or a list that isn't closed yet.
 #[derive(Clone, Copy)]
 struct Open {
     owner: Owner,
-    /// How many entries of a list have begun.
+    /// The number of a list's entries that have begun.
     entries: usize,
-    /// Which of the fields that are looked at have stood in it.
+    /// Which of the known fields it has so far.
     seen: [bool; 3],
 }
 
-/// What was seen of a text so far.
+/// The state of a walk through the tokens of a text.
 #[derive(Drop)]
 struct Walk<'text> {
     alloc: Global,
     text: &'text str,
     open: Vec<Open>,
-    /// The name that was read last.
+    /// The name read last.
     name: Span,
     names: SiteNames<'text>,
 }
 
-/// The fields of a site file that nothing looks at, and those that are repeated.
+/// Returns the unknown and the duplicate fields of a site file.
 pub(crate) fn site_names(alloc: Global, text: &str) -> Result<SiteNames<'_>, AllocError> {
     let mut scratch = Scratch::new(alloc);
     let mut reader = Reader::new(text, &mut scratch)?;
@@ -96,7 +96,7 @@ pub(crate) fn site_names(alloc: Global, text: &str) -> Result<SiteNames<'_>, All
             repeated: Vec::new(alloc),
         },
     };
-    // Each token has a byte at least.
+    // Each token has at least one byte, so this range ends the loop without a proof of its own.
     for _ in 0..text.len() {
         let start = reader.offset();
         match reader.next() {
@@ -138,7 +138,7 @@ impl<'text> Walk<'text> {
         }
     }
 
-    /// What the object is that begins.
+    /// Returns the role of the object that begins.
     fn object_that_begins(&self) -> Owner {
         match self.open.last() {
             None => Owner::Site,
@@ -149,7 +149,7 @@ impl<'text> Walk<'text> {
         }
     }
 
-    /// What the list is that begins.
+    /// Returns the role of the list that begins.
     fn list_that_begins(&self) -> Owner {
         let Some(open) = self.open.last() else {
             return Owner::Other;
@@ -160,7 +160,7 @@ impl<'text> Walk<'text> {
         }
     }
 
-    /// An object or a list begins.
+    /// Opens an object or a list.
     fn begin(&mut self, owner: Owner) -> Result<(), AllocError> {
         self.count_entry();
         self.open.push(Open {
@@ -171,14 +171,14 @@ impl<'text> Walk<'text> {
         Ok(())
     }
 
-    /// One more entry of the list that is open.
+    /// Counts an entry of the innermost list.
     fn count_entry(&mut self) {
         if let Some(open) = self.open.last_mut() {
             open.entries = open.entries.saturating_add(1);
         }
     }
 
-    /// Takes the name that was read.
+    /// Checks the name read last.
     fn take_name(&mut self) -> Result<(), AllocError> {
         let owner = match self.open.last() {
             Some(open) => open.owner,
@@ -212,7 +212,7 @@ impl<'text> Walk<'text> {
         self.names.add_unknown(self.alloc, field)
     }
 
-    /// Takes the name of a field that is looked at.
+    /// Notes a known field, and reports it if it is a duplicate.
     fn take_field(&mut self, place: usize, field: RepeatedField) -> Result<(), AllocError> {
         let Some(open) = self.open.last_mut() else {
             return Ok(());
@@ -228,7 +228,7 @@ impl<'text> Walk<'text> {
     }
 }
 
-/// The fields that are looked at, of a point or of the site.
+/// Returns the known fields of a point or of the site.
 fn fields_of(point: Option<usize>) -> &'static [&'static str] {
     match point {
         Some(_) => &POINT_FIELDS,
@@ -236,16 +236,16 @@ fn fields_of(point: Option<usize>) -> &'static [&'static str] {
     }
 }
 
-/// The text of a span.
+/// Returns the text of a span, or none if the span doesn't fit the text.
 pub fn text_of(text: &str, span: Span) -> Option<&str> {
     let bytes = text.as_bytes().get(span.start..span.end)?;
     std::str::from_utf8(bytes).ok()
 }
 
 impl<'text> SiteNames<'text> {
-    /// Adds a field that nothing looks at.
+    /// Adds an unknown field.
     fn add_unknown(&mut self, alloc: Global, field: UnknownField<'text>) -> Result<(), AllocError> {
-        // An escape in a name is rare, and such a name isn't judged.
+        // The span of a name with an escape isn't the whole name, so it can't be compared.
         if field.name.contains('\\') {
             return Ok(());
         }
@@ -259,7 +259,7 @@ impl<'text> SiteNames<'text> {
         Ok(())
     }
 
-    /// The unknown field beside an absent one that is probably meant to be it.
+    /// Returns the unknown field that is probably meant to be this absent one.
     pub(crate) fn hint(&self, point: Option<usize>, field: &str) -> Option<&str> {
         for (unknown, meant) in self.unknown.iter().zip(&self.meant) {
             if unknown.point == point && *meant == Some(field) {
@@ -269,7 +269,7 @@ impl<'text> SiteNames<'text> {
         None
     }
 
-    /// Warns of each of them.
+    /// Adds a warning for each unknown and each duplicate field.
     pub(crate) fn warn(
         &self,
         alloc: Global,
@@ -299,7 +299,7 @@ impl<'text> SiteNames<'text> {
     }
 }
 
-/// That a field is looked at by nothing.
+/// Describes an unknown field.
 pub(crate) fn unknown_message(
     alloc: Global,
     name: &str,

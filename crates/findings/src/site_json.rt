@@ -1,4 +1,4 @@
-//! Whether a site file is JSON, as far as that is told without a tree of it.
+//! Decides whether a site file is JSON without a tree of it, except in one rare case.
 
 ghost use Rattle.std.specs.Prelude.{◌<◌, OnOk, length};
 
@@ -7,21 +7,21 @@ use ocpp_scalars::is_number_text;
 use ocppj_frame::after_mark;
 use std::alloc::{AllocError, Global};
 
-/// How deep lists and objects may nest.
+/// The maximum nesting depth of lists and objects.
 const MAX_DEPTH: usize = 127;
 
-/// Whether a tree is read from a text.
+/// Whether a tree can be read from a text.
 #[derive(Clone, Copy, PartialEq, Eq)]
 pub(crate) enum Verdict {
     Json,
     /// It is no JSON, or has a malformed number.
     NotJson,
-    /// It has malformed numbers in two fields of an object, of which one stands there again.
+    /// An object has malformed numbers in two fields, and one of these fields again later.
     Unsure,
 }
 
-/// Whether a tree is read from a marked text. Of several fields of a name the last one counts, so
-/// that a malformed number may stand in those before it.
+/// Returns whether a tree can be read from a marked text. Of duplicate fields the last one counts,
+/// so the earlier ones may have malformed numbers.
 pub(crate) fn verdict_on(alloc: Global, marked: &str) -> Result<Verdict, AllocError> {
     let mut scratch = Scratch::new(alloc);
     let mut reader = Reader::new(marked, &mut scratch)?;
@@ -31,7 +31,7 @@ pub(crate) fn verdict_on(alloc: Global, marked: &str) -> Result<Verdict, AllocEr
     }
 }
 
-/// Reads the next value. An error says that the text breaks otherwise than in a number.
+/// Reads the next value. An error means that the text breaks elsewhere than in a number.
 #[cycle(judge)]
 fn judge_value(reader: &mut Reader<'_>, depth: usize) -> Result<Verdict, Invalid>
     ensures shorter { OnOk result (length reader.new < length reader.old) }
@@ -46,7 +46,7 @@ fn judge_value(reader: &mut Reader<'_>, depth: usize) -> Result<Verdict, Invalid
     }
 }
 
-/// A text is one in any case, a number by its grammar.
+/// Judges a marked string: a number by its grammar, a text not at all.
 fn judge_string(marked: &str) -> Verdict {
     match after_mark(marked, b'n') {
         Some(number) if !is_number_text(number) => Verdict::NotJson,
@@ -89,16 +89,17 @@ fn judge_members(reader: &mut Reader<'_>, depth: usize) -> Result<Verdict, Inval
 /// The members of an object so far.
 #[derive(Clone, Copy)]
 struct Members<'a> {
-    /// The key of one of which the last value is broken.
+    /// The key of a member whose last value is malformed.
+    // One key takes no memory. A list of all malformed members would grow with the file.
     broken: Option<&'a str>,
-    /// Whether a number stands in the place of a key.
+    /// Whether a number is in the place of a key.
     has_broken_key: bool,
-    /// Whether another value was broken, or may have been.
+    /// Whether another value was malformed, or may have been.
     is_unsure: bool,
 }
 
 impl<'a> Members<'a> {
-    /// Takes one more member.
+    /// Takes the next member.
     fn take(&mut self, key: &'a str, value: Verdict) {
         if after_mark(key, b's').is_none() {
             self.has_broken_key = true;

@@ -1,4 +1,4 @@
-//! Reading a marked site file value by value: a tree of it would take many times its size.
+//! Reads a marked site file value by value, since a tree of it takes many times its size.
 
 ghost use Rattle.std.specs.Prelude.{◌<◌, ◌≤◌, OnOk, length};
 
@@ -7,10 +7,10 @@ use json::{Invalid, Reader, Token};
 use ocppj_frame::after_mark;
 use std::alloc::{AllocError, AllocFailed};
 
-/// How deep a value may nest that is passed. The file was read as JSON before.
+/// The maximum nesting depth of a skipped value. The file has been read as JSON before.
 const MAX_DEPTH: usize = 127;
 
-/// Why a site file isn't read to its end.
+/// The reason why a site file can't be read to its end.
 #[derive(Clone, Copy, Drop)]
 pub(crate) enum PartFault {
     NotJson,
@@ -43,7 +43,7 @@ pub(crate) fn read_glance<'a>(reader: &mut Reader<'a>) -> Result<Glance<'a>, Par
     glance_from(token, reader)
 }
 
-/// Reads the value that begins with this token, which was read.
+/// Reads the rest of the value that begins with this token.
 pub(crate) fn glance_from<'a>(
     token: Token<'a>,
     reader: &mut Reader<'a>,
@@ -62,13 +62,14 @@ pub(crate) fn glance_from<'a>(
             pass_members(reader)?;
             Ok(Glance::Object)
         }
+        // A marked text has its numbers in strings, so that no digit is lost.
         Token::EndObject | Token::EndArray | Token::Key(_) | Token::Number(_) | Token::Bad => {
             Err(PartFault::NotJson)
         }
     }
 }
 
-/// The text or the number that a marked string stands for.
+/// Returns the text or the number in a marked string.
 fn glance_of_string(marked: &str) -> Glance<'_> {
     match after_mark(marked, b'n') {
         Some(number) => Glance::Number(number),
@@ -76,7 +77,7 @@ fn glance_of_string(marked: &str) -> Glance<'_> {
     }
 }
 
-/// Passes the items of a list.
+/// Skips the items of a list.
 fn pass_items(reader: &mut Reader<'_>) -> Result<(), PartFault>
     ensures shorter { OnOk result (length reader.new < length reader.old) }
 {
@@ -86,7 +87,7 @@ fn pass_items(reader: &mut Reader<'_>) -> Result<(), PartFault>
     Ok(())
 }
 
-/// Passes the members of an object.
+/// Skips the members of an object.
 fn pass_members(reader: &mut Reader<'_>) -> Result<(), PartFault>
     ensures shorter { OnOk result (length reader.new < length reader.old) }
 {

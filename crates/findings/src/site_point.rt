@@ -1,4 +1,4 @@
-//! What is wrong with a point of a site file.
+//! Checks a point of a site file.
 
 ghost use Rattle.std.specs.Prelude.{◌<◌, OnOk, length};
 
@@ -14,20 +14,20 @@ use ocppj_frame::after_mark;
 use site_rules::SiteFault;
 use std::alloc::{AllocError, Global};
 
-/// The most connectors of a point.
+/// The maximum number of connectors of a point.
 const MAX_CONNECTORS: usize = 64;
 
-/// The most characters of a point's identity.
+/// The maximum number of characters of a point's identity.
 const MAX_ID_CHARACTERS: usize = 48;
 
-/// What was read of a point: the last value of each field that counts.
+/// The values read from a point: the last one of each known field.
 #[derive(Drop)]
 pub(crate) struct PointParts<'a> {
     fields: PointFields<'a>,
     connectors: Option<ConnectorsPart<'a>>,
 }
 
-/// The index of a point, and its identity and ceiling as they were read.
+/// The index of a point, and its identity and ceiling as read.
 #[derive(Clone, Copy)]
 struct PointFields<'a> {
     index: usize,
@@ -45,16 +45,16 @@ enum ConnectorsPart<'a> {
 /// The connectors of a point.
 #[derive(Drop)]
 struct Connectors {
-    /// How many there are.
+    /// The number of connectors.
     count: usize,
-    /// The sum of the ceilings, in tenths, where they are ceilings.
+    /// The sum of the ceilings, in tenths, if all of them are valid.
     together: Option<u64>,
-    /// What is wrong with those that are none.
+    /// A message for each ceiling that isn't valid.
     wrong: Vec<String>,
 }
 
 impl PointFields<'_> {
-    /// Where it stands, with its identity where that is a text.
+    /// Returns the place of the point, with its identity if that is a string that isn't empty.
     fn place(self, alloc: Global) -> Result<Location, AllocError> {
         let id = match self.id {
             Some(Glance::Text(id)) if !id.is_empty() => Some(excerpt(alloc, id)?),
@@ -84,7 +84,7 @@ pub(crate) fn read_point<'a>(
     while let Some(key) = reader.next_key()? {
         let name = after_mark(key, b's');
         if name == Some("connectors") {
-            // Of several the last one counts.
+            // Of duplicate fields the last one counts. The earlier messages are freed first.
             connectors = None;
             connectors = Some(read_connectors(alloc, reader)?);
         } else {
@@ -128,7 +128,7 @@ fn read_ceilings(alloc: Global, reader: &mut Reader<'_>) -> Result<Connectors, P
 }
 
 impl Connectors {
-    /// Adds the ceiling of one more connector, or what is wrong with it.
+    /// Adds the ceiling of the next connector, or a message if it isn't valid.
     fn add(&mut self, alloc: Global, value: Glance<'_>) -> Result<(), AllocError> {
         let place = self.count;
         self.count = place.saturating_add(1);
@@ -139,7 +139,7 @@ impl Connectors {
             return Ok(());
         }
         self.together = None;
-        // One more than is kept, so that it is said that there are more.
+        // One message more than are kept makes `CheckedPoints` warn that there are more.
         if self.wrong.len() <= MAX_FOUND {
             let found = what_stands(alloc, Some(value))?;
             let found = format!(in alloc; "connectors[{place}]: {found}")?;
@@ -156,7 +156,7 @@ fn ceiling_of(value: Glance<'_>) -> Option<u32> {
     }
 }
 
-/// Checks a point, and adds what is found.
+/// Checks a point, and adds the findings.
 pub(crate) fn check_point(
     points: &mut CheckedPoints,
     names: &SiteNames<'_>,
@@ -219,7 +219,7 @@ fn is_id_byte(byte: u8) -> bool {
     matches!(byte, b'A'..=b'Z' | b'a'..=b'z' | b'0'..=b'9' | b'.' | b'_' | b'-' | b'~')
 }
 
-/// Returns the ceiling, in tenths, where it is one.
+/// Checks the ceiling of a point. Returns it in tenths, if it is valid.
 fn check_ceiling(
     points: &mut CheckedPoints,
     names: &SiteNames<'_>,
@@ -240,7 +240,7 @@ fn check_ceiling(
     Ok(None)
 }
 
-/// Returns the sum of the connectors' ceilings, in tenths, where they are ceilings.
+/// Checks the connectors of a point. Returns the sum of their ceilings in tenths, if all are valid.
 fn check_connectors(
     points: &mut CheckedPoints,
     names: &SiteNames<'_>,
@@ -284,8 +284,8 @@ fn check_list(
     Ok(together)
 }
 
-/// The connectors of most points have more together than the point; it is worth a look all the
-/// same.
+/// Makes the remark that the connectors' ceilings add up to more than the point's.
+// It is no warning, since this is so at most points.
 fn remark_together(
     alloc: Global,
     place: Location,

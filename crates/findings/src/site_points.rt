@@ -1,4 +1,4 @@
-//! What is wrong with the points of a site file.
+//! Checks the points of a site file.
 
 ghost use Rattle.std.specs.Prelude.{◌<◌, OnOk, length};
 
@@ -12,7 +12,7 @@ use json::{Reader, Token};
 use site_rules::SiteFault;
 use std::alloc::{AllocError, Global};
 
-/// The most findings in the points that are kept: each point of the largest site may have two.
+/// The maximum number of findings in the points to keep: two for each point of the largest site.
 pub(crate) const MAX_FOUND: usize = 2_000;
 
 /// The value of `points`.
@@ -22,16 +22,16 @@ pub(crate) enum PointsPart<'a> {
     Other(Glance<'a>),
 }
 
-/// The points so far, and what is found in them.
+/// The points so far, and the findings in them.
 #[derive(Drop)]
 pub(crate) struct CheckedPoints {
     pub alloc: Global,
-    /// How many there are.
+    /// The number of points.
     pub count: usize,
-    /// The index of the first point that has an identity.
+    /// The index of the first point of each identity.
     places: IndexMap<String, usize>,
     findings: Vec<Finding>,
-    /// Whether more is found than is kept. Then no point is looked at any more.
+    /// Whether there are more findings than are kept. If so, no further point is checked.
     more: bool,
 }
 
@@ -56,7 +56,7 @@ impl CheckedPoints {
         Ok(())
     }
 
-    /// The index of the earlier point that has an identity, which is kept where there is none.
+    /// Returns the index of an earlier point of this identity. If there is none, notes this one.
     pub(crate) fn earlier(&mut self, id: &str, index: usize) -> Result<Option<usize>, AllocError> {
         if let Some(earlier) = self.places.get(id) {
             return Ok(Some(*earlier));
@@ -66,7 +66,7 @@ impl CheckedPoints {
         Ok(None)
     }
 
-    /// Appends what is found, and that there is more if so.
+    /// Appends the findings, and a warning if there are more.
     pub(crate) fn append_to(self, findings: &mut Vec<Finding>) -> Result<(), AllocError> {
         let CheckedPoints {
             alloc,
@@ -115,7 +115,7 @@ fn read_entries(
     Ok(points)
 }
 
-/// Reads the next entry, and checks it.
+/// Reads and checks the next entry.
 fn check_entry(
     points: &mut CheckedPoints,
     names: &SiteNames<'_>,
@@ -123,6 +123,7 @@ fn check_entry(
 ) -> Result<(), PartFault>
     ensures shorter { OnOk result (length reader.new < length reader.old) }
 {
+    // Only the number of the other points matters: their findings wouldn't be kept.
     if points.more {
         read_glance(reader)?;
         return Ok(());

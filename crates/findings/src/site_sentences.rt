@@ -1,8 +1,8 @@
-//! Why a site file isn't accepted, in one sentence each. A test compares RUNNING's table with them.
+//! One sentence for each fault of a site file. A test compares RUNNING's table with them.
 
 use site_rules::SiteFault;
 
-/// Why a site file isn't accepted.
+/// Returns the reason why a site file isn't accepted, in one sentence.
 pub fn site_sentence(fault: SiteFault) -> &'static str {
     match fault {
         SiteFault::TooLarge => "the file has more than 16777216 bytes",

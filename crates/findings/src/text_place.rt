@@ -2,7 +2,7 @@
 
 use crate::finding::Location;
 
-/// The line and the column of the character at an offset in bytes, both counted from 1.
+/// Returns the line and the column of the character at an offset in bytes, both counted from 1.
 pub fn place_in_text(text: &str, offset: usize) -> Location {
     let mut line: u64 = 1;
     let mut column: u64 = 1;

@@ -3,13 +3,14 @@
 use ocpp_scalars::{Instant, push_instant};
 use std::alloc::{AllocError, Global};
 
-/// The most characters of an excerpt.
+/// The maximum number of characters of an excerpt.
 const MAX_EXCERPT: usize = 60;
 
-/// The first 60 characters of a text, without control characters, and dots where there are more.
+/// Returns the first 60 characters of a text, and dots if there are more.
 pub fn excerpt(alloc: Global, text: &str) -> Result<String, AllocError> {
     let mut out = String::new(alloc);
     for character in text.chars().take(MAX_EXCERPT) {
+        // A finding is one line, which a line feed in the checked text would break.
         if character.is_control() {
             out.push('\u{fffd}')?;
         } else {
@@ -22,14 +23,14 @@ pub fn excerpt(alloc: Global, text: &str) -> Result<String, AllocError> {
     Ok(out)
 }
 
-/// An instant, as `2025-01-31T18:00:00Z`.
+/// Writes an instant, as `2025-01-31T18:00:00Z`.
 pub fn instant_text(alloc: Global, instant: Instant) -> Result<String, AllocError> {
     let mut out = String::new(alloc);
     push_instant(&mut out, instant)?;
     Ok(out)
 }
 
-/// A limit or a sum of limits, which is given in tenths, as `64.0`.
+/// Writes a limit or a sum of limits, given in tenths, as `64.0`.
 pub fn tenths_text(alloc: Global, tenths: u64) -> Result<String, AllocError> {
     let whole = tenths / 10;
     let tenth = tenths % 10;

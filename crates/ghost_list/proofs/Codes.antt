@@ -1,4 +1,4 @@
--- Lists and their codes begin alike, and of two beginnings of one list the longer begins with the shorter.
+-- A prefix of a list has a prefix of its codes, and conversely. Of two prefixes of one list the shorter is a prefix of the longer.
 use Rattle.std.proofs.Common.{◌≡◌, ◌≤◌, List, [], ◌∷◌, ◌++◌, map, length, refl, sym, ap, ◌∙◌, arith}
 use mathlib.Core.List.{IsPrefix, cons≢nil}
 use base.Stored.{Gv, Coded}
@@ -27,7 +27,7 @@ module _ {E : Type 0} (cv : Coded E) where
   pub prefix_in : (xs t : List E) → IsPrefix (map cv.code xs) (map cv.code (xs ++ t))
   prefix_in xs t = (map cv.code t, joined_codes xs t)
 
-  -- of two beginnings of one list of codes
+  -- of two prefixes of one list of codes
   pub shorter : (xs ys : List E) (zs s t : List Gv) → map cv.code xs ++ s ≡ zs → map cv.code ys ++ t ≡ zs → length xs ≤ length ys → IsPrefix xs ys
   shorter [] ys zs s t p q le = (ys, refl)
   shorter (x ∷ xs) [] zs s t p q le = absurd (omega arith)

@@ -1,4 +1,4 @@
--- What a `&` to a ghost list and to a front holds. Assumes `Logic`.
+-- The resources that a `&` to a ghost list and to a front holds. Assumes `Logic`.
 use Rattle.std.proofs.Common.{ℕ, [], ◌∷◌}
 use seplogic.Ra.Ura.{Ura}
 use base.Logic.{ent}

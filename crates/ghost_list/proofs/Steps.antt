@@ -68,7 +68,7 @@ module _ {M : Type 1} {𝓤 : Ura M} (𝓛 : Logic 𝓤) where
     abbrev pub Line : List E → List E → Type 0
     Line xs ys = (length ys ≤ length xs → IsPrefix ys xs) × (length xs ≤ length ys → IsPrefix xs ys)
 
-    -- both are beginnings of one list
+    -- both are prefixes of one list
     pub in_line : (xs ys : List E) → ⟦ Known xs ⟧ ∗ ⟦ Known ys ⟧ ⊢ guard 𝓤 (Line xs ys) (emp 𝓤)
     in_line xs ys = qed 𝓛 (‵ (Known xs) ∷ ‵ (Known ys) ∷ []) ∵
         use2 𝓛 (some (λ (c : List Gv). given (Least lists.le (map cv.code xs) (map cv.code ys) c) (‵ (at_least lists γ c)))) (at_least_join lists 𝓛 γ (map cv.code xs) (map cv.code ys)) $
@@ -83,7 +83,7 @@ module _ {M : Type 1} {𝓤 : Ura M} (𝓛 : Logic 𝓤) where
     pub held_lends : (xs : List E) (l : Lft) → Lends 𝓛 (Held xs full_share) (one (Held xs)) l
     held_lends xs l κ ts inc sp = qed 𝓛 (‵ (fbor κ (Held xs full_share)) ∷ raw (lfts 𝓛 ts) ∷ []) ∵ updating ! $ bor_fracture ! tt (Held xs) full_share $ now ! $ done !
 
-    -- a borrow of what can be had twice gives a copy
+    -- a borrow of a duplicable resource gives a copy
     pub known_lends : (xs : List E) (l : Lft) → Lends 𝓛 (Known xs) (said (Known xs)) l
     known_lends xs l κ ts inc sp = let P : Fml = Known xs in let Back = H.⇛ (A.bor κ P ∗ lfts 𝓛 ts) in
         qed 𝓛 (‵ (fbor κ P) ∷ raw (lfts 𝓛 ts) ∷ []) ∵ updating ! $ use2 𝓛 (later (‵ P ⊛ raw (wand 𝓤 ⟦ P ⟧ Back))) (𝓛.more.bor_acc_by κ ts P sp) $ await ! tt $ split ! $ use1 𝓛 (‵ P ⊛ ‵ P) (known_twice xs) $ split ! $ move ! (0 ∷ 2 ∷ []) $

@@ -1,4 +1,4 @@
--- The one machine value of a type of no bytes, how a walk ends, and that what is owned names no thread. Assumes `Logic`.
+-- The only machine value of a type without bytes; the end of a walk; the owned resources name no thread. Assumes `Logic`.
 use Rattle.std.proofs.Common.{◌≡◌, ℕ, List, [], ◌∷◌, ◌++◌, refl, ap, ◌∙◌}
 use seplogic.Ra.Ura.{Ura}
 use mir.Val.{Val, vstruct, vcons, vnil, of_list}

@@ -1,4 +1,4 @@
-//! What a thread knows of a ghost list.
+//! The entries of a ghost list that a thread knows.
 
 ghost use Rattle.std.specs.Prelude.{◌≡◌, ◌≤◌, List, length};
 ghost use mathlib.Core.List.{IsPrefix};
@@ -9,9 +9,10 @@ ghost use Rattle.ghost_list.specs.Owned.{known};
 use crate::name::ListName;
 use std::marker::{Model, PhantomData};
 
-/// A beginning of the ghost list J, as it once was. It stays one, whatever is added, and has no
-/// bytes.
+/// A prefix of the ghost list J: all its entries at some moment. It stays a prefix whatever is
+/// added, and has no bytes at run time.
 pub struct Front<E, J: ListName> {
+    // J is in the type, so that fronts of different ghost lists can't be mixed.
     pub(crate) marker: PhantomData<(E, J)>,
     pub ghost entries: { List E } by { coded_list E.code },
 }
@@ -23,7 +24,7 @@ impl<E, J: ListName> Model for Front<E, J> {
 }
 
 impl<E, J: ListName> Front<E, J> {
-    /// A copy.
+    /// Copies the front.
     pub fn copy(&self) -> Front<E, J>
         ensures { result.entries ≡ self.now.entries }
     {
@@ -32,7 +33,7 @@ impl<E, J: ListName> Front<E, J> {
         }
     }
 
-    /// Shows that the longer of two beginnings begins with the shorter.
+    /// Shows that the shorter of two fronts is a prefix of the longer.
     pub fn compare(&self, other: &Front<E, J>)
         ensures longer { length other.now.entries ≤ length self.now.entries
             → IsPrefix other.now.entries self.now.entries }

@@ -1,5 +1,5 @@
-//! A list that only grows and exists in proofs alone: one owner adds to it, and threads know
-//! beginnings of it.
+//! A list that only grows and exists only in proofs: one owner adds to it, and threads know
+//! prefixes of it.
 #![tactic(auto)]
 
 mod front;

@@ -1,4 +1,4 @@
-//! The ghost list's one owner.
+//! The one owner of a ghost list.
 
 ghost use Rattle.std.specs.Prelude.{◌≡◌, ℕ, List, [], ◌∷◌, ◌++◌};
 ghost use mathlib.Core.List.{IsPrefix};
@@ -11,7 +11,7 @@ use crate::front::Front;
 use crate::name::ListName;
 use std::marker::{Model, PhantomData};
 
-/// A new ghost list with no entries, which no type names yet.
+/// A new ghost list without entries, which no type names yet.
 pub struct Unnamed {
     marker: PhantomData<()>,
     pub ghost name: { ℕ },
@@ -21,7 +21,7 @@ impl Model for Unnamed {
     ghost also_owns = { λ u. unnamed u.name };
 }
 
-/// The ghost list J, a list of E that only grows and that no memory holds. Nothing else adds to it.
+/// The ghost list J: a list of E that only grows and takes no memory. Only this value adds to it.
 pub struct GhostList<E, J: ListName> {
     marker: PhantomData<(E, J)>,
     pub ghost entries: { List E } by { coded_list E.code },
@@ -33,12 +33,12 @@ impl<E, J: ListName> Model for GhostList<E, J> {
     ghost also_shares = { λ c _. one (held E.row.coded.code J.name c.entries) };
 }
 
-/// The entry that is made of a value. It may have what no memory holds.
+/// A way to make an entry from a value. The entry may contain ghost values, which take no memory.
 pub trait EntryFrom<X, E> {
     ghost entry: { X → E };
 }
 
-/// The value itself.
+/// The entry is the value itself.
 pub struct Itself;
 
 impl<E> EntryFrom<E, E> for Itself {
@@ -46,14 +46,14 @@ impl<E> EntryFrom<E, E> for Itself {
 }
 
 impl Unnamed {
-    /// A new ghost list.
+    /// Makes a ghost list without entries.
     pub fn new() -> Unnamed {
         Unnamed {
             marker: PhantomData,
         }
     }
 
-    /// The ghost list under its name.
+    /// Gives the ghost list the name of the type J.
     pub fn named<E, J: ListName>(self) -> GhostList<E, J>
         requires { self.name ≡ J.name }
         ensures { result.entries ≡ [] }
@@ -73,12 +73,13 @@ impl<E, J: ListName> GhostList<E, J> {
         self.add_from::<E, Itself>(entry)
     }
 
-    /// Adds the entry that M makes of a value.
+    /// Adds the entry that M makes from a value.
+    // The body is empty: entries exist only in proofs, where the proof by hand adds this one.
     pub fn add_from<X, M: EntryFrom<X, E>>(&mut self, from: &X)
         ensures { self.new.entries ≡ self.old.entries ++ M.entry from.now ∷ [] }
     {}
 
-    /// All entries so far.
+    /// Returns a front of all entries so far.
     pub fn front(&self) -> Front<E, J>
         ensures { result.entries ≡ self.now.entries }
     {
@@ -87,7 +88,7 @@ impl<E, J: ListName> GhostList<E, J> {
         }
     }
 
-    /// Shows that the ghost list begins with what was once its front.
+    /// Shows that the front is a prefix of the ghost list, however old it is.
     pub fn compare(&self, front: &Front<E, J>)
         ensures { IsPrefix front.now.entries self.now.entries }
     {}
@@ -105,6 +106,7 @@ impl<E, J: ListName> Drop for GhostList<E, J> {
     }
 }
 
+// These need no trust: `proofs/` shows that the owned resources name no thread.
 unsafe impl Send for Unnamed {}
 
 unsafe impl<E, J: ListName> Send for GhostList<E, J> {}

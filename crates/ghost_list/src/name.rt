@@ -1,9 +1,9 @@
-//! Which ghost list a value is of.
+//! The names that tie a value to its ghost list.
 
 use std::marker::{Brand, PhantomData};
 
-/// A name of a ghost list, and that of a second one that goes with it. `Brand` stands for those that
-/// its caller's proof picks.
+/// The names of a ghost list and of its companion, a second ghost list. A caller that passes
+/// `Brand` picks both in its proof.
 pub trait ListName {
     ghost use Rattle.std.specs.Prelude.{ℕ, Bool};
 
@@ -15,6 +15,8 @@ pub trait ListName {
     ghost is_recorded: { Bool };
 }
 
+// Placeholders: the proof of a call that passes `Brand` gives other values, so that the name can be
+// that of a list made just before the call.
 impl ListName for Brand {
     ghost use Rattle.std.specs.Prelude.{true};
 
@@ -25,7 +27,7 @@ impl ListName for Brand {
     ghost is_recorded = { true };
 }
 
-/// The name of the ghost list that goes with the one of N.
+/// The name of the companion of N's ghost list.
 pub struct Companion<N> {
     marker: PhantomData<N>,
 }

@@ -7,7 +7,7 @@ use Rattle.ocpp_scalars.specs.Ascii.{digit_zero, plus, upper_t}
 use Rattle.ocpp_scalars.specs.ByCases.Digits.{is_empty}
 use Rattle.ocpp_scalars.specs.OptionSteps.{◌>>=◌}
 
--- the number that digits write after others of this value, and what follows them
+-- the number that these digits make after those of this value, and the text after them
 abbrev pub number_after : ℕ → List ℕ → Option (ℕ × List ℕ)
 number_after number [] = Some (number, [])
 number_after number (b ∷ bs) =
@@ -16,7 +16,7 @@ number_after number (b ∷ bs) =
     then number_after (number * 10 + (b - digit_zero)) bs else None)
     else Some (number, b ∷ bs)
 
--- the number that a text begins with, up to the longest duration, and what follows its digits
+-- the number at the beginning of a text, up to the longest duration, and the text after its digits
 abbrev pub number_at : List ℕ → Option (ℕ × List ℕ)
 number_at [] = None
 number_at (b ∷ bs) = if is_ascii_digit b then number_after 0 (b ∷ bs) else None
@@ -30,7 +30,7 @@ unit_letter b =
     else if b == 100 then Some 86_400
     else None
 
--- the same; no unit is one of seconds
+-- the same; the empty unit is the second
 abbrev pub unit_of : List ℕ → Option ℕ
 unit_of [] = Some 1
 unit_of (b ∷ []) = unit_letter b
@@ -43,7 +43,7 @@ counted text = do
   seconds ← unit_of unit
   Some (number * seconds)
 
--- the seconds of a number whose unit follows it, and what follows that; or none, and the whole text
+-- the seconds of a number with its unit, and the text after it; or 0 and the whole text
 abbrev pub part_of : ℕ → ℕ → List ℕ → Option (ℕ × List ℕ) → ℕ × List ℕ
 part_of unit seconds text None = (0, text)
 part_of unit seconds text (Some (number, [])) = (0, text)
@@ -52,7 +52,7 @@ part_of unit seconds text (Some (number, b ∷ bs)) = if b == unit then (number 
 abbrev pub part_at : ℕ → ℕ → List ℕ → ℕ × List ℕ
 part_at unit seconds text = part_of unit seconds text (number_at text)
 
--- `hH`, `mM` and `sS`, of which one at least is there
+-- `hH`, `mM` and `sS`, at least one of them
 abbrev pub time_of_day : List ℕ → Option ℕ
 time_of_day text =
     let hours = part_at 72 3_600 text in
@@ -73,7 +73,7 @@ period text = with_time (part_at 68 86_400 text).0 (part_at 68 86_400 text).1
 abbrev pub in_range : ℕ → Option ℕ
 in_range seconds = if nat_le 1 seconds && nat_le seconds max_duration then Some seconds else None
 
--- by the first byte: `P` for ISO 8601, and a plus may stand before a number
+-- by the first byte: `P` for ISO 8601; a number may begin with a plus
 abbrev pub seconds_of : List ℕ → Option ℕ
 seconds_of [] = None
 seconds_of (b ∷ bs) =

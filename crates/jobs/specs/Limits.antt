@@ -1,4 +1,4 @@
--- What the numbers of options may be, and what they are where they aren't said.
+-- The limits and defaults of the numbers of options.
 use Rattle.std.specs.Prelude.{ℕ}
 
 -- the most workers, and the most connections in all
@@ -8,7 +8,7 @@ max_workers = 8
 abbrev pub max_sessions : ℕ
 max_sessions = 64
 
--- the most connections at a time; that many where it isn't said, and so many workers
+-- the most connections at a time, and the defaults for these and for workers
 abbrev pub max_seats : ℕ
 max_seats = 1000
 
@@ -18,14 +18,14 @@ default_seats = 256
 abbrev pub default_workers : ℕ
 default_workers = 2
 
--- how long a call may wait for its reply, in seconds; so long where it isn't said
+-- how long a call may wait for its reply, in seconds, and the default
 abbrev pub max_call_timeout : ℕ
 max_call_timeout = 3600
 
 abbrev pub default_call_timeout : ℕ
 default_call_timeout = 60
 
--- the highest number of a line that is undone
+-- the highest number of a line to undo
 abbrev pub max_line : ℕ
 max_line = 2147483647
 

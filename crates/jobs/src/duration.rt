@@ -1,4 +1,4 @@
-//! How long the schedule is that is explained, by the text of an option.
+//! The duration of the explained schedule, read from the text of an option.
 
 ghost use Rattle.std.specs.Prelude.{◌≡◌, ◌≤◌, ◌*◌, IfSome, option_map};
 ghost use Rattle.meaning.specs.Limits.{max_duration};
@@ -12,8 +12,9 @@ const HOUR: u64 = 3_600;
 
 const DAY: u64 = 86_400;
 
-/// The seconds of a duration, from 1 to 2,678,400. Its text is a whole number of seconds, such as
-/// `3600`; one with a unit, `90m`, `12h` or `2d`; or one of ISO 8601, `PT1H30M` or `P1DT12H`.
+/// Reads a duration from 1 to 2,678,400 seconds. Its text is a whole number of seconds, such as
+/// `3600`; a number with a unit, `90m`, `12h` or `2d`; or a duration of ISO 8601, `PT1H30M` or
+/// `P1DT12H`.
 #[tactic(auto, unfolding(crate::specs::Duration::duration_of))]
 pub fn read_duration(text: &str) -> Option<u32>
     ensures { result ≡ duration_of text.now }
@@ -35,7 +36,7 @@ fn in_range(seconds: u64) -> Option<u32>
     Some(seconds as u32)
 }
 
-/// The seconds of a whole number and its unit.
+/// Returns the seconds of a whole number and its unit.
 fn counted(text: &[u8]) -> Option<u64>
     ensures { result ≡ counted text.now }
 {
@@ -44,7 +45,7 @@ fn counted(text: &[u8]) -> Option<u64>
     Some(number * seconds)
 }
 
-/// The seconds of a unit: none is one of seconds.
+/// Returns the seconds of a unit. The empty unit is the second.
 fn unit_of(unit: &[u8]) -> Option<u64>
     ensures value { result ≡ unit_of unit.now }
     ensures bound { IfSome result (λ seconds. seconds ≤ 86_400) }
@@ -58,19 +59,20 @@ fn unit_of(unit: &[u8]) -> Option<u64>
     }
 }
 
-/// The seconds of what follows the P: days, and a time of day if there is a T.
+/// Returns the seconds of the text after the P: days, and a time of day after a T.
 fn period(text: &[u8]) -> Option<u64>
     ensures { result ≡ period text.now }
 {
     let (days, rest) = split_part(b'D', DAY, text);
     match rest {
+        // `P` alone comes to 0 seconds, which `in_range` refuses.
         [] => Some(days),
         [b'T', time @ ..] => Some(days + time_of_day(time)?),
         _ => None,
     }
 }
 
-/// The seconds of hours, minutes and seconds, of which one at least is there.
+/// Returns the seconds of hours, minutes and seconds, of which at least one is there.
 fn time_of_day(text: &[u8]) -> Option<u64>
     ensures value { result ≡ time_of_day text.now }
     ensures bound { IfSome result (λ seconds. seconds ≤ 3_661 * max_duration) }
@@ -78,14 +80,15 @@ fn time_of_day(text: &[u8]) -> Option<u64>
     let (hours, minutes) = split_part(b'H', HOUR, text);
     let (minutes, seconds) = split_part(b'M', MINUTE, minutes);
     let (seconds, rest) = split_part(b'S', 1, seconds);
+    // In ISO 8601 at least one part follows the T.
     if text.is_empty() || !rest.is_empty() {
         return None;
     }
     Some(hours + minutes + seconds)
 }
 
-/// The seconds of the number that a text begins with, and what follows its unit. Without that unit
-/// they are none, and all of the text follows.
+/// Returns the seconds of the number at the beginning of a text, and the text after its unit. If
+/// there is no such number with this unit, returns 0 and the whole text.
 fn split_part(unit: u8, seconds: u64, text: &[u8]) -> (u64, &[u8])
     requires { seconds ≤ 86_400 }
     ensures value { (result.0, result.1.now) ≡ part_at unit seconds text.now }
@@ -97,7 +100,8 @@ fn split_part(unit: u8, seconds: u64, text: &[u8]) -> (u64, &[u8])
     }
 }
 
-/// The number that a text begins with, up to the longest duration, and what follows its digits.
+/// Splits off the number at the beginning of a text, up to the longest duration. Returns it with
+/// the text after its digits.
 fn split_number(text: &[u8]) -> Option<(u64, &[u8])>
     ensures value { option_map (λ x. (x.0, x.1.now)) result ≡ number_at text.now }
     ensures bound { IfSome result (λ x. x.0 ≤ max_duration) }
@@ -108,7 +112,7 @@ fn split_number(text: &[u8]) -> Option<(u64, &[u8])>
     }
 }
 
-/// The same of a text that begins with a digit.
+/// Does the same for a text that begins with a digit.
 fn split_digits(text: &[u8]) -> Option<(u64, &[u8])>
     ensures value { option_map (λ x. (x.0, x.1.now)) result ≡ number_after 0 text.now }
     ensures bound { IfSome result (λ x. x.0 ≤ max_duration) }
@@ -119,6 +123,7 @@ fn split_digits(text: &[u8]) -> Option<(u64, &[u8])>
             return Some((number, text.split_at(count).1));
         }
         number = number * 10 + (*byte - b'0') as u64;
+        // Checked at each digit, so that no later sum or product can overflow.
         if number > MAX_DURATION as u64 {
             return None;
         }

@@ -1,46 +1,46 @@
-//! What a command line asks for.
+//! The jobs of a command line.
 
-/// What a command line asks for.
+/// The job that a command line requests.
 #[derive(Clone, Copy)]
 pub enum Job<'a> {
-    /// To play a script on the site of a file.
+    /// Play a script on the site of a file.
     Replay(Replaying<'a>),
-    /// To serve the site of a file to those who connect.
+    /// Serve the site of a file to clients.
     Serve(Serving<'a>),
-    /// To run the site of a file, and go on where that stopped.
+    /// Run the site of a file, and continue where it stopped.
     Run(Running<'a>),
-    /// To print the journal of a folder as a script.
+    /// Print the journal of a folder as a script.
     Journal { folder: &'a str },
-    /// To make a key.
+    /// Make a key.
     Key(KeyMaking<'a>),
-    /// To send an operator's calls.
+    /// Send an operator's calls.
     Call(Calling<'a>),
-    /// To simulate a charge point.
+    /// Simulate a charge point.
     Point(Pointing<'a>),
-    /// To say why limits are what they are.
+    /// Explain the limits of a connector.
     Explain(Explaining<'a>),
-    /// To say what is wrong with a site file and a script.
+    /// Report the faults of a site file and a script.
     Check(Checking<'a>),
-    /// To show what points have.
+    /// Show the state of the points.
     Show(Showing<'a>),
-    /// To show how a site is that is run, by the URL of its status port.
+    /// Show the state of a running site, by the URL of its status port.
     Status { url: &'a str },
 }
 
-/// How a site is to be served.
+/// The options for serving a site.
 #[derive(Clone, Copy)]
 pub struct Serving<'a> {
     /// The site's file.
     pub site: &'a str,
-    /// The address that is listened at: a host and a port.
+    /// The address to listen at: a host and a port.
     pub listen: &'a str,
-    /// How many workers compile schedules.
+    /// The number of workers that compile schedules.
     pub workers: u64,
-    /// After this many connections the program ends.
+    /// The number of connections after which the program ends.
     pub sessions: u64,
 }
 
-/// What is read as a script.
+/// The source of a script.
 #[derive(Clone, Copy)]
 pub enum Source<'a> {
     /// Standard input.
@@ -51,39 +51,39 @@ pub enum Source<'a> {
     Journal(&'a str),
 }
 
-/// Which script is to be played, and on which site.
+/// The script to play, and its site.
 #[derive(Clone, Copy)]
 pub struct Replaying<'a> {
     /// The site's file.
     pub site: &'a str,
-    /// What the script is.
+    /// The source of the script.
     pub source: Source<'a>,
 }
 
-/// How a site is to be run.
+/// The options for running a site.
 #[derive(Clone, Copy)]
 pub struct Running<'a> {
     /// The site's file.
     pub site: &'a str,
     /// The folder of its journal.
     pub folder: &'a str,
-    /// The address that is listened at: a host and a port.
+    /// The address to listen at: a host and a port.
     pub listen: &'a str,
-    /// How many connections it serves at a time.
+    /// The number of connections served at a time.
     pub seats: u64,
-    /// How many workers compile schedules.
+    /// The number of workers that compile schedules.
     pub workers: u64,
-    /// For so many seconds a call waits for its reply.
+    /// The number of seconds that a call waits for its reply.
     pub call_timeout: u64,
-    /// The file of those who may come.
+    /// The file of the keys of the clients that may connect.
     pub keys: Option<&'a str>,
     /// The address of the status port, if it has one.
     pub status: Option<&'a str>,
-    /// Whether that may be another than this machine's own.
+    /// Whether that address may be one other than this machine's own.
     pub is_status_open: bool,
 }
 
-/// Whose key is to be made.
+/// The owner of the key to make.
 #[derive(Clone, Copy)]
 pub struct KeyMaking<'a> {
     /// The point's identity, or the operator's name.
@@ -91,10 +91,11 @@ pub struct KeyMaking<'a> {
     pub is_operator: bool,
 }
 
-/// What an operator's client sends: what is given here, or else the lines of standard input.
+/// The calls that an operator's client sends: those given here, or else the lines of standard
+/// input.
 #[derive(Clone, Copy)]
 pub struct Calling<'a> {
-    /// Where it connects.
+    /// The URL to which it connects.
     pub url: &'a str,
     /// The file of its name and its key.
     pub login: Option<&'a str>,
@@ -102,7 +103,7 @@ pub struct Calling<'a> {
     pub all: bool,
     /// The file of that site.
     pub site: Option<&'a str>,
-    /// The folder of that site, by whose journal calls are checked.
+    /// The folder of that site, whose journal is used to check calls.
     pub folder: Option<&'a str>,
     /// The file of a SetChargingProfile's payload.
     pub set_profile: Option<&'a str>,
@@ -116,22 +117,22 @@ pub struct Calling<'a> {
     pub audit: Option<Asking<'a>>,
     /// Whether a PointStatus is sent.
     pub status: bool,
-    /// The number of the journal's line that is undone.
+    /// The number of the journal's line to undo.
     pub undo: Option<u64>,
-    /// Whether what has a fault is sent, too.
+    /// Whether faulty calls are sent, too.
     pub force: bool,
-    /// Whether nothing is sent: what would be is printed.
+    /// Whether nothing is sent, and the calls are only printed.
     pub dry_run: bool,
 }
 
-/// What is asked for: the texts of a connector and of a duration in seconds.
+/// A request for a schedule: the texts of a connector and of a duration in seconds.
 #[derive(Clone, Copy)]
 pub struct Asking<'a> {
     pub connector: &'a str,
     pub seconds: &'a str,
 }
 
-/// What is to be started: a transaction at a connector, by an idTag.
+/// A transaction to start at a connector, by an idTag.
 #[derive(Clone, Copy)]
 pub struct Starting<'a> {
     /// The text of the connector.
@@ -154,7 +155,7 @@ pub struct Pointing<'a> {
     pub login: Option<&'a str>,
 }
 
-/// Which schedule is to be explained, and how.
+/// The schedule to explain, and how.
 #[derive(Clone, Copy)]
 pub struct Explaining<'a> {
     /// The file of the site.
@@ -163,50 +164,52 @@ pub struct Explaining<'a> {
     pub point: &'a str,
     /// The connector, 0 being the whole point.
     pub connector: u64,
-    /// The text that says from when on, as `Start::of` reads it.
+    /// The text of the start, as `Start::of` reads it.
     pub start: &'a str,
-    /// The text that says how long, as `read_duration` reads it.
+    /// The text of the duration, as `read_duration` reads it.
     pub duration: &'a str,
-    /// What the script is.
+    /// The source of the script.
     pub source: Source<'a>,
-    /// The text of how far the script is played: a number of lines, or an instant. Or all is.
+    /// The text of the end up to which the script is played: a number of lines, or an instant. None
+    /// for the whole script.
     pub at: Option<&'a str>,
-    /// The time zone in which the table has its times.
+    /// The time zone of the times in the table.
     pub zone: Option<&'a str>,
     /// The file of the picture to write.
     pub picture: Option<&'a str>,
-    /// Whether for programs.
+    /// Whether the output is JSON.
     pub json: bool,
 }
 
-/// Which site is to be checked, with a file of keys and a script.
+/// The site to check, with a file of keys and a script.
 #[derive(Clone, Copy)]
 pub struct Checking<'a> {
     /// The file of the site.
     pub site: &'a str,
-    /// The file of those who may come.
+    /// The file of the keys of the clients that may connect.
     pub keys: Option<&'a str>,
-    /// What the script is.
+    /// The source of the script.
     pub source: Source<'a>,
-    /// Whether to show whose answer each is.
+    /// Whether to show the answer to each line of the script.
     pub trace: bool,
 }
 
-/// What is to be shown of a site.
+/// The site to show, and how.
 #[derive(Clone, Copy)]
 pub struct Showing<'a> {
     /// The file of the site.
     pub site: &'a str,
-    /// What the script is.
+    /// The source of the script.
     pub source: Source<'a>,
-    /// The text of how far the script is played: a number of lines, or an instant. Or all is.
+    /// The text of the end up to which the script is played: a number of lines, or an instant. None
+    /// for the whole script.
     pub at: Option<&'a str>,
-    /// Whether for programs.
+    /// Whether the output is JSON.
     pub json: bool,
 }
 
 impl Calling<'_> {
-    /// Whether an option gives a call to send.
+    /// Returns whether an option gives a call to send.
     pub fn gives_calls(&self) -> bool {
         self.set_profile.is_some()
             || self.clear.is_some()

@@ -1,4 +1,5 @@
-//! The jobs that a command line can ask for, and the durations, instants and limits of their options.
+//! The jobs that a command line can request, and the durations, instants and limits of their
+//! options.
 #![tactic(auto)]
 
 mod duration;

@@ -12,7 +12,7 @@ pub const MAX_WORKERS: u64 = 8;
 /// The most connectors of a point.
 pub const MAX_CONNECTORS: u64 = 64;
 
-/// The highest number of a line that is undone.
+/// The highest number of a line to undo.
 pub const MAX_LINE: u64 = 2_147_483_647;
 
 /// The longest time for which a call waits for its reply, in seconds.

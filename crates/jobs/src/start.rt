@@ -1,21 +1,21 @@
-//! From when on a schedule is explained.
+//! The start of the explained schedule.
 
 ghost use Rattle.std.specs.Prelude.{◌≡◌};
 ghost use Rattle.jobs.specs.Start.{named_instant, start_of};
 
 use ocpp_scalars::{Instant, InstantFault, read_instant};
 
-/// From when on a schedule is explained.
+/// The start of the explained schedule.
 #[derive(Clone, Copy, PartialEq, Eq)]
 pub enum Start {
-    /// From the present moment on.
+    /// The present moment.
     Now,
-    /// From this instant on.
+    /// This instant.
     At(Instant),
 }
 
 impl Start {
-    /// What a text says: `now`, or an instant as `read_instant` has it, with its faults.
+    /// Reads a text: `now`, or an instant as `read_instant` reads it, with its faults.
     pub fn of(text: &str) -> Result<Start, InstantFault>
         ensures { result ≡ start_of text.now }
     {
@@ -28,7 +28,7 @@ impl Start {
         }
     }
 
-    /// The instant that is named, or None for the present moment.
+    /// Returns the named instant, or None for the present moment.
     pub fn named(self) -> Option<Instant>
         ensures { result ≡ named_instant self }
     {

@@ -1,5 +1,5 @@
-//! The file of boots: which points booted and may have forgotten their profiles. What it says is
-//! known by no other file, and nothing else depends on it.
+//! The file of boots: which points booted and may have forgotten their profiles. No other file has
+//! this, and nothing else depends on it.
 
 use crate::opening::{OWN_FILE, path_in};
 use journal::split_line;
@@ -15,11 +15,11 @@ use std::rt::Files;
 /// The file's name in its folder.
 const NAME: &str = "boots";
 
-/// A file of boots has a line for each point of a site: fewer bytes than these.
+/// An upper bound on the size of a file of boots, which has one line for each point of a site.
 const LONGEST_FILE: u64 = 1_048_576;
 
-/// The file of boots of a folder, opened to be written, and made where there is none. None where that
-/// fails, which is said on standard error.
+/// Opens the file of boots of a folder for writing, and creates it if needed. Prints an error to
+/// standard error, and then returns None.
 pub fn open_boots<R: Files<File = File> + Eprint + AllocGlobal>(
     rt: &R,
     folder: &str,
@@ -36,9 +36,9 @@ pub fn open_boots<R: Files<File = File> + Eprint + AllocGlobal>(
     }
 }
 
-/// Reads the file of boots of a folder: the boot of each point of a site, at the point's place, if it
-/// has one. Lines that are none, or of no point of the site, are left out, and it is said on standard
-/// error how many. Where the file can't be read, that is said, and no point has a boot.
+/// Reads the file of boots of a folder: for each point of the site, at its index, its boot if it
+/// has one. Skips malformed lines and those of no point of the site, and prints how many. If the
+/// file can't be read, no point has a boot; an error other than a missing file is printed.
 pub fn read_boots<R: Files<File = File> + Eprint + AllocGlobal>(
     rt: &R,
     folder: &str,
@@ -55,6 +55,7 @@ pub fn read_boots<R: Files<File = File> + Eprint + AllocGlobal>(
                 );
             }
         }
+        // A folder has no file of boots until `open_boots` creates it.
         Err(error) if error.kind() == ErrorKind::NotFound => {}
         Err(error) if error.kind() == ErrorKind::OutOfMemory => return Err(AllocError),
         Err(error) => {
@@ -79,8 +80,8 @@ fn read_file<R: Files<File = File> + AllocGlobal>(rt: &R, path: &str) -> io::Res
     Ok(bytes)
 }
 
-/// Takes the boots of these lines. Of two of a point the later one stays. Returns how many lines are
-/// left out, a torn last one among them.
+/// Takes the boots of these lines; of two boots of a point, the later line wins. Returns how many
+/// lines it skips, including a torn last one.
 fn take_lines(boots: &mut Vec<Option<Boot>>, site: &Site, bytes: &[u8]) -> u64 {
     let mut left_out = 0u64;
     let mut rest = bytes;
@@ -100,7 +101,7 @@ fn take_lines(boots: &mut Vec<Option<Boot>>, site: &Site, bytes: &[u8]) -> u64 {
     }
 }
 
-/// Takes the boot of a line. False where it has none.
+/// Takes the boot of a line. Returns false if the line has none of a point of the site.
 fn take_line(boots: &mut Vec<Option<Boot>>, site: &Site, line: &[u8]) -> bool {
     let Ok(text) = std::str::from_utf8(line) else {
         return false;

@@ -1,9 +1,9 @@
-//! Why nothing comes of a folder's journal.
+//! The errors of a folder's journal.
 
 use journal::{HeaderFault, Unrestored};
 use std::alloc::{AllocError, AllocFailed};
 
-/// Why nothing comes of a folder's journal, in the words in which a program says it.
+/// An error of a folder's journal, with the message that a program prints.
 #[derive(Debug, Drop, thiserror::Error)]
 pub enum FolderFault {
     /// Another process runs on the folder.
@@ -21,16 +21,16 @@ pub enum FolderFault {
     /// The clock can't be read.
     #[error("device: clock")]
     Clock,
-    /// A line of the journal that is to name a site file doesn't: the first one has to.
+    /// A line that has to name a site file, as the first line does, is malformed.
     #[error("journal: line {line}: {fault}")]
     Header { line: u64, fault: HeaderFault },
-    /// A line of the journal is no line, or its step isn't made as it was.
+    /// A line of the journal is malformed, or its step can't be repeated as it was made.
     #[error("journal: {0}")]
     Unrestored(Unrestored),
-    /// A line of the journal is longer than any.
+    /// A line of the journal is too long.
     #[error("journal: a line has more than 4194304 bytes")]
     LineTooLong,
-    /// The journal makes a script that is longer than any.
+    /// The script made from the journal is too long.
     #[error("script: ScriptTooLong")]
     ScriptTooLong,
     /// Memory ran out.

@@ -1,4 +1,4 @@
-//! The journal of a site that is run: what sessions note, written to a file and synced.
+//! The journal file of a running site: writes and syncs the entries that sessions note.
 
 ghost use Rattle.std.specs.Prelude.{◌≡◌, IfOk, IfSome};
 ghost use Rattle.journal.specs.Account.{Covers};
@@ -8,13 +8,12 @@ ghost use Rattle.version_store.specs.Recording.{IsAt};
 use crate::reserve_file::ReserveFile;
 use crate::restored_journal::RestoredJournal;
 use crate::said_lines::SaidLines;
-use crate::system_clock::SystemClock;
 use append_log::{LogFault, SystemFile};
 use ghost_list::{ListName, Unnamed};
 use journal::{
     Entry, Journal, JournalFault, Line, MadeStep, Noted, NotedSteps, Receipt, WrittenSteps,
 };
-use ocpp_scalars::{Instant as Moment, Moments, write_instant};
+use ocpp_scalars::{Instant as Moment, Moments, SystemClock, write_instant};
 use site_status::{JournalReport, JournalState, WatchedJournal};
 use std::alloc::{AllocError, AllocGlobal, Global};
 use std::fmt::Display;
@@ -25,77 +24,79 @@ use std::sync::{Condvar, Mutex, Wait};
 use std::time::{Duration, Instant};
 use version_store::RecordedStates;
 
-/// Room for so many entries is kept free: more than all sessions together have prepared and not
-/// noted yet. So a step that was made is always noted.
+/// The number of free places kept for entries: more than all sessions together can have prepared
+/// but not noted. So the entry of a made step is always noted.
 const FREE_ENTRIES: usize = 2_048;
 
-/// After so many seconds it is tried again to write where the device was full.
+/// The interval in seconds between attempts to write while the device is full.
 const RETRY_SECONDS: u64 = 1;
 
-/// A journal that sessions share. Each notes what it changes while it has the book. Whoever waits
-/// for it writes and syncs for all that wait. Where the device is full nothing is noted any more,
-/// and it is tried again until there is room; where it isn't known what stands in the file, it is
-/// broken for good. The states that its lines have to account for are recorded in the ghost list N.
+/// A journal that sessions share. A session notes a change while it holds the book. A session that
+/// waits for the disk writes and syncs for all that wait. While the device is full, nothing more is
+/// noted, and writing is retried until there is room. If the contents of the file become unknown,
+/// the journal is broken for good. The ghost list N records the states that its lines have to
+/// account for.
 #[derive(Drop)]
 pub struct JournalFile<R, N: ListName> {
     rt: R,
     alloc: Global,
-    /// The file's name, for what is said of it.
+    /// The file's name, for messages about it.
     path: String,
     noted: Mutex<NotedEntries<N>>,
-    /// Whether all that was noted is on the disk, and it isn't broken. It is set by whoever has
-    /// `noted`, and read without: most messages change nothing.
+    /// Whether everything noted is on disk and the journal isn't broken. It is set under the lock
+    /// of `noted`, and read without it: most messages change nothing.
     is_kept: AtomicBool,
     written: Mutex<WrittenLines<N>>,
-    /// Whoever waits for another that writes waits here.
+    /// Sessions wait here while another one writes.
     writer_done: Condvar,
-    /// Whoever waits for the journal to be broken waits here.
+    /// `until_broken` waits here until the journal is broken.
     broken: Condvar,
     said: SaidLines,
 }
 
-/// What is noted and not taken to be written yet.
+/// The entries noted but not yet taken for writing, and the state of the file.
 #[derive(Drop)]
 struct NotedEntries<N: ListName> {
     steps: NotedSteps<N>,
-    /// What shows which lines are on the disk.
+    /// The receipt of the last sync, which shows which lines are on disk.
     receipt: Option<Receipt<N>>,
     /// Whether a session writes and syncs for all that wait.
     has_writer: bool,
     state: JournalState,
-    /// How many bytes of the file are on the disk, and how often and how long it was written and synced.
+    /// The number of the file's bytes on disk, the number of syncs, and the total time of writing
+    /// and syncing.
     bytes: u64,
     syncs: u64,
     sync_time: Duration,
 }
 
-/// What was taken to be written, and how far it is.
+/// The entries taken for writing, and how far they are written.
 #[derive(Drop)]
 struct WrittenLines<N: ListName> {
     steps: WrittenSteps<SystemFile, N>,
     reserve: ReserveFile,
 }
 
-/// What else came of an attempt that put all on the disk that was noted.
+/// The outcome of an attempt that put every noted entry on disk.
 #[derive(Drop)]
 enum Kept {
     All,
     /// The device has room again.
     AllAndRoom,
-    /// It stands in the place of the reserve: the device is full.
+    /// The lines took the space of the reserve: the device is full.
     AllButFull(io::Error),
 }
 
-/// Why lines aren't on the disk.
+/// Why lines aren't on disk.
 #[derive(Drop)]
 enum KeepFault {
     Log(LogFault),
     OutOfMemory,
-    /// What was noted doesn't go on with what is written. It never comes to that.
+    /// The noted entries don't continue from the written ones. This never happens.
     StepMissing,
 }
 
-/// What is said of a journal in which a step is missing.
+/// The message about a journal in which a step is missing.
 const STEP_MISSING: &str = "a step was made that wasn't noted";
 
 impl From<LogFault> for KeepFault {
@@ -111,8 +112,8 @@ impl From<AllocError> for KeepFault {
 }
 
 impl<R: Wait + Clock + Eprint + AllocGlobal + Drop, N: ListName> JournalFile<R, N> {
-    /// The journal that was restored, to which these lines are to be added. They lead to the last
-    /// of these states. What it has at each sync is known under the last name.
+    /// Makes the journal that continues a restored one, and adds these lines to it. They lead to
+    /// the last of these states. The name `syncs` is that of the list of its contents at each sync.
     pub fn make(
         rt: R,
         restored: RestoredJournal,
@@ -155,14 +156,14 @@ impl<R: Wait + Clock + Eprint + AllocGlobal + Drop, N: ListName> JournalFile<R, 
         })
     }
 
-    /// Writes and syncs all that was noted by now.
+    /// Writes and syncs everything noted by now.
     pub fn keep_all(&self) -> Result<(), JournalFault> {
         self.keep_with(&mut self.written.lock(&self.rt))
     }
 
-    /// Waits until all lines are on the disk that lead to these states. One session writes and syncs
-    /// for all that wait: when it is done, those whose entries it wrote go on, and one of the others
-    /// writes.
+    /// Waits until all lines that lead to these states are on disk. One session writes and syncs
+    /// for all that wait. When it is done, the sessions whose entries it wrote continue, and one of
+    /// the others writes.
     fn keep_up_to(&self, recorded: &RecordedStates<N>) -> Result<Receipt<N>, JournalFault>
         ensures { IfOk result (λ receipt. Covers N.is_recorded receipt recorded.now) }
     {
@@ -188,8 +189,8 @@ impl<R: Wait + Clock + Eprint + AllocGlobal + Drop, N: ListName> JournalFile<R, 
         receipt.ok_or(JournalFault::Unwritable)
     }
 
-    /// Returns once the journal is broken. Until then it is tried again now and then to write where
-    /// the device was full.
+    /// Returns once the journal is broken. Until then it regularly retries writing while the device
+    /// is full.
     pub fn until_broken(&self) {
         for _ in self.rt.forever() {
             let noted = self.noted.lock(&self.rt);
@@ -203,6 +204,8 @@ impl<R: Wait + Clock + Eprint + AllocGlobal + Drop, N: ListName> JournalFile<R, 
             drop(noted);
             match state {
                 JournalState::Broken => {
+                    // The program ends next: without the wait it could end before the reason is
+                    // printed.
                     self.said.settle(&self.rt);
                     return;
                 }
@@ -214,8 +217,8 @@ impl<R: Wait + Clock + Eprint + AllocGlobal + Drop, N: ListName> JournalFile<R, 
         }
     }
 
-    /// Writes and syncs all that was noted by now, for all that wait. What may be noted since is told
-    /// before somebody else has the file.
+    /// Writes and syncs everything noted by now, for all that wait. Sets the new state of the
+    /// journal before another thread can get the file.
     fn keep_with(&self, written: &mut WrittenLines<N>) -> Result<(), JournalFault> {
         match self.try_to_keep(written) {
             Ok(Kept::All) => Ok(()),
@@ -234,6 +237,8 @@ impl<R: Wait + Clock + Eprint + AllocGlobal + Drop, N: ListName> JournalFile<R, 
                 Err(JournalFault::Unwritable)
             }
             Err(KeepFault::Log(LogFault::Failed(error))) => {
+                // A failed write or sync leaves the contents of the file unknown, so it is never
+                // retried.
                 self.turn(JournalState::Broken, &error);
                 Err(JournalFault::Unwritable)
             }
@@ -244,9 +249,9 @@ impl<R: Wait + Clock + Eprint + AllocGlobal + Drop, N: ListName> JournalFile<R, 
         }
     }
 
-    /// Writes and syncs all that was noted by now.
+    /// Writes and syncs everything noted by now.
     fn try_to_keep(&self, written: &mut WrittenLines<N>) -> Result<Kept, KeepFault> {
-        // Those that there was no memory for come first.
+        // Entries whose lines failed for lack of memory come first.
         written.steps.add_lines(FREE_ENTRIES)?;
         self.take_noted(written)?;
         written.steps.add_lines(FREE_ENTRIES)?;
@@ -254,6 +259,7 @@ impl<R: Wait + Clock + Eprint + AllocGlobal + Drop, N: ListName> JournalFile<R, 
         let (receipt, kept) = written.write_and_sync()?;
         let synced = written.synced();
         let mut noted = self.noted.lock(&self.rt);
+        // Entries noted during the sync aren't on disk yet: the flag then stays false.
         if receipt.covers(noted.steps.last()) && noted.state != JournalState::Broken {
             self.is_kept.store(true, Ordering::SeqCst);
         }
@@ -263,14 +269,14 @@ impl<R: Wait + Clock + Eprint + AllocGlobal + Drop, N: ListName> JournalFile<R, 
         }
         let was_full = noted.state == JournalState::Full;
         drop(noted);
-        // While it is full nobody notes anything, so there is time for the reserve.
+        // While the device is full, no entry is noted, so there is time to fill the reserve.
         if was_full && matches!(kept, Kept::All) && written.reserve.fill() {
             return Ok(Kept::AllAndRoom);
         }
         Ok(kept)
     }
 
-    /// How long ago a moment was, or nothing where no clock tells it.
+    /// Returns the time since a moment, or zero if the clock can't be read.
     fn time_since(&self, moment: Option<Instant>) -> Duration {
         let (Some(moment), Ok(now)) = (moment, Instant::now(&self.rt)) else {
             return Duration::ZERO;
@@ -278,7 +284,7 @@ impl<R: Wait + Clock + Eprint + AllocGlobal + Drop, N: ListName> JournalFile<R, 
         now.checked_duration_since(moment).unwrap_or_default()
     }
 
-    /// Takes what was noted by now. What was taken before has its lines.
+    /// Takes the entries noted by now. Those taken before already have their lines.
     fn take_noted(&self, written: &mut WrittenLines<N>) -> Result<(), KeepFault> {
         let mut noted = self.noted.lock(&self.rt);
         if written.steps.take(&mut noted.steps) {
@@ -288,13 +294,13 @@ impl<R: Wait + Clock + Eprint + AllocGlobal + Drop, N: ListName> JournalFile<R, 
         }
     }
 
-    /// From now on this may be noted, or nothing more, for a reason that is said if it is news.
+    /// Sets the state of the journal, and reports the reason if the state is new.
     fn turn<W: Display>(&self, state: JournalState, why: &W) {
         self.turn_noted(&mut self.noted.lock(&self.rt), state, why);
     }
 
-    /// The same, for whoever has what was noted. What is broken stays so, and whoever waits for that
-    /// finds the reason among the lines that are said.
+    /// Does the same with `noted` already locked. A broken journal stays broken. The reason is
+    /// among the lines to print before `until_broken` wakes.
     fn turn_noted<W: Display>(&self, noted: &mut NotedEntries<N>, state: JournalState, why: &W) {
         if noted.state != state && noted.state != JournalState::Broken {
             noted.state = state;
@@ -308,7 +314,7 @@ impl<R: Wait + Clock + Eprint + AllocGlobal + Drop, N: ListName> JournalFile<R, 
         }
     }
 
-    /// A line that says at which moment what became of the file.
+    /// Builds a timestamped log line about the file.
     fn line_of<W: Display>(&self, what: &W) -> Result<String, AllocError> {
         let path = self.path.as_str();
         let moment = match (SystemClock { rt: &self.rt }).now() {
@@ -321,19 +327,20 @@ impl<R: Wait + Clock + Eprint + AllocGlobal + Drop, N: ListName> JournalFile<R, 
         }
     }
 
-    /// Writes what is said of it to standard error for ever. Nobody else waits for whoever reads that.
+    /// Writes the lines about the journal to standard error, forever. No other thread waits for the
+    /// reader of standard error.
     pub fn write_lines(&self) {
         self.said.write_all(&self.rt);
     }
 
-    /// Writes what was said of it by now.
+    /// Writes the lines about the journal that wait by now.
     pub(crate) fn write_said(&self) {
         self.said.write_waiting(&self.rt);
     }
 }
 
 impl<N: ListName> NotedEntries<N> {
-    /// Whether all lines are on the disk that lead to these states.
+    /// Returns whether all lines that lead to these states are on disk.
     fn has_kept(&self, recorded: &RecordedStates<N>) -> bool {
         match &self.receipt {
             Some(receipt) => receipt.covers(recorded),
@@ -341,7 +348,7 @@ impl<N: ListName> NotedEntries<N> {
         }
     }
 
-    /// What shows that they are, if they are.
+    /// Returns a receipt that covers these states, if their lines are on disk.
     fn receipt_for(&self, recorded: &RecordedStates<N>) -> Option<Receipt<N>>
         ensures { IfSome result (λ receipt. Covers N.is_recorded receipt recorded.now) }
     {
@@ -352,7 +359,7 @@ impl<N: ListName> NotedEntries<N> {
         None
     }
 
-    /// The file was written and synced, which took this time. So many of its bytes are on the disk.
+    /// Counts a write and sync that took this time and left this many bytes on disk.
     fn count_sync(&mut self, bytes: u64, time: Duration) {
         self.bytes = bytes;
         self.syncs = self.syncs.saturating_add(1);
@@ -361,13 +368,13 @@ impl<N: ListName> NotedEntries<N> {
 }
 
 impl<N: ListName> WrittenLines<N> {
-    /// How many bytes of the file are on the disk.
+    /// Returns how many bytes of the file are on disk.
     fn synced(&self) -> u64 {
         self.steps.file().synced_bytes()
     }
 
-    /// Writes the lines that aren't in the file, and syncs it. Where the device is full the reserve
-    /// is given up for them.
+    /// Writes the lines that aren't in the file, and syncs it. If the device is full, gives up the
+    /// reserve for them.
     fn write_and_sync(&mut self) -> Result<(Receipt<N>, Kept), KeepFault> {
         match self.steps.write_and_sync() {
             Ok(receipt) => Ok((receipt, Kept::All)),
@@ -397,6 +404,7 @@ impl<R: Wait + Clock + Eprint + AllocGlobal + Drop, N: ListName> Journal<N> for 
         if noted.state != JournalState::Open {
             return Err(JournalFault::Unwritable);
         }
+        // Room is made before the step: once the step is made, noting its entry can't fail.
         noted.steps.reserve(FREE_ENTRIES)?;
         Ok(Some(entry))
     }
@@ -412,6 +420,7 @@ impl<R: Wait + Clock + Eprint + AllocGlobal + Drop, N: ListName> Journal<N> for 
             after: after.copy(),
         };
         let mut noted = self.noted.lock(&self.rt);
+        // The step's lock on the book is still held: a session that sees its state sees this too.
         self.is_kept.store(false, Ordering::SeqCst);
         if !noted.steps.note(step) {
             self.turn_noted(&mut noted, JournalState::Broken, &STEP_MISSING);
@@ -447,7 +456,7 @@ impl<R: Wait, N: ListName> WatchedJournal for JournalFile<R, N> {
             state: noted.state,
             bytes: noted.bytes,
             syncs: noted.syncs,
-            // More than the longest is told as that.
+            // Saturates.
             sync_microseconds: u64::try_from(noted.sync_time.as_micros()).unwrap_or(u64::MAX),
         }
     }

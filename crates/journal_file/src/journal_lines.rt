@@ -1,4 +1,4 @@
-//! The lines of a journal, read from its file part by part.
+//! Reads the lines of a journal from its file, part by part.
 
 use crate::folder_fault::FolderFault;
 use crate::named_file::NamedFile;
@@ -6,47 +6,48 @@ use journal::{HeaderFault, read_header, split_line, whole_lines};
 use std::alloc::{AllocError, Global};
 use std::mem;
 
-/// So many bytes are read at a time. No line is so long.
+/// The number of bytes of one read. Every line is shorter.
 const PART: u64 = 4 * 1_048_576;
 
-/// So many lines are handed out at a time at most, so that whoever waits can be told how far it is.
+/// The greatest number of lines handed out at a time, so that a command can print its progress in
+/// between.
 const MOST_LINES: usize = 1_024;
 
-/// How a line begins that names a site file, the first line among them. The others begin with an
-/// instant.
+/// The beginning of a line that names a site file, as the first line does. The other lines begin
+/// with an instant.
 const SITE_LINE: &[u8] = b"central journal ";
 
-/// The length of such a line.
+/// The length of such a line in bytes.
 const SITE_LINE_BYTES: usize = 89;
 
 /// The whole lines of a journal, as they are read.
 #[derive(Drop)]
 pub struct JournalLines {
     alloc: Global,
-    /// What was read behind the last whole line.
+    /// The bytes read after the last whole line.
     torn: Vec<u8>,
-    /// Whole lines that weren't handed out.
+    /// The whole lines not yet handed out.
     ahead: Vec<u8>,
-    /// The lines that were handed out last.
+    /// The lines handed out last.
     steps: Vec<u8>,
-    /// How many bytes and lines were handed out in all, those that name site files too.
+    /// The numbers of bytes and lines handed out in all, including lines that name site files.
     length: u64,
     count: u64,
-    /// The digest of the site file with which the lines go on that were handed out last.
+    /// The digest of the site file that applies to the lines handed out last.
     site: Option<[u8; 32]>,
     is_at_end: bool,
 }
 
-/// Part of a journal's lines: each of them is whole, and notes a step.
+/// A part of a journal's lines. Each line is whole, and notes a step.
 #[derive(Clone, Copy)]
 pub struct Lines<'a> {
-    /// The number of the first one, counted from 1 with all lines of the journal.
+    /// The number of the first line, counted from 1 over all lines of the journal.
     pub first: u64,
     pub bytes: &'a [u8],
 }
 
 impl JournalLines {
-    /// The lines of a file from its beginning.
+    /// Returns a reader at the beginning of a file.
     pub fn new(alloc: Global) -> JournalLines {
         JournalLines {
             alloc,
@@ -60,8 +61,8 @@ impl JournalLines {
         }
     }
 
-    /// The next lines, or None behind the last one. The first line of the file has to name a site
-    /// file; a file without a whole line may be the beginning of such a line.
+    /// Returns the next lines, or None after the last one. The first line of the file has to name a
+    /// site file. A file without a whole line may hold the beginning of such a line.
     pub fn next<R: Eprint>(
         &mut self,
         rt: &R,
@@ -89,28 +90,29 @@ impl JournalLines {
         Ok(Some(Lines { first, bytes }))
     }
 
-    /// The digest of the site file with which the journal goes on behind the lines that were handed
-    /// out. None where the file has no whole line.
+    /// Returns the digest of the site file that applies after the lines handed out. None if the
+    /// file has no whole line.
     pub fn site(&self) -> Option<[u8; 32]> {
         self.site
     }
 
-    /// How many bytes the whole lines have that were handed out.
+    /// Returns how many bytes the lines handed out have.
     pub fn length(&self) -> u64 {
         self.length
     }
 
-    /// How many lines were handed out.
+    /// Returns how many lines were handed out.
     pub fn count(&self) -> u64 {
         self.count
     }
 
-    /// How many bytes stand behind the last whole line, once that was handed out.
+    /// Returns how many bytes follow the last whole line, once that is handed out.
     pub fn torn(&self) -> usize {
         self.torn.len()
     }
 
-    /// Reads the next part of the file, where no line is ahead. Returns whether it has one.
+    /// Reads the next part of the file, once all lines read before are handed out. Returns whether
+    /// it has a whole line.
     fn read_part<R: Eprint>(
         &mut self,
         rt: &R,
@@ -120,6 +122,7 @@ impl JournalLines {
             return Ok(false);
         }
         let count = journal.append_to(rt, &mut self.torn, PART)?;
+        // `read_to_end` returns fewer bytes only at the end of the file.
         self.is_at_end = (count as u64) < PART;
         let read = mem::replace(&mut self.torn, Vec::new(self.alloc));
         let (whole, torn) = whole_lines(read.as_slice());
@@ -131,8 +134,8 @@ impl JournalLines {
         Ok(!whole.is_empty())
     }
 
-    /// Refuses a part without a whole line, but for the end of a journal. A file of another kind
-    /// isn't taken for a journal that was begun.
+    /// Refuses a part without a whole line, except at the end of a journal. So a file of another
+    /// kind isn't taken for the beginning of a journal.
     fn check_torn(&self) -> Result<(), FolderFault> {
         if !self.is_at_end {
             return Err(FolderFault::LineTooLong);
@@ -145,8 +148,7 @@ impl JournalLines {
         Ok(())
     }
 
-    /// Takes the next lines that come before one that names a site file. Returns whether there are
-    /// any.
+    /// Takes the next lines, up to one that names a site file. Returns whether there are any.
     fn take_steps(&mut self) -> Result<bool, AllocError> {
         let ahead = mem::replace(&mut self.ahead, Vec::new(self.alloc));
         let (steps, rest) = steps_before_site(ahead.as_slice());
@@ -155,7 +157,7 @@ impl JournalLines {
         Ok(!steps.is_empty())
     }
 
-    /// Takes the line that is ahead, which has to name a site file.
+    /// Takes the next line, which has to name a site file.
     fn take_site(&mut self) -> Result<(), FolderFault> {
         let ahead = mem::replace(&mut self.ahead, Vec::new(self.alloc));
         let Some((line, rest)) = split_line(ahead.as_slice()) else {
@@ -177,7 +179,7 @@ impl JournalLines {
         Ok(())
     }
 
-    /// The line that is ahead names no site file.
+    /// Returns the fault of the next line, which doesn't name a site file.
     fn no_site_line(&self, fault: HeaderFault) -> FolderFault {
         FolderFault::Header {
             line: self.count.saturating_add(1),
@@ -192,7 +194,7 @@ fn copied(alloc: Global, bytes: &[u8]) -> Result<Vec<u8>, AllocError> {
     Ok(copy)
 }
 
-/// The next lines that come before one that names a site file, and the rest.
+/// Returns the next lines, at most MOST_LINES, before one that names a site file, and the rest.
 fn steps_before_site(whole: &[u8]) -> (&[u8], &[u8]) {
     let mut rest = whole;
     for _line in 0..MOST_LINES {
@@ -205,7 +207,7 @@ fn steps_before_site(whole: &[u8]) -> (&[u8], &[u8]) {
     (whole.split_at(steps).0, rest)
 }
 
-/// How many lines a text of whole lines has.
+/// Counts the lines of a text of whole lines.
 fn count_lines(text: &[u8]) -> u64 {
     let mut count = 0u64;
     for byte in text {

@@ -1,4 +1,4 @@
-//! A journal as a script: for people, and for the commands that read one.
+//! A journal in the form of a script, for people and for the commands that read one.
 
 ghost use Rattle.std.specs.Prelude.{◌≤◌, IfOk, vec_len};
 ghost use Rattle.replay.specs.Limits.{max_script_bytes};
@@ -17,7 +17,7 @@ use std::io;
 use std::io::Write;
 use std::rt::Files;
 
-/// A message that the point of a call may have sent before it. It changes nothing.
+/// A message that a point may have sent before a call to it. It changes nothing.
 const BEFORE_A_CALL: &str = "[2,\"\",\"Heartbeat\",{}]";
 
 /// Prints the journal of a folder as a script.
@@ -35,7 +35,7 @@ pub fn print_journal<R: Files<File = File> + Print + Eprint + AllocGlobal>(
         let bytes = script.as_str().as_bytes();
         match writer.write_all(bytes).and_then(|()| writer.flush()) {
             Ok(()) => {}
-            // A reader that left, as `head` does, has what it wanted.
+            // A reader that closes the pipe, as `head` does, has all it wanted.
             Err(error) if error.kind() == io::ErrorKind::BrokenPipe => return Ok(()),
             Err(_) => return Err(FolderFault::Print),
         }
@@ -44,7 +44,7 @@ pub fn print_journal<R: Files<File = File> + Print + Eprint + AllocGlobal>(
     Ok(())
 }
 
-/// The journal of a folder as a script, which may have as many bytes as any.
+/// Reads the journal of a folder as a script of at most MAX_SCRIPT_BYTES bytes.
 pub fn read_journal_script<R: Files<File = File> + Eprint + AllocGlobal>(
     rt: &R,
     folder: &str,
@@ -70,8 +70,8 @@ pub fn read_journal_script<R: Files<File = File> + Eprint + AllocGlobal>(
     Ok(bytes)
 }
 
-/// Says that a journal ends in a line that is torn, if it does. Whoever runs on it may be writing
-/// that line.
+/// Prints a note if a journal ends in a torn line. A running central system may be writing that
+/// line.
 pub fn say_torn<R: Eprint>(rt: &R, file: &NamedFile, journal: &JournalLines) {
     let torn = journal.torn();
     if torn > 0 {
@@ -82,7 +82,7 @@ pub fn say_torn<R: Eprint>(rt: &R, file: &NamedFile, journal: &JournalLines) {
     }
 }
 
-/// A line of this number that isn't one of a journal.
+/// Returns the fault of a line of this number that isn't a journal line.
 pub fn unread(line: u64, fault: LineFault) -> FolderFault {
     FolderFault::Unrestored(Unrestored {
         line,
@@ -90,7 +90,7 @@ pub fn unread(line: u64, fault: LineFault) -> FolderFault {
     })
 }
 
-/// A journal whose lines become those of a script.
+/// A journal that is read as lines of a script.
 #[derive(Drop)]
 struct ScriptReading {
     alloc: Global,
@@ -107,7 +107,7 @@ impl ScriptReading {
         }
     }
 
-    /// The script's lines for the next lines of the journal, or None behind the last one.
+    /// Returns the script's lines for the next lines of the journal, or None after the last one.
     fn next<R: Eprint>(
         &mut self,
         rt: &R,
@@ -124,7 +124,7 @@ impl ScriptReading {
     }
 }
 
-/// Appends the script's lines for lines of a journal.
+/// Appends the script's lines for these lines of a journal.
 fn push_lines(
     script: &mut String,
     lines: Lines<'_>,
@@ -157,17 +157,17 @@ fn push_line(
     }
 }
 
-/// The lines of a journal's script that were taken in.
+/// Counts the lines of a journal's script as they are taken in.
 #[derive(Drop)]
 pub struct ScriptLines {
     alloc: Global,
     count: u64,
-    /// The point whose message is the last line, if that is a point's.
+    /// The point that sent the message of the last line, unless an operator did.
     sender: Option<String>,
 }
 
 impl ScriptLines {
-    /// None yet.
+    /// Returns the state before any line.
     pub fn new(alloc: Global) -> ScriptLines {
         ScriptLines {
             alloc,
@@ -176,14 +176,15 @@ impl ScriptLines {
         }
     }
 
-    /// How many there are. `central journal` prints the last one under this number.
+    /// Returns the number of lines so far. It is the number of the last one in the output of
+    /// `central journal`.
     pub fn count(&self) -> u64 {
         self.count
     }
 
-    /// Takes in a line of the journal. Returns the message of the script's line for it, and whose it
-    /// is, if it has one. A call goes out behind each message of a point. So where it went out
-    /// otherwise, the point says something before it.
+    /// Takes in a line of the journal. Returns the side and the message of its script line, if it
+    /// has one. Replaying a script sends a call after each message of the point. For a call sent at
+    /// another time, the script has a message of the point that changes nothing.
     pub fn take_in<'a>(&mut self, line: &Line<'a>) -> Result<Option<(Side, &'a str)>, AllocError> {
         let (side, frame) = match line.noted {
             Noted::Message { sender, frame, .. } => (sender, frame),
@@ -200,7 +201,7 @@ impl ScriptLines {
         Ok(Some((side, frame)))
     }
 
-    /// Whether the last line is from this point.
+    /// Returns whether the last line is from this point.
     fn is_from(&self, point: &str) -> bool {
         match &self.sender {
             Some(sender) => sender.as_str() == point,
@@ -209,7 +210,7 @@ impl ScriptLines {
     }
 }
 
-/// Appends a message as a line of a script. One that is too long for a line becomes `[]`.
+/// Appends a message as a line of a script. A message that is too long for a line becomes `[]`.
 fn push_message(
     script: &mut String,
     line: &Line<'_>,

@@ -1,5 +1,5 @@
-//! The folder in which `central run` keeps a site: its journal, written, synced, restored, and read
-//! while the site is run; and which points booted.
+//! The folder in which `central run` keeps a site: its journal, which is written, synced, restored,
+//! and read while the site runs; and the file of boots.
 #![tactic(auto)]
 
 mod boots_file;
@@ -15,7 +15,6 @@ mod restored_journal;
 mod restoring;
 mod said_lines;
 mod script_end;
-mod system_clock;
 
 pub use boots_file::{open_boots, read_boots};
 pub use folder_fault::FolderFault;
@@ -26,4 +25,3 @@ pub use named_file::{NamedFile, or_stop};
 pub use opening::{OpenJournal, open_journal, open_to_read};
 pub use restoring::{Resumed, restore_shared, say_other_site};
 pub use script_end::ScriptEnd;
-pub use system_clock::SystemClock;

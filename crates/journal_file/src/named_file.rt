@@ -1,4 +1,4 @@
-//! A file with its name, for what is said of it.
+//! A file with its name, for error messages.
 
 use crate::folder_fault::FolderFault;
 use std::alloc::AllocError;
@@ -6,7 +6,7 @@ use std::fs::File;
 use std::io;
 use std::io::{ErrorKind, Read};
 
-/// An open file, and its name.
+/// An open file and its name.
 #[derive(Drop)]
 pub struct NamedFile {
     pub file: File,
@@ -14,8 +14,8 @@ pub struct NamedFile {
 }
 
 impl NamedFile {
-    /// Appends the next bytes of the file, so many where it has them. Returns how many came: fewer
-    /// at its end.
+    /// Appends the next bytes of the file, at most `most`. Returns how many it read, which is fewer
+    /// only at the end of the file.
     pub fn append_to<R: Eprint>(
         &mut self,
         rt: &R,
@@ -27,8 +27,9 @@ impl NamedFile {
     }
 }
 
-/// What the system did with a file or an address of this name. Where it didn't, the name and the
-/// system's cause are said on standard error, and the program stops by this fault.
+/// Returns the value if the system call on a file or an address of this name succeeded. Otherwise
+/// prints the name and the system's error to standard error, and returns this fault. A failed
+/// allocation has its own fault, and nothing is printed.
 pub fn or_stop<T, F: From<AllocError> + Drop, R: Eprint>(
     rt: &R,
     name: &str,

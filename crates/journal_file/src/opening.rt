@@ -1,4 +1,4 @@
-//! The folder of a site that is run: its journal, which one process at a time has.
+//! The folder of a running site. One process at a time owns its journal.
 
 use crate::folder_fault::FolderFault;
 use crate::named_file::{NamedFile, or_stop};
@@ -10,20 +10,21 @@ use std::io::ErrorKind;
 use std::os::unix::fs::{DirBuilderExt, OpenOptionsExt};
 use std::rt::Files;
 
-/// The mode of a file that is made: it has idTags, so only its owner reads and writes it.
+/// The mode of a new file: it has idTags, so only its owner may read and write it.
 pub const OWN_FILE: u32 = 0o600;
 
-/// The mode of a folder that is made.
+/// The mode of a new folder.
 const OWN_FOLDER: u32 = 0o700;
 
-/// The journal of a folder, open and locked: no other process runs on it.
+/// The journal of a folder, open and locked, so that no other process runs on it.
 #[derive(Drop)]
 pub struct OpenJournal {
     pub lines: NamedFile,
     pub reserve: ReserveFile,
 }
 
-/// Opens the journal of a folder, for this process alone. What isn't there yet is made.
+/// Opens the journal of a folder for this process alone. Creates the folder and files that are
+/// missing.
 pub fn open_journal<R: Files<File = File> + Eprint + AllocGlobal>(
     rt: &R,
     folder: &str,
@@ -38,6 +39,7 @@ pub fn open_journal<R: Files<File = File> + Eprint + AllocGlobal>(
         .mode(OWN_FILE)
         .open(rt, path.as_str());
     let file = or_stop(rt, path.as_str(), opened, FolderFault::Write)?;
+    // The kernel releases this lock when the process ends, so a killed one leaves none behind.
     match file.try_lock() {
         Ok(()) => {}
         Err(TryLockError::WouldBlock) => return Err(FolderFault::InUse),
@@ -45,7 +47,7 @@ pub fn open_journal<R: Files<File = File> + Eprint + AllocGlobal>(
             or_stop(rt, path.as_str(), Err(error), FolderFault::Write)?
         }
     }
-    // The folder is to have the file after a power cut, too.
+    // Without this a power cut can lose a new file's entry in the folder.
     let synced = sync_folder(rt, folder);
     or_stop(rt, folder, synced, FolderFault::Write)?;
     let reserve = path_in(rt.alloc(), folder, "reserve")?;
@@ -55,7 +57,7 @@ pub fn open_journal<R: Files<File = File> + Eprint + AllocGlobal>(
     })
 }
 
-/// Makes a folder where it isn't there. The one above it is to have it after a power cut, too.
+/// Creates a folder if needed. Syncs the one above it, so that a power cut can't lose the new one.
 fn make_folder<R: Files<File = File> + Eprint + AllocGlobal>(
     rt: &R,
     folder: &str,
@@ -70,7 +72,7 @@ fn make_folder<R: Files<File = File> + Eprint + AllocGlobal>(
     or_stop(rt, above.as_str(), synced, FolderFault::Write)
 }
 
-/// Opens the journal of a folder to read it, while it is written too.
+/// Opens the journal of a folder for reading. A running central system may write to it meanwhile.
 pub fn open_to_read<R: Files<File = File> + Eprint + AllocGlobal>(
     rt: &R,
     folder: &str,
@@ -81,12 +83,12 @@ pub fn open_to_read<R: Files<File = File> + Eprint + AllocGlobal>(
     Ok(NamedFile { file, path })
 }
 
-/// The name of the journal in a folder.
+/// Returns the path of the journal in a folder.
 fn journal_path(alloc: Global, folder: &str) -> Result<String, AllocError> {
     path_in(alloc, folder, "journal")
 }
 
-/// The name of a file in a folder.
+/// Returns the path of a file in a folder.
 pub fn path_in(alloc: Global, folder: &str, name: &str) -> Result<String, AllocError> {
     let mut path = String::from_str(alloc, folder)?;
     if !folder.ends_with('/') {

@@ -1,4 +1,4 @@
-//! The calls that points rejected, by the lines of a journal.
+//! The calls that points rejected, according to the lines of a journal.
 
 use journal::{Line, Noted, read_bytes};
 use messages::{ActionKind, ReplyStatus, is_accepted};
@@ -8,17 +8,17 @@ use site_status::{RejectedCalls, Rejection};
 use std::alloc::{AllocError, Global};
 use texts::rejection_in;
 
-/// What the points of a site rejected, by the lines that were taken in.
+/// The calls that the points of a site rejected, according to the lines taken in.
 #[derive(Drop)]
 pub struct Rejections {
     alloc: Global,
     memory: ReadingMemory,
-    /// Of each point, at its place in the site.
+    /// The rejected calls of each point, at its index in the site.
     points: Vec<RejectedCalls>,
 }
 
 impl Rejections {
-    /// None yet, at so many points.
+    /// Returns no rejected calls, for this many points.
     pub fn new(alloc: Global, points: usize) -> Result<Rejections, AllocError> {
         let mut none = Vec::with_capacity(alloc, points)?;
         for _point in 0..points {
@@ -31,12 +31,12 @@ impl Rejections {
         })
     }
 
-    /// What each point rejected.
+    /// Returns the rejected calls of each point.
     pub fn into_points(self) -> Vec<RejectedCalls> {
         self.points
     }
 
-    /// Whether a line is a point's reply that doesn't accept the call that it confirms.
+    /// Returns whether a line is a point's reply that doesn't accept the call it confirms.
     pub fn is_of_rejection(&mut self, line: &[u8]) -> Result<bool, AllocError> {
         match read_bytes(line) {
             Ok(line) => self.rejects(&line),
@@ -55,7 +55,7 @@ impl Rejections {
         }
     }
 
-    /// Takes in such a line, with the state of the site before it.
+    /// Takes in such a line, given the state of the site before it.
     pub fn take_in(&mut self, machine: &Machine, line: &[u8]) -> Result<(), AllocError> {
         match read_bytes(line) {
             Ok(line) => self.take_reply(machine, &line),
@@ -88,7 +88,7 @@ impl Rejections {
     }
 }
 
-/// The message of a point's reply that confirmed its call, where a line is of one.
+/// Returns the reply by which a point confirmed its call, if a line has one.
 fn reply_in<'a>(line: &Line<'a>) -> Option<&'a str> {
     match line.noted {
         Noted::Reply { frame, .. } => Some(frame),
@@ -96,7 +96,7 @@ fn reply_in<'a>(line: &Line<'a>) -> Option<&'a str> {
     }
 }
 
-/// What the first call of an outbox asks.
+/// Returns the action of the first call of an outbox.
 fn first_action(alloc: Global, outbox: &Outbox) -> Result<Option<ActionKind>, AllocError> {
     match outbox.bodies(alloc)?.into_iter().next() {
         Some(body) => Ok(Some(body.kind())),
@@ -104,7 +104,7 @@ fn first_action(alloc: Global, outbox: &Outbox) -> Result<Option<ActionKind>, Al
     }
 }
 
-/// Whether what a point said leaves nothing undone of its call.
+/// Returns whether a reply with this reason leaves nothing of the call undone.
 fn is_done(action: Option<ActionKind>, reason: &str) -> bool {
     match (action, ReplyStatus::named(reason)) {
         (Some(action), Some(status)) => status.is_done(action),

@@ -1,4 +1,4 @@
-//! Room on the device that is set aside for the journal.
+//! Disk space reserved for the journal.
 
 use crate::opening::OWN_FILE;
 use std::fs::{File, OpenOptions};
@@ -7,25 +7,25 @@ use std::io::{Seek, SeekFrom, Write};
 use std::os::unix::fs::OpenOptionsExt;
 use std::rt::Files;
 
-/// How many bytes are set aside.
+/// The number of reserved bytes.
 const RESERVED: u64 = 1_048_576;
 
-/// So many are written at a time.
+/// The zeros of one write.
 const ZEROS: [u8; 4_096] = [0; 4_096];
 
-/// A file whose room is given up where the device is full, so that what was noted by then is
-/// written. From then on no more is noted, until it is set aside anew: so what needs nothing noted
-/// goes on.
+/// A file whose space is given up when the device is full, so that the entries noted by then can be
+/// written. After that nothing is noted until the space is reserved again, so requests that need no
+/// entry are still answered.
 #[derive(Drop)]
 pub struct ReserveFile {
-    /// None where the device had no room for it at the start.
+    /// None if the device had no room for it at the start.
     file: Option<File>,
     is_filled: bool,
 }
 
 impl ReserveFile {
-    /// The reserve in the file of a name. Where the device has no room for it there is none, which
-    /// is said on standard error, and nothing else changes.
+    /// Reserves space in the file of this name. If the device has no room, prints that to standard
+    /// error, and returns an empty reserve: nothing else changes.
     pub fn make<R: Files<File = File> + Eprint>(rt: &R, path: &str) -> ReserveFile {
         match make_filled(rt, path) {
             Ok(file) => ReserveFile {
@@ -42,7 +42,7 @@ impl ReserveFile {
         }
     }
 
-    /// Sets the room aside anew. Returns whether there is as much as at the start.
+    /// Reserves the space again. Returns whether there is as much as at the start.
     pub fn fill(&mut self) -> bool {
         if let Some(file) = &mut self.file {
             if !self.is_filled {
@@ -53,7 +53,7 @@ impl ReserveFile {
         true
     }
 
-    /// Gives the room up. Returns whether there was any.
+    /// Gives up the space. Returns whether there was any.
     pub fn give_up(&mut self) -> bool {
         let was_filled = self.is_filled;
         self.is_filled = false;
@@ -64,7 +64,7 @@ impl ReserveFile {
     }
 }
 
-/// The file of a name, which is made where it isn't there, filled with zeros.
+/// Opens the file of this name, creates it if needed, and fills it with zeros.
 fn make_filled<R: Files<File = File>>(rt: &R, path: &str) -> io::Result<File> {
     let mut options = OpenOptions::new();
     let mut file = options
@@ -76,8 +76,8 @@ fn make_filled<R: Files<File = File>>(rt: &R, path: &str) -> io::Result<File> {
     Ok(file)
 }
 
-/// Fills a file with zeros, so that the device has the room for them. Where it hasn't, the file is
-/// emptied: a part is of no use.
+/// Fills a file with zeros, so that the device allocates its space. If there is too little, empties
+/// the file: a part is of no use.
 fn fill(file: &mut File) -> io::Result<()> {
     let filled = write_zeros(file);
     if filled.is_err() {
@@ -86,8 +86,9 @@ fn fill(file: &mut File) -> io::Result<()> {
     filled
 }
 
-/// Writes the zeros that are set aside.
+/// Writes the reserved number of zeros.
 fn write_zeros(file: &mut File) -> io::Result<()> {
+    // Extending the file with `set_len` would allocate no blocks.
     file.seek(SeekFrom::Start(0))?;
     for _part in 0..RESERVED / ZEROS.len() as u64 {
         file.write_all(&ZEROS)?;

@@ -1,4 +1,4 @@
-//! The journal of a folder, once it is restored.
+//! The journal of a folder after its lines are restored.
 
 use crate::folder_fault::FolderFault;
 use crate::journal_lines::JournalLines;
@@ -8,18 +8,18 @@ use crate::reserve_file::ReserveFile;
 use append_log::{Log, SystemFile};
 use std::alloc::AllocGlobal;
 
-/// A journal that goes on behind the lines that were restored, which are on the disk.
+/// A journal that continues after the restored lines, which are on disk.
 #[derive(Drop)]
 pub struct RestoredJournal {
     pub log: Log<SystemFile>,
-    /// The file's name, for what is said of it.
+    /// The file's name, for messages about it.
     pub path: String,
     pub reserve: ReserveFile,
 }
 
 impl RestoredJournal {
-    /// Cuts a last line that is torn off the file. All that is left is on the disk afterwards: it
-    /// may have been written by a process that was killed before it synced it.
+    /// Cuts a torn last line off the file. The rest is on disk afterwards: a process killed before
+    /// its sync may have written it.
     pub fn cut_torn<R: Eprint + AllocGlobal>(
         rt: &R,
         opened: OpenJournal,

@@ -1,4 +1,4 @@
-//! The book of a site that is run, from the journal of its folder.
+//! Restores the book of a site from the journal of its folder.
 
 ghost use Rattle.std.specs.Prelude.{◌≡◌};
 
@@ -9,10 +9,9 @@ use crate::named_file::NamedFile;
 use crate::opening::OpenJournal;
 use crate::rejections::Rejections;
 use crate::restored_journal::RestoredJournal;
-use crate::system_clock::SystemClock;
 use ghost_list::{ListName, Unnamed};
 use journal::{Unrestored, lose_links, push_header, restore, split_line};
-use ocpp_scalars::{Instant, Moments};
+use ocpp_scalars::{Instant, Moments, SystemClock};
 use replay::Progress;
 use site_core::Machine;
 use site_status::RejectedCalls;
@@ -23,23 +22,23 @@ use std::sync::Wait;
 use std::sync::ledger::Ledger;
 use version_store::{Book, Pass, Shared};
 
-/// The number of a part's first line, as the part is counted.
+/// The number that `restore` gives to the first line of a part.
 const FIRST_OF_PART: u64 = 2;
 
-/// What a site has when it is run.
+/// The figures of a site at its start.
 #[derive(Drop)]
 pub struct Resumed {
     pub points: u64,
     pub profiles: u64,
     pub transactions: u64,
-    /// Calls that points haven't confirmed.
+    /// The calls that points haven't confirmed.
     pub calls: u64,
-    /// The calls that each point rejected, at its place in the site.
+    /// The calls that each point rejected, at its index in the site.
     pub rejected: Vec<RejectedCalls>,
 }
 
-/// Restores the book that sessions will share from its journal, with a pass of its own. Returns its
-/// journal, in which all stands, and what the site has then.
+/// Restores the book that sessions will share from its journal, with a pass of its own. Returns the
+/// journal, with all its lines on disk, and the figures of the site.
 pub fn restore_shared<
     C: Ledger,
     A: Ledger,
@@ -75,7 +74,7 @@ pub fn restore_shared<
     drop(book);
     let journal = JournalFile::make(*rt, restored, added.as_str(), states, syncs)?;
     let kept = journal.keep_all();
-    // No thread writes its lines yet.
+    // No thread writes these lines yet.
     journal.write_said();
     match kept {
         Ok(()) => Ok((journal, resumed)),
@@ -83,10 +82,10 @@ pub fn restore_shared<
     }
 }
 
-/// Restores a book from its journal, each step with what it drew, and takes the links from all
-/// points. A journal that is new, or was written with another site file, gets a line that names this
-/// one. A last line that is torn is cut: nothing that it says was answered. Returns the journal, and
-/// the lines that are to be added to it.
+/// Restores a book from its journal, each step with the number it drew, and takes the links from
+/// all points. A journal that is new or was written with another site file gets a line that names
+/// this one. A torn last line is cut: nothing in it was answered. Returns the journal, and the
+/// lines to add to it.
 fn restore_book<
     C: Ledger,
     A: Ledger,
@@ -105,6 +104,7 @@ fn restore_book<
     let mut opened = opened;
     let mut journal = JournalLines::new(alloc);
     let restored = restore_lines(rt, &mut opened.lines, &mut journal, book, pass, rejections);
+    // Printed before a fault is returned: a line may fail because the site file is another one.
     let is_of_this_site = say_other_site(rt, &opened.lines, &journal, digest);
     restored?;
     let kept = RestoredJournal::cut_torn(rt, opened, &journal)?;
@@ -114,12 +114,12 @@ fn restore_book<
     }
     match lose_links(alloc, book, now, &mut added) {
         Ok(()) => Ok((kept, added)),
-        // Each point that has a link may lose it, if memory lasts.
+        // A point with a link can always lose it, so only memory can run out.
         Err(_) => Err(FolderFault::OutOfMemory),
     }
 }
 
-/// Restores a book from the lines of a journal. Where that takes long it is said how many are read.
+/// Restores a book from the lines of a journal. If that takes long, prints how many are read.
 fn restore_lines<C: Ledger, A: Ledger, R: AllocGlobal + Eprint + Clock, N: ListName>(
     rt: &R,
     file: &mut NamedFile,
@@ -139,8 +139,8 @@ fn restore_lines<C: Ledger, A: Ledger, R: AllocGlobal + Eprint + Clock, N: ListN
     Ok(())
 }
 
-/// Restores a book from lines, and takes in which calls the points rejected. Before such a reply its
-/// call is the first one of its point.
+/// Restores a book from lines, and takes in the calls that points rejected. Before such a reply,
+/// its call is the first one of its point.
 fn restore_part<C: Ledger, A: Ledger, N: ListName>(
     alloc: Global,
     lines: Lines<'_>,
@@ -148,7 +148,7 @@ fn restore_part<C: Ledger, A: Ledger, N: ListName>(
     pass: &mut Pass<C, A>,
     rejections: &mut Rejections,
 ) -> Result<(), FolderFault> {
-    // What isn't restored yet, and the number of its first line.
+    // The part that isn't restored yet, and the number of its first line.
     let (mut left, mut first) = (lines.bytes, lines.first);
     let (mut rest, mut number) = (left, first);
     for _line in 0..lines.bytes.len() {
@@ -156,6 +156,7 @@ fn restore_part<C: Ledger, A: Ledger, N: ListName>(
             break;
         };
         if rejections.is_of_rejection(line)? {
+            // The rejected call is known only from the state right before the reply.
             let length = left.len().saturating_sub(rest.len());
             restore_from(alloc, first, left.split_at(length).0, book, pass)?;
             rejections.take_in(book.present(), line)?;
@@ -168,7 +169,7 @@ fn restore_part<C: Ledger, A: Ledger, N: ListName>(
     restore_from(alloc, first, left, book, pass)
 }
 
-/// Restores a book from lines of which the first one has this number.
+/// Restores a book from lines, the first of which has this number.
 fn restore_from<C: Ledger, A: Ledger, N: ListName>(
     alloc: Global,
     first: u64,
@@ -179,14 +180,14 @@ fn restore_from<C: Ledger, A: Ledger, N: ListName>(
     match restore(alloc, book, pass, lines) {
         Ok(_) => Ok(()),
         Err(Unrestored { line, fault }) => {
-            // They are counted as if one line stood before them.
+            // `restore` counts as if one line came before these.
             let line = line.saturating_sub(FIRST_OF_PART).saturating_add(first);
             Err(FolderFault::Unrestored(Unrestored { line, fault }))
         }
     }
 }
 
-/// Returns whether the lines that were read go on with the site file of this digest. Says so where
+/// Returns whether the lines read continue with the site file of this digest. Prints a warning if
 /// they were written with another one.
 pub fn say_other_site<R: Eprint>(
     rt: &R,
@@ -207,7 +208,7 @@ pub fn say_other_site<R: Eprint>(
     }
 }
 
-/// What the points of a site have, which rejected these calls.
+/// Returns the figures of a site whose points rejected these calls.
 fn count_resumed(machine: &Machine, rejected: Vec<RejectedCalls>) -> Resumed {
     let site = machine.site();
     let mut resumed = Resumed {
@@ -226,7 +227,7 @@ fn count_resumed(machine: &Machine, rejected: Vec<RejectedCalls>) -> Resumed {
 }
 
 impl Resumed {
-    /// Adds what the point of an identity has.
+    /// Adds the figures of the point of this identity.
     fn add_point(&mut self, machine: &Machine, point: &str) {
         self.calls = self.calls.saturating_add(machine.outbox_len(point) as u64);
         let Some(book) = machine.book_of(point) else {

@@ -1,4 +1,4 @@
-//! What is said of the journal, which a thread of its own writes to standard error.
+//! Lines about the journal, which a thread of its own writes to standard error.
 
 use std::alloc::Global;
 use std::mem;
@@ -6,30 +6,30 @@ use std::rt::Clock;
 use std::sync::{Condvar, Mutex, Wait};
 use std::time::Duration;
 
-/// So many lines wait at most. More are left out.
+/// The greatest number of waiting lines. More are dropped.
 const MOST_LINES: usize = 64;
 
-/// For so many seconds a program that is to end waits at most until they are written.
+/// The longest time, in seconds, that an ending program waits for the lines to be written.
 const LONGEST_WAIT: u64 = 2;
 
-/// Lines that wait to be written to standard error, which may be a pipe that nobody reads.
+/// Lines that wait for standard error, which may be a pipe that no process reads.
 #[derive(Drop)]
 pub(crate) struct SaidLines {
     alloc: Global,
     waiting: Mutex<WaitingLines>,
-    /// Whoever writes them, or waits until they are written, waits here.
+    /// The writer waits here for lines, and `settle` until they are written.
     changed: Condvar,
 }
 
 #[derive(Drop)]
 struct WaitingLines {
     lines: Vec<String>,
-    /// Whether lines were taken that aren't written yet.
+    /// Whether lines were taken but aren't written yet.
     is_writing: bool,
 }
 
 impl SaidLines {
-    /// Nothing was said yet.
+    /// Returns an empty list.
     pub(crate) fn new(alloc: Global) -> SaidLines {
         SaidLines {
             alloc,
@@ -51,7 +51,7 @@ impl SaidLines {
         self.changed.notify_all();
     }
 
-    /// Writes the lines for ever.
+    /// Writes the lines forever.
     pub(crate) fn write_all<R: Wait + Eprint>(&self, rt: &R) {
         for _round in rt.forever() {
             let waiting = self.waiting.lock(rt);
@@ -63,7 +63,7 @@ impl SaidLines {
         }
     }
 
-    /// Writes the lines that wait. Nothing is locked meanwhile.
+    /// Writes the waiting lines, with no lock held meanwhile.
     pub(crate) fn write_waiting<R: Wait + Eprint>(&self, rt: &R) {
         let mut waiting = self.waiting.lock(rt);
         let lines = mem::replace(&mut waiting.lines, Vec::new(self.alloc));
@@ -78,7 +78,7 @@ impl SaidLines {
         self.changed.notify_all();
     }
 
-    /// Waits until all lines are written, but not for ever.
+    /// Waits until all lines are written, for at most LONGEST_WAIT seconds.
     pub(crate) fn settle<R: Wait + Clock>(&self, rt: &R) {
         let waiting = self.waiting.lock(rt);
         let longest = Duration::from_secs(LONGEST_WAIT);

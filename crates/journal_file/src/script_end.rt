@@ -1,20 +1,20 @@
-//! How far a script or a journal is played.
+//! The end up to which a script or a journal is played.
 
 use ocpp_scalars::{Instant, read_instant};
 
-/// How far a script or a journal is played.
+/// The end up to which a script or a journal is played.
 #[derive(Clone, Copy, PartialEq, Eq)]
 pub enum ScriptEnd {
-    /// All of it.
+    /// The whole of it.
     Whole,
-    /// So many lines.
+    /// This many lines.
     Lines(u64),
-    /// Its lines before the first one that is later than this moment.
+    /// The lines before the first one that is later than this moment.
     Moment(Instant),
 }
 
 impl ScriptEnd {
-    /// The last line of a script that is played, or None where all are.
+    /// Returns the number of the last line of a script that is played, or None if all are.
     pub fn last_line(self, script: &[u8]) -> Option<u64> {
         match self {
             ScriptEnd::Whole => None,
@@ -23,8 +23,8 @@ impl ScriptEnd {
         }
     }
 
-    /// Whether a line of a journal, of this number in its script and this moment, isn't played any
-    /// more.
+    /// Returns whether this end comes before a line of a journal, given its number in the script
+    /// and its moment.
     pub fn is_before(self, number: u64, moment: Instant) -> bool {
         match self {
             ScriptEnd::Whole => false,
@@ -34,7 +34,7 @@ impl ScriptEnd {
     }
 }
 
-/// How many lines of a script come before the first one that is later than a moment.
+/// Counts the lines of a script before the first one that is later than a moment.
 fn lines_until(script: &[u8], moment: Instant) -> u64 {
     let mut lines = 0u64;
     for line in script.split(|byte| *byte == b'\n') {
@@ -46,7 +46,7 @@ fn lines_until(script: &[u8], moment: Instant) -> u64 {
     lines
 }
 
-/// The moment at which a line of a script begins, if it does.
+/// Returns the moment at which a line of a script begins, if it has one.
 fn moment_of(line: &[u8]) -> Option<Instant> {
     let text = std::str::from_utf8(line).ok()?;
     let (moment, _) = text.split_once(' ')?;

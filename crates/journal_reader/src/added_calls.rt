@@ -1,4 +1,4 @@
-//! Since when the calls to a point wait.
+//! The moments at which the calls to a point were added.
 
 use ocpp_scalars::Instant;
 use site_core::Outbox;
@@ -11,7 +11,7 @@ struct AddedCall {
     moment: Instant,
 }
 
-/// The calls of an outbox that aren't confirmed, but for call 0, which waits from the beginning.
+/// The unconfirmed calls of an outbox, except call 0, which waits from the beginning.
 #[derive(Drop)]
 pub(crate) struct AddedCalls {
     calls: Vec<AddedCall>,
@@ -20,7 +20,7 @@ pub(crate) struct AddedCalls {
 }
 
 impl AddedCalls {
-    /// Before the first line of a journal.
+    /// Returns the state before the first line of a journal.
     pub(crate) fn new(alloc: Global) -> AddedCalls {
         AddedCalls {
             calls: Vec::new(alloc),
@@ -28,9 +28,10 @@ impl AddedCalls {
         }
     }
 
-    /// Takes in what a line of this moment made of the outbox.
+    /// Takes in the effect of a line of this moment on the outbox.
     pub(crate) fn follow(&mut self, outbox: &Outbox, moment: Instant) -> Result<(), AllocError> {
         let first = outbox.first_number();
+        // A point confirms its calls in order, so those below the first number are confirmed.
         self.calls.retain(|added| added.number >= first);
         for number in self.next..outbox.next_number() {
             self.calls.push(AddedCall { number, moment })?;
@@ -39,7 +40,7 @@ impl AddedCalls {
         Ok(())
     }
 
-    /// When the call of this number was added, if it is the first one.
+    /// Returns when the call of this number was added, if it is the first one.
     pub(crate) fn first_since(&self, first: u64) -> Option<Instant> {
         let added = self.calls.first()?;
         if added.number == first {

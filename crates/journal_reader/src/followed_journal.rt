@@ -1,4 +1,4 @@
-//! What the lines of a journal lead to, for the commands that show it.
+//! The state to which the lines of a journal lead, for the commands that show it.
 
 ghost use Rattle.std.specs.Prelude.{◌≡◌};
 
@@ -21,7 +21,7 @@ use std::rt::{Clock, Files};
 use std::sync::ledger::{Blank, Ledger};
 use version_store::{Book, Pass};
 
-/// Which journal is followed, and how far.
+/// The journal to follow, and how far.
 #[derive(Drop)]
 pub struct Following<'a> {
     /// The site of the journal, and the SHA-256 of its file.
@@ -30,36 +30,36 @@ pub struct Following<'a> {
     /// The folder of the journal.
     pub folder: &'a str,
     pub end: ScriptEnd,
-    /// The changes at this point are counted that are later than the moment, if there is one.
+    /// The point whose changes are counted, and the moment after which they are, if there is one.
     pub point: &'a str,
     pub counted_from: Option<Instant>,
-    /// Whether nothing is said of the journal itself.
+    /// Whether no notes on the journal itself are printed.
     pub is_quiet: bool,
 }
 
-/// What the lines of a journal lead to, and what became of the calls to each point.
+/// The state to which the lines of a journal lead, and the calls to each point.
 #[derive(Drop)]
 pub struct FollowedJournal {
     machine: Machine,
-    /// Each at its place in the site file.
+    /// The calls to each point, at its index in the site file.
     calls: Vec<PointCalls>,
-    /// How many lines of the journal's script were followed.
+    /// The number of followed lines of the journal's script.
     lines: u64,
-    /// How many changes were counted.
+    /// The number of counted changes.
     changes: u64,
-    /// Since when the first call waits to the point whose changes were counted.
+    /// When the first waiting call was added, to the point whose changes were counted.
     since: Option<Instant>,
-    /// Whether no line is torn, and the journal has the end that was wanted.
+    /// Whether no line is torn, and the journal reaches the requested end.
     is_as_wanted: bool,
 }
 
 impl FollowedJournal {
-    /// The state to which the lines lead.
+    /// Returns the state to which the lines lead.
     pub fn machine(&self) -> &Machine {
         &self.machine
     }
 
-    /// What is shown of it.
+    /// Returns the state and the calls in the form that is shown.
     pub fn standing(&self) -> Standing<'_> {
         Standing {
             machine: &self.machine,
@@ -70,12 +70,12 @@ impl FollowedJournal {
         }
     }
 
-    /// How many changes were counted.
+    /// Returns how many changes were counted.
     pub fn changes(&self) -> u64 {
         self.changes
     }
 
-    /// How many calls the point of an identity hasn't confirmed.
+    /// Returns how many calls the point of this identity hasn't confirmed.
     pub fn unconfirmed_of(&self, point: &str) -> usize {
         match self.machine.outbox_of(point) {
             Some(outbox) => outbox.len(),
@@ -83,30 +83,30 @@ impl FollowedJournal {
         }
     }
 
-    /// Since when the first of these waits, at the point whose changes were counted. Call 0 waits from
-    /// the beginning.
+    /// Returns when the first of these was added, at the point whose changes were counted. None for
+    /// call 0, which waits from the beginning.
     pub fn waiting_since(&self) -> Option<Instant> {
         self.since
     }
 
-    /// Whether no line is torn, and the journal has the end that was wanted.
+    /// Returns whether no line is torn, and the journal reaches the requested end.
     pub fn is_as_wanted(&self) -> bool {
         self.is_as_wanted
     }
 }
 
-/// Follows the journal of a folder on a site. Lines are counted as in its script. Says on standard
-/// error how many there are, and the moment of the last one, and where it takes long how many are
-/// read.
+/// Follows the journal of a folder on a site. Counts lines as in its script. Prints to standard
+/// error how many lines it has, the moment of the last one, and the progress if reading takes long.
 pub fn follow_journal<R: Files<File = File> + Eprint + Clock + AllocGlobal>(
     rt: &R,
     following: Following<'_>,
 ) -> Result<FollowedJournal, FolderFault> {
+    // `restore` works on a book, which counts changes and answers in two ledgers.
     let blanks = (Blank::new(1), Blank::new(1));
     follow_counted::<Brand, Brand, R>(rt, following, blanks)
 }
 
-/// Follows a journal on a book whose changes and answers these two ledgers count.
+/// Follows a journal on a book whose changes and answers are counted by these two ledgers.
 fn follow_counted<C: Ledger, A: Ledger, R: Files<File = File> + Eprint + Clock + AllocGlobal>(
     rt: &R,
     following: Following<'_>,
@@ -143,7 +143,7 @@ fn follow_counted<C: Ledger, A: Ledger, R: Files<File = File> + Eprint + Clock +
     follower.into_followed(point, has_end && journal.torn() == 0)
 }
 
-/// Follows all parts of a journal. Where that takes long, says how many lines are read.
+/// Follows all parts of a journal. If that takes long, prints how many lines are read.
 fn follow_parts<C: Ledger, A: Ledger, R: Eprint + Clock + AllocGlobal>(
     rt: &R,
     file: &mut NamedFile,
@@ -162,7 +162,7 @@ fn follow_parts<C: Ledger, A: Ledger, R: Eprint + Clock + AllocGlobal>(
     Ok(())
 }
 
-/// Says what was read of a journal, and whether it has the end that is wanted.
+/// Prints how much of a journal was read. Returns whether it reaches the requested end.
 fn say_followed<C: Ledger, A: Ledger, R: Eprint + AllocGlobal>(
     rt: &R,
     file: &NamedFile,
@@ -177,7 +177,7 @@ fn say_followed<C: Ledger, A: Ledger, R: Eprint + AllocGlobal>(
     Ok(has_end)
 }
 
-/// How far a journal is followed, and which changes are counted.
+/// The end of a journal to follow, and the changes to count.
 #[derive(Clone, Copy)]
 struct Wanted<'a> {
     end: ScriptEnd,
@@ -185,30 +185,30 @@ struct Wanted<'a> {
     counted_from: Option<Instant>,
 }
 
-/// Who follows a journal: the book to which its lines lead, and what became of the calls.
+/// A follower of a journal: the book to which its lines lead, and the calls.
 #[derive(Drop)]
 struct Follower<C: Ledger, A: Ledger> {
     alloc: Global,
     memory: ReadingMemory,
     book: Book<C, A>,
     pass: Pass<C, A>,
-    /// Each at its place in the site file.
+    /// The calls to each point, at its index in the site file.
     calls: Vec<PointCalls>,
-    /// The script's lines that were read, and how many of them were followed.
+    /// The script's lines read so far, and how many of them were followed.
     script: ScriptLines,
     followed: u64,
-    /// Whether the others are only read.
+    /// Whether the remaining lines are only read.
     is_ended: bool,
-    /// The moments of the first and the last line that was read.
+    /// The moments of the first and the last line read.
     first: Option<Instant>,
     last: Option<Instant>,
     changes: u64,
-    /// The calls that wait to the point whose changes are counted.
+    /// The waiting calls to the point whose changes are counted.
     added: AddedCalls,
 }
 
 impl<C: Ledger, A: Ledger> Follower<C, A> {
-    /// Before the first line.
+    /// Returns the state before the first line.
     fn begin(
         alloc: Global,
         site: Site,
@@ -225,6 +225,7 @@ impl<C: Ledger, A: Ledger> Follower<C, A> {
         }
         let (changes, answers) = blanks;
         let (book, mut passes) = Book::make(alloc, changes, answers, site, 1)?;
+        // `make` returns one pass, as requested.
         let Some(pass) = passes.pop() else {
             return Err(FolderFault::OutOfMemory);
         };
@@ -244,7 +245,7 @@ impl<C: Ledger, A: Ledger> Follower<C, A> {
         })
     }
 
-    /// What was followed, once all is, with the calls to this point.
+    /// Returns the result after all lines, with the first waiting call to this point.
     fn into_followed(
         self,
         point: &str,
@@ -271,7 +272,7 @@ impl<C: Ledger, A: Ledger> Follower<C, A> {
         })
     }
 
-    /// Reads lines, and follows those up to the end that is wanted.
+    /// Reads lines, and follows those up to the requested end.
     fn follow_lines(&mut self, lines: Lines<'_>, wanted: &Wanted<'_>) -> Result<(), FolderFault> {
         let (mut rest, mut number) = (lines.bytes, lines.first);
         for _line in 0..lines.bytes.len() {
@@ -291,8 +292,8 @@ impl<C: Ledger, A: Ledger> Follower<C, A> {
         Ok(())
     }
 
-    /// Follows the line of a number in the file, unless it is behind the end that is wanted. The text
-    /// is the line's with its line feed.
+    /// Follows the line of this number in the file, unless it is after the requested end. The text
+    /// is the line with its line feed.
     fn follow_line(
         &mut self,
         line: &Line<'_>,
@@ -300,15 +301,19 @@ impl<C: Ledger, A: Ledger> Follower<C, A> {
         number: u64,
         wanted: &Wanted<'_>,
     ) -> Result<(), FolderFault> {
+        // Lines after the end are still read: the notes name the whole journal's lines and last
+        // moment.
         self.first = self.first.or(Some(line.moment));
         self.last = Some(line.moment);
         self.script.take_in(line)?;
         let said = self.script.count();
+        // The end is final: a clock set back can give a later line an earlier moment.
         self.is_ended = self.is_ended || wanted.end.is_before(said, line.moment);
         if self.is_ended {
             return Ok(());
         }
         if let Err(unrestored) = restore(self.alloc, &mut self.book, &mut self.pass, text) {
+            // `restore` gets one line at a time, so its own count says nothing.
             return Err(FolderFault::Unrestored(Unrestored {
                 line: number,
                 fault: unrestored.fault,
@@ -323,7 +328,7 @@ impl<C: Ledger, A: Ledger> Follower<C, A> {
         Ok(())
     }
 
-    /// Takes in since when calls wait, where the line is of the point whose changes are counted.
+    /// Takes in when calls were added, if the line is of the point whose changes are counted.
     fn follow_added(&mut self, line: &Line<'_>, wanted: &Wanted<'_>) -> Result<(), AllocError> {
         match self.book.present().outbox_of(line.point) {
             Some(outbox) if line.point == wanted.point => self.added.follow(outbox, line.moment),
@@ -331,8 +336,8 @@ impl<C: Ledger, A: Ledger> Follower<C, A> {
         }
     }
 
-    /// Takes in what a line did to the calls of its point. It belongs to the script's line of this
-    /// number.
+    /// Takes in the effect of a line on the calls to its point. The line belongs to the script's
+    /// line of this number.
     fn follow_calls(&mut self, line: &Line<'_>, number: u64) -> Result<(), AllocError> {
         let machine = self.book.present();
         let (Some(place), Some(outbox)) = (
@@ -355,7 +360,7 @@ impl<C: Ledger, A: Ledger> Follower<C, A> {
     }
 }
 
-/// Says how many lines were read, and the moment of the last one.
+/// Prints how many lines were read, and the moment of the last one.
 fn say_read<R: Eprint + AllocGlobal>(
     rt: &R,
     lines: u64,
@@ -371,7 +376,7 @@ fn say_read<R: Eprint + AllocGlobal>(
     Ok(())
 }
 
-/// Says where the journal hasn't the end that is wanted. Whether it has.
+/// Prints a note if the journal doesn't reach the requested end. Returns whether it does.
 fn say_end<R: Eprint + AllocGlobal>(
     rt: &R,
     wanted: &Wanted<'_>,
@@ -394,7 +399,7 @@ fn say_end<R: Eprint + AllocGlobal>(
     }
 }
 
-/// Says where the journal begins later than the moment that is wanted. Whether it doesn't.
+/// Prints a note if the journal begins after the requested moment. Returns whether it doesn't.
 fn say_begun<R: Eprint + AllocGlobal>(
     rt: &R,
     moment: Instant,
@@ -409,7 +414,7 @@ fn say_begun<R: Eprint + AllocGlobal>(
     Ok(false)
 }
 
-/// Whether a line is a change that is to be counted.
+/// Returns whether a line is a change to be counted.
 fn is_counted(line: &Line<'_>, wanted: &Wanted<'_>) -> bool {
     match (&line.noted, wanted.counted_from) {
         (Noted::Message { .. }, Some(moment)) => line.point == wanted.point && line.moment > moment,

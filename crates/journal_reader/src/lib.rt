@@ -1,4 +1,4 @@
-//! The journal of a folder, followed line by line up to a moment, while the site is run or not.
+//! The journal of a folder, followed line by line up to a moment, while the site runs or not.
 #![tactic(auto)]
 
 mod added_calls;

@@ -1,4 +1,5 @@
--- Numbers are refused by the first of their causes, and else make the request of these numbers.
+-- Numbers are refused by the first of their causes that holds; if none holds, they make the request
+-- of these numbers.
 use Rattle.std.proofs.Common.{◌≡◌, ℕ, ◌+◌, ◌-◌, ◌<◌, nat_le, nat_lt, Bool, true, false, ◌⊎◌, ◌↔◌, inl, inr, List, [], ◌∷◌, Some, None, Result, Ok, Err, refl, sym, subst, arith, leb-true, ltb-true}
 use Rattle.std.specs.Result.{result_err}
 use Rattle.std.proofs.lemmas.Bool.Decides.{nat_tests}
@@ -16,7 +17,7 @@ use Rattle.meaning.specs.Ask.{IsPastCalendar, IsAskOf, ask_causes, ask_of}
 use Rattle.meaning.specs.ByCases.Ask.{ask_with}
 use Rattle.meaning.proofs.AskLemmas.{ask_made}
 
--- two tests of one cause
+-- two tests for one cause
 by_both : {X : Type 0} → (one other : Bool) (holds : Type 0) (refusal : Refusal)
     (later : List Cause) (next : one ≡ true → other ≡ true → Result X Refusal)
     → (one ≡ false → holds) → (other ≡ false → holds) → (one ≡ true → other ≡ true → ¬ holds)
@@ -34,7 +35,7 @@ good_duration duration some most (inl none) = absurd (omega (arith, ltb-true 0 d
 good_duration duration some most (inr long) =
     absurd (omega (arith, leb-true duration max_duration most, long))
 
--- the last second asked is the one that lies furthest
+-- the last requested second is the latest one
 past_calendar : (start duration : ℕ) → nat_lt 0 duration ≡ true
     → nat_le (start + duration) (last_second + 1) ≡ false → IsPastCalendar start duration
 past_calendar start duration some fails =

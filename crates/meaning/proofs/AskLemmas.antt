@@ -1,4 +1,4 @@
--- What numbers may be asked, and that the request of them is one alone.
+-- The numbers that may be requested determine one request.
 use Rattle.std.proofs.Common.{◌≡◌, ℕ, ◌+◌, ◌<◌, ◌≤◌, nat_le, nat_lt, Bool, true, false, Ok, Err, refl, ap, ltb-true, leb-true, arith}
 use Rattle.std.proofs.Math.Bool.{Bool-set}
 use Rattle.std.proofs.Math.Bridge.{le_prop}

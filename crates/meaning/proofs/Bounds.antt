@@ -1,4 +1,4 @@
--- Rows that prevail, the bounds that they are, and what the least of some bounds is.
+-- Rows that prevail, their bounds, and the least of some bounds.
 use Rattle.std.proofs.Common.{◌≡◌, ℕ, Bool, true, false, List, [], ◌∷◌, ◌++◌, filter, map, Option, Some, None, option_map, cond, nat_lt, refl, ap, ◌∙◌}
 use Rattle.std.proofs.lemmas.List.{append-nil, map-append}
 use Rattle.std.proofs.lemmas.List.Elements.{filter-append}
@@ -7,7 +7,7 @@ use Rattle.meaning.specs.Cause.{RowLimit, Bound, level_of, lesser_of}
 use Rattle.meaning.specs.ByCases.Cause.{profile_limit_of, level_of_limit, lesser_bound}
 use Rattle.meaning.specs.Theory.Greatest.{greatest_of}
 
--- of two rows, the ProfileLimit of the higher is the higher ProfileLimit
+-- of two rows' ProfileLimits, the higher is that of the higher row
 pub higher_is : (best next : Option RowLimit)
     → greatest_of level_of_limit (option_map profile_limit_of best) (option_map profile_limit_of next) ≡ option_map profile_limit_of (greatest_of level_of best next)
 higher_is None None = refl
@@ -19,12 +19,12 @@ higher_is (Some best) (Some next) = go (nat_lt (level_of best) (level_of next))
     go true = refl
     go false = refl
 
--- the lesser of a row and a bound, where the row is a ProfileLimit
+-- the lesser of a row and a bound, with the row as a ProfileLimit
 pub lesser_is : (best : Option RowLimit) (other : Bound) → lesser_bound (option_map profile_limit_of best) other ≡ lesser_of best other
 lesser_is None other = refl
 lesser_is (Some best) other = refl
 
--- a share, by what sets it
+-- a share, from its bound
 abbrev pub share_by : ℕ → Bound → Share
 share_by connector bound = record { connector = connector; limit = bound.limit; cause = bound.cause }
 

@@ -1,4 +1,4 @@
--- A cause is what it says, and the row that it names is one of the point.
+-- A cause holds as stated, and the row that it names is one of the point.
 use Rattle.std.proofs.Common.{◌≡◌, ℕ, ◌<◌, ◌==◌, Bool, true, false, ◌&&◌, List, [], ◌∷◌, filter, cond, Option, Some, None, nat_lt, option_map, refl, ap, sym, subst, ◌∙◌, arith}
 use Rattle.std.specs.List.{AllByRecursion, filter_map, cons_option}
 use Rattle.std.proofs.lemmas.Bool.Decides.{nat_tests}
@@ -16,7 +16,7 @@ use Rattle.meaning.specs.Prevailing.{counted, has_its_transaction}
 use Rattle.meaning.specs.Limit.{shared_limit}
 use Rattle.meaning.specs.Cause.{RowLimit, Bound, with_limit, row_limit, level_of, prevailing_row, row_or_else, profile_of, bound_of, lesser, lesser_of, own_bound, below_point, bound_by, counts_for, StandsIn, IsPrevailing, IsSetBy}
 
--- ---- what is picked out of a list has what all of it has
+-- ---- an element picked from a list has the properties of all its elements
 
 all_given : {X Y : Type 0} (P : Y → Type 0) (give : X → Option Y) (xs : List X) → AllByRecursion (λ x. (y : Y) → give x ≡ Some y → P y) xs → AllByRecursion P (filter_map give xs)
 all_given P give [] h = tt

@@ -1,4 +1,4 @@
--- What a compiler returns is the schedule that is computed, or that it is too long.
+-- A compiler returns the computed schedule, or that it is too long.
 use Rattle.std.proofs.Common.{◌≡◌, ℕ, ◌<◌, ◌≤◌, nat_lt, length, Bool, true, false, cond, Result, Ok, Err, refl, sym, arith}
 use Rattle.std.proofs.lemmas.Bool.Decides.{nat_tests}
 use Rattle.ocpp_scalars.specs.declared.refusal.Refusal.{Refusal}

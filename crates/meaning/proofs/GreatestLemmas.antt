@@ -1,4 +1,4 @@
--- The greatest of what a loop has met so far.
+-- The greatest of the elements that a loop has read so far.
 use Rattle.std.proofs.Common.{◌≡◌, ℕ, ◌+◌, ◌<◌, Bool, true, false, List, [], ◌∷◌, ◌++◌, length, filter, take, get_or, Option, Some, None, cond, refl, ap, sym, ◌∙◌, arith}
 use Rattle.std.specs.List.{filter_map}
 use Rattle.std.proofs.lemmas.List.{take_more, append-nil}
@@ -12,7 +12,7 @@ greater_more : {X : Type 0} (key : X → ℕ) (x y : X) (best : Option X)
 greater_more key x y None = refl
 greater_more key x y (Some z) = grind (arith, nat_tests)
 
--- the greatest with one element more, the last one
+-- the greatest with one more element at the end
 greatest_more : {X : Type 0} (key : X → ℕ) (xs : List X) (y : X) → greatest key (xs ++ y ∷ []) ≡ greatest_of key (greatest key xs) (Some y)
 greatest_more key [] y = refl
 greatest_more key (x ∷ xs) y = ap (λ best. Some (greater key x best)) (greatest_more key xs y) ∙ greater_more key x y (greatest key xs)
@@ -31,7 +31,7 @@ one_of {Y = Y} give x = go (give x)
     go : (next : Option Y) → filter_map (λ (y : Option Y). y) (next ∷ []) ≡ filter_map (λ (y : Option Y). y) (next ∷ [])
     go next = refl
 
--- the step of a loop that keeps the greatest of what a function gives at the elements that pass a test
+-- the step of a loop that keeps the greatest value of a function at the elements that pass a test
 pub passing_more : {X Y : Type 0} (key : Y → ℕ) (give : X → Option Y) (test : X → Bool) (xs : List X) (i : ℕ) (x : X) → i < length xs → x ≡ get_or xs i x
     → greatest key (filter_map give (filter test (take (i + 1) xs)))
     ≡ cond (test x) (greatest_of key (greatest key (filter_map give (filter test (take i xs)))) (give x)) (greatest key (filter_map give (filter test (take i xs))))

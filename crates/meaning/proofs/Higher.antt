@@ -1,4 +1,4 @@
--- The row that prevails stands above a stack level exactly where any row with a limit does.
+-- The row that prevails is above a stack level exactly if any row with a limit is.
 use Rattle.std.proofs.Common.{◌≡◌, ℕ, nat_lt, Bool, true, false, ◌&&◌, ◌||◌, cond, List, [], ◌∷◌, filter, Option, Some, None, is_some, option_map, refl, ap, sym, ◌∙◌, arith}
 use Rattle.std.specs.List.{filter_map, cons_option, list_any}
 use Rattle.std.proofs.lemmas.Bool.Decides.{nat_tests}
@@ -14,7 +14,7 @@ use Rattle.meaning.specs.Cause.{RowLimit, with_limit, row_limit, level_of, preva
 use Rattle.meaning.specs.WhyNot.{is_above}
 use Rattle.meaning.specs.ByCases.WhyNot.{is_higher}
 
--- one of two numbers is above a third exactly where the greater is
+-- one of two numbers is above a third exactly if the greater is
 either_above : (n x y : ℕ) (a b c : Bool) → nat_lt n x ≡ a → nat_lt x y ≡ b → nat_lt n y ≡ c → ((a && true && true) || c) ≡ nat_lt n (cond b y x)
 either_above n x y true true c p q r = grind (arith, nat_tests)
 either_above n x y false true c p q r = sym r
@@ -45,7 +45,7 @@ not_passing true true any = refl
 not_passing true false any = refl
 not_passing false b any = refl
 
--- by the rows that pass a test, with what a function gives of them
+-- for the rows that pass a test, with the value of a function for each
 any_is_above : (test : Row → Bool) (give : Row → Option ℕ) (level : ℕ) (rows : List Row)
     → list_any (λ (row : Row). nat_lt level row.profile.stack_level && is_some (give row) && test row) rows
     ≡ is_above level (greatest level_of (filter_map (λ (row : Row). option_map (with_limit row) (give row)) (filter test rows)))
@@ -66,7 +66,7 @@ any_is_above test give level (row ∷ rows) =
     by_test true = by_limit (give row)
     by_test false = not_passing (nat_lt level row.profile.stack_level) (is_some (give row)) (is_above level (greatest level_of given))
 
--- where a purpose has its transaction, the row that prevails is above a level exactly where any row is
+-- if a purpose has its transaction, the row that prevails is above a level exactly if any row is
 pub higher_counts : (purpose : Purpose) (state : PointState) (connector asked instant level : ℕ) → has_its_transaction purpose (active_since state connector) ≡ true
     → list_any (is_higher purpose state connector asked instant level) state.rows ≡ is_above level (prevailing_row purpose state connector asked instant)
 higher_counts purpose state connector asked instant level has =

@@ -1,4 +1,4 @@
--- The sum over a range with one number more.
+-- The sum over a range with one more number.
 use Rattle.std.proofs.Common.{◌≡◌, ℕ, ◌+◌, Bool, true, false, List, [], ◌∷◌, filter, cond, ap, ◌∙◌, min, arith}
 use Rattle.std.specs.List.{range_with_len, sum_by}
 use Rattle.std.proofs.lemmas.List.Elements.{filter-append}
@@ -21,6 +21,6 @@ sum_passing_more give test a n j h =
     go true = omega arith
     go false = omega arith
 
--- a sum that stops at the most goes on as the whole sum does
+-- adding to a capped sum, and capping again, is the same as capping the whole sum
 pub min_more : (most sum whole n : ℕ) → sum ≡ min most whole → min most (sum + n) ≡ min most (whole + n)
 min_more most sum whole n h = omega arith

@@ -1,4 +1,4 @@
--- There is no reason why a row doesn't prevail exactly where it prevails.
+-- There is no reason why a row doesn't prevail exactly if it prevails.
 use Rattle.std.proofs.Common.{◌≡◌, ◌↔◌, ℕ, ◌≤◌, ◌==◌, Bool, true, false, not, ◌&&◌, ◌||◌, List, [], ◌∷◌, ◌++◌, filter, cond, Option, Some, None, is_some, nat_lt, option_map, option_and_then, refl, ap, sym, subst, ◌∙◌, ◌⊎◌, inl, inr, arith}
 use Rattle.std.specs.List.{filter_map, cons_option, list_any}
 use Rattle.std.proofs.lemmas.Bool.Decides.{nat_tests}
@@ -19,7 +19,7 @@ use Rattle.meaning.specs.Cause.{RowLimit, with_limit, row_limit, level_of, preva
 use Rattle.meaning.specs.WhyNot.{first_of, where_so, is_elsewhere, lacks_transaction, is_hidden, why_not_counted, why_no_limit_in, why_no_limit, is_above, why_behind, why_not, Prevails, HaveOwnKeys}
 use Rattle.meaning.proofs.Causes.{Counts, prevailing_of, some_is, and_first}
 
--- ---- reasons, and that there is none
+-- ---- reasons, and their absence
 
 first_none : (first later : Option WhyNot) → first_of first later ≡ None → (first ≡ None) × (later ≡ None)
 first_none None later h = (refl, h)
@@ -197,7 +197,7 @@ limit_of_given : (row : Row) (limit : Option ℕ) (best : RowLimit) → option_m
 limit_of_given row None best h = cc
 limit_of_given row (Some limit) best h = record { limit = limit; is = refl }
 
--- ---- what stands in a list
+-- ---- elements of a list
 
 abbrev Among : {X : Type 0} → X → List X → Type 0
 Among x [] = ⊥
@@ -249,7 +249,7 @@ any_among test (z ∷ xs) x h (inr later) = go (test z) (any_among test xs x h l
     go true k = refl
     go false k = k
 
--- the greatest is no less than what stands there
+-- the greatest is at least each element
 record Above {X : Type 0} (key : X → ℕ) (xs : List X) (x : X) : Type 0 where
   best : X
   is : greatest key xs ≡ Some best

@@ -1,5 +1,5 @@
--- Examples computed by the definitions alone, against values found by hand. The point has a ceiling of
--- 63.0 A and two connectors of 32.0 A; limits are in tenths.
+-- Examples computed from the definitions alone, compared with values found by hand. The point has a
+-- ceiling of 63.0 A and two connectors of 32.0 A; limits are in tenths.
 use Rattle.std.specs.Prelude.{◌≡◌, ℕ, ◌+◌, nat_le, IsTrue, List, [], ◌∷◌, map, Option, Some, None}
 use Rattle.std.proofs.Common.{refl}
 use Rattle.std.specs.List.{range_with_len}
@@ -46,7 +46,7 @@ no_transaction ChargePointMaxProfile = refl
 no_transaction TxDefaultProfile = refl
 no_transaction TxProfile = refl
 
--- a row, installed at midnight, valid until a second where one is given
+-- a row, installed at midnight, valid until a second if one is given
 abbrev row_until : Option ℕ → ℕ → Purpose → (level : ℕ) → IsTrue (nat_le level max_stack_level) → (kind : Kind) (start : Option ℕ) → start_of kind start ≡ start → Option ℕ → List Period → Row
 row_until until connector purpose level low kind start own duration periods = record {
   connector = connector;
@@ -87,11 +87,11 @@ idle = None ∷ (None ∷ [])
 abbrev on_first : List (Option ℕ)
 on_first = at_start 0 ∷ (None ∷ [])
 
--- the exact schedule of a connector, asked a number of seconds after midnight for a number of seconds
+-- the exact schedule of a connector, requested from a second after midnight for a number of seconds
 abbrev schedule : PointState → ℕ → ℕ → ℕ → List CompositePeriod
 schedule b connector asked duration = exact_periods (λ second. limit b connector (midnight + asked) (midnight + asked + second)) duration
 
--- the limits of a number of seconds from one on, in such a schedule
+-- the limits of consecutive seconds in such a schedule
 abbrev limits : PointState → ℕ → ℕ → ℕ → ℕ → List ℕ
 limits b connector asked second many = map (λ (s : ℕ). limit b connector (midnight + asked) (midnight + asked + s)) (range_with_len second many)
 
@@ -101,13 +101,13 @@ no_profile = refl
 pub no_transaction_at_the_point : schedule (point idle []) 0 0 60 ≡ span 0 0 ∷ []
 no_transaction_at_the_point = refl
 
--- a daily profile from 22:00 to 06:00 above one that holds always
+-- a daily profile from 22:00 to 06:00 above a permanent one
 abbrev night : PointState
 night = point idle
     (row_at 0 TxDefaultProfile 1 low1 (Recurring Daily) (at_start 79200) refl (Some 28800) (period 0 60 ∷ [])
     ∷ (row_at 0 TxDefaultProfile 0 low0 Absolute (at_start 0) refl None (period 0 200 ∷ []) ∷ []))
 
--- asked at 05:59:58 two days later
+-- requested at 05:59:58 two days later
 pub two_levels : schedule night 1 194398 10 ≡ span 0 60 ∷ (span 2 200 ∷ [])
 two_levels = refl
 
@@ -132,7 +132,7 @@ default_row = row_at 0 TxDefaultProfile 0 low0 Absolute (at_start 0) refl None (
 abbrev transaction_row : Row
 transaction_row = row_at 1 TxProfile 0 low0 Relative None refl (Some 120) (period 0 60 ∷ (period 60 160 ∷ []))
 
--- the default profile holds again once the transaction's own has run out
+-- the default profile counts again once the transaction's own has ended
 pub transaction_profile : schedule (point on_first (transaction_row ∷ (default_row ∷ []))) 1 30 200 ≡ span 0 60 ∷ (span 30 160 ∷ (span 90 100 ∷ []))
 transaction_profile = refl
 
@@ -152,14 +152,14 @@ own_default = point idle
     ∷ (row_at 1 TxDefaultProfile 1 low1 Absolute (at_start 0) refl (Some 60) (period 0 120 ∷ [])
     ∷ (row_at 0 TxDefaultProfile 0 low0 Absolute (at_start 0) refl None (period 0 80 ∷ []) ∷ [])))
 
--- a connector's own default, run out by 01:00, still hides the point's default of its level
+-- a connector's own default, which ended by 01:00, still hides the point's default of its level
 pub hidden_by_level : schedule own_default 1 3600 60 ≡ span 0 80 ∷ []
 hidden_by_level = refl
 
 pub hidden_for_one_connector : schedule own_default 2 3600 60 ≡ span 0 100 ∷ []
 hidden_for_one_connector = refl
 
--- periods of equal limits are one
+-- neighbouring periods with equal limits are one
 pub equal_neighbours : schedule (point idle
     (row_at 0 TxDefaultProfile 2 low2 Absolute (at_start 0) refl (Some 60) (period 0 160 ∷ [])
     ∷ (row_at 0 TxDefaultProfile 1 low1 Absolute (at_start 0) refl None (period 0 160 ∷ []) ∷ []))) 1 30 60
@@ -177,7 +177,8 @@ sum_of_connectors = refl
 pub sum_above_the_point : schedule (shared 320) 0 10 60 ≡ span 0 320 ∷ []
 sum_above_the_point = refl
 
--- without a startSchedule a default counts from the start of the request, a maximum from its install
+-- without a startSchedule, a default counts from the start of the request, and a maximum from its
+-- install
 pub from_the_ask : schedule (point idle (row_at 0 TxDefaultProfile 0 low0 Absolute None refl (Some 60) (period 0 100 ∷ []) ∷ [])) 1 30 100
     ≡ span 0 100 ∷ (span 60 320 ∷ [])
 from_the_ask = refl
@@ -193,7 +194,7 @@ until_valid_to = refl
 abbrev from_the_transaction : PointState
 from_the_transaction = point on_first (row_at 0 TxDefaultProfile 0 low0 Relative None refl (Some 60) (period 0 100 ∷ []) ∷ [])
 
--- one row counts from another base at each connector, and for the point from that of the connector
+-- one row counts from another base at each connector, and for the point from the connector's base
 pub base_of_the_first : schedule from_the_transaction 1 30 60 ≡ span 0 100 ∷ (span 30 320 ∷ [])
 base_of_the_first = refl
 
@@ -203,7 +204,7 @@ base_of_the_second = refl
 pub base_of_the_point : schedule from_the_transaction 0 30 60 ≡ span 0 100 ∷ (span 30 320 ∷ [])
 base_of_the_point = refl
 
--- ---- what sets a limit
+-- ---- causes of a limit
 
 abbrev profile_at : Purpose → ℕ → ℕ → Cause
 profile_at purpose level connector = Profile (record { id = pos 1; purpose = purpose; stack_level = level; connector = connector })
@@ -211,7 +212,8 @@ profile_at purpose level connector = Profile (record { id = pos 1; purpose = pur
 abbrev because : ℕ → Cause → List Share → Reason
 because limit cause shares = record { limit = limit; cause = cause; shares = shares }
 
--- in a schedule of a connector, asked a number of seconds after midnight, at a second after that
+-- the reason in a schedule of a connector, requested from a second after midnight, at a second
+-- after that
 abbrev why : PointState → ℕ → ℕ → ℕ → Reason
 why b connector asked second = reason b connector (midnight + asked) (midnight + asked + second)
 
@@ -233,7 +235,7 @@ why_transaction = refl
 pub why_default_again : why (point on_first (transaction_row ∷ (default_row ∷ []))) 1 30 90 ≡ because 100 (profile_at TxDefaultProfile 0 0) []
 why_default_again = refl
 
--- the point's default of level 1 is hidden, the connector's own has run out
+-- the point's default of level 1 is hidden, and the connector's own has ended
 pub why_level_0 : why own_default 1 3600 0 ≡ because 80 (profile_at TxDefaultProfile 0 0) []
 why_level_0 = refl
 
@@ -247,11 +249,12 @@ why_shared = refl
 pub why_above_the_point : why (shared 320) 0 10 0 ≡ because 320 (profile_at ChargePointMaxProfile 0 0) []
 why_above_the_point = refl
 
--- as much as the sum: the ChargePointMaxProfile comes first
+-- equal to the sum: the ChargePointMaxProfile comes first
 pub why_the_first_of_equals : why (shared 400) 0 10 0 ≡ because 400 (profile_at ChargePointMaxProfile 0 0) []
 why_the_first_of_equals = refl
 
--- why a row doesn't prevail, in a schedule asked a number of seconds after midnight, at its start
+-- the reason why a row doesn't prevail at the start of a schedule requested from a second after
+-- midnight
 abbrev why_none : PointState → ℕ → ℕ → Row → Option WhyNot
 why_none b connector asked row = why_not b connector (midnight + asked) (midnight + asked) row
 

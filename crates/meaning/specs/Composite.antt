@@ -1,4 +1,4 @@
--- What a composite schedule is (OCPP 1.6, 5.7).
+-- Composite schedules (OCPP 1.6, 5.7).
 use Rattle.std.specs.Prelude.{◌≡◌, ℕ, ◌<◌, nat_le, List, [], ◌∷◌, filter, Option, Some, None, option_map}
 use Rattle.std.specs.List.{AllByRecursion}
 use Rattle.meaning.specs.declared.composite.CompositePeriod.{CompositePeriod}
@@ -18,8 +18,8 @@ AreStrictlyIncreasing [] = Unit {0}
 AreStrictlyIncreasing (p ∷ []) = Unit {0}
 AreStrictlyIncreasing (p ∷ (q ∷ ps)) = (p.start < q.start) × AreStrictlyIncreasing (q ∷ ps)
 
--- what every composite schedule is: its periods begin at 0, in strictly
--- increasing order, within its duration
+-- the invariant of a composite schedule: its periods begin at 0, in strictly increasing order,
+-- within its duration
 pub record IsSchedule (duration : ℕ) (periods : List CompositePeriod) : Type 0 where
   pub first : BeginAtZero periods
   pub increasing : AreStrictlyIncreasing periods

@@ -1,4 +1,4 @@
--- Which periods give a limit exactly (OCPP 1.6, 5.7).
+-- The periods that give a limit exactly (OCPP 1.6, 5.7).
 use Rattle.std.specs.Prelude.{◌≡◌, ◌≢◌, ℕ, ◌<◌, List, [], ◌∷◌, Some}
 use Rattle.meaning.specs.declared.composite.CompositePeriod.{CompositePeriod}
 use Rattle.meaning.specs.Composite.{IsSchedule, at}

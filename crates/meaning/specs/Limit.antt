@@ -13,7 +13,8 @@ abbrev pub at_most : ℕ → Option ℕ → ℕ
 at_most limit None = limit
 at_most limit (Some other) = min limit other
 
--- the limit of the prevailing TxProfile, or else of the prevailing TxDefaultProfile (OCPP 1.6, 3.13)
+-- the limit of the prevailing TxProfile, otherwise of the prevailing TxDefaultProfile (OCPP 1.6,
+-- 3.13)
 abbrev pub transaction_limit : PointState → ℕ → ℕ → ℕ → Option ℕ
 transaction_limit state connector asked instant =
     or_else
@@ -37,23 +38,24 @@ active_connectors state =
     (λ connector. is_some (active_since state connector))
     (range_with_len 1 (length state.ceilings))
 
--- what the active connectors may draw together, a whole number without bound
+-- the power or current that the active connectors may draw together, a whole number without bound
 abbrev pub shared_limit : PointState → ℕ → ℕ → ℕ
 shared_limit state asked instant =
     sum_by (λ connector. own_limit state connector asked instant) (active_connectors state)
 
--- Connector 0 is the whole point, and its limit bounds what the active connectors draw together (this
--- system's choice); any other connector has its own limit below the point's (OCPP 1.6, 3.13).
+-- Connector 0 is the whole point, and its limit bounds the total draw of the active connectors
+-- (this system's choice); any other connector has its own limit within the point's (OCPP 1.6,
+-- 3.13).
 abbrev pub limit_by : Bool → PointState → ℕ → ℕ → ℕ → ℕ
 limit_by true state connector asked instant =
     min (point_limit state asked instant) (shared_limit state asked instant)
 limit_by false state connector asked instant =
     min (point_limit state asked instant) (own_limit state connector asked instant)
 
--- the limit of a connector at an instant, in tenths, in a schedule asked from `asked` on
+-- the limit of a connector at an instant, in tenths, in a schedule requested from `asked` on
 abbrev pub limit : PointState → ℕ → ℕ → ℕ → ℕ
 limit state connector asked instant = limit_by (connector == 0) state connector asked instant
 
--- the limits that a request of a connector from a start on means: at each count of seconds after it
+-- the limits of a request for a connector from a start on, by seconds after the start
 abbrev pub limit_asked : PointState → ℕ → ℕ → ℕ → ℕ
 limit_asked state connector start second = limit state connector start (start + second)

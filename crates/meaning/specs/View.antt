@@ -1,4 +1,4 @@
--- What a charge point has at one time, as the definitions of limits read it.
+-- The state of a charge point at one time, as the definitions of limits read it.
 use Rattle.std.specs.Prelude.{ℕ, ◌-◌, zero, suc, List, Option, None, option_and_then, slice_get, slice_index}
 use Rattle.profile.specs.declared.row.Row.{Row}
 use Rattle.meaning.specs.declared.view.View.{View}
@@ -26,7 +26,8 @@ point_state view = record {
 abbrev pub ceiling_of : PointState → ℕ → ℕ
 ceiling_of state connector = slice_index state.ceilings (connector - 1)
 
--- the start of the active transaction at a connector; connector 0 never has one
+-- the start of the active transaction at a connector; connector 0 never has one: by cases, since 0
+-- - 1 is 0 and would read connector 1
 abbrev pub active_since : PointState → ℕ → Option ℕ
 active_since state zero = None
 active_since state (suc before) = option_and_then (λ start. start) (slice_get state.starts before)

@@ -1,4 +1,5 @@
--- Why a profile that a point has doesn't prevail for a connector at an instant (OCPP 1.6, 3.13).
+-- The reason why a profile of a point doesn't prevail for a connector at an instant (OCPP 1.6,
+-- 3.13).
 use Rattle.std.specs.Prelude.{◌≡◌, ℕ, ◌==◌, nat_lt, Bool, false, not, ◌&&◌, ◌||◌, List, Option, Some, None, is_some, if◌then◌else◌}
 use Rattle.profile.specs.declared.purpose.Purpose.{Purpose}
 use Rattle.profile.specs.declared.purpose.Purpose.TheVariants.{ChargePointMaxProfile, TxDefaultProfile, TxProfile}
@@ -20,7 +21,8 @@ first_of (Some why) later = Some why
 abbrev pub where_so : WhyNot → Bool → Option WhyNot
 where_so why so = if so then Some why else None
 
--- a TxDefaultProfile at connector 0 speaks for every connector, and any other profile for its own alone
+-- a TxDefaultProfile at connector 0 applies to every connector, and any other profile only to its
+-- own
 abbrev pub is_elsewhere : Purpose → ℕ → ℕ → Bool
 is_elsewhere ChargePointMaxProfile connector at = not (at == 0)
 is_elsewhere TxDefaultProfile connector at = not ((at == connector) || (at == 0))
@@ -36,21 +38,22 @@ is_hidden state connector row =
     is_tx_default row.profile.purpose && not (row.connector == connector)
     && is_replaced_at state.rows connector row.profile.stack_level
 
--- why a row doesn't count for a connector
+-- the reason why a row doesn't count for a connector
 abbrev pub why_not_counted : PointState → ℕ → Row → Option WhyNot
 why_not_counted state connector row =
     first_of (where_so OtherConnector (is_elsewhere row.profile.purpose connector row.connector))
     (first_of (where_so NoTransaction (lacks_transaction state connector row))
     (where_so Hidden (is_hidden state connector row)))
 
--- why a row has no limit at an offset into its schedule, of which there is none before its anchor
+-- the reason why a row has no limit at an offset in its schedule; before its anchor there is no
+-- offset
 abbrev pub why_no_limit_in : Row → Option ℕ → Option WhyNot
 why_no_limit_in row None = Some BeforeAnchor
 why_no_limit_in row (Some offset) =
     first_of (where_so PastDuration (not (is_before offset row.profile.schedule.duration)))
     (where_so BeforeFirstPeriod (not (is_some (limit_in row.profile.schedule.periods offset))))
 
--- why a row has no limit for a connector at an instant
+-- the reason why a row has no limit for a connector at an instant
 abbrev pub why_no_limit : PointState → ℕ → ℕ → ℕ → Row → Option WhyNot
 why_no_limit state connector asked instant row =
     first_of (where_so NotYetValid (not (is_from row.profile.valid_from instant)))
@@ -62,7 +65,7 @@ abbrev pub is_above : ℕ → Option RowLimit → Bool
 is_above level None = false
 is_above level (Some best) = nat_lt level (level_of best)
 
--- why a row with a limit doesn't prevail
+-- the reason why a row with a limit doesn't prevail
 abbrev pub why_behind : PointState → ℕ → ℕ → ℕ → Row → Option WhyNot
 why_behind state connector asked instant row =
     first_of
@@ -79,15 +82,16 @@ why_not_for state connector asked instant row =
     (first_of (why_no_limit state connector asked instant row)
     (why_behind state connector asked instant row))
 
--- Why a row doesn't prevail for a connector at an instant, in a schedule asked from `asked` on: the first
--- reason in the order of `WhyNot`. A ChargePointMaxProfile prevails for the whole point. Connector 0 is
--- taken as one that never charges: what counts in its sum, each active connector tells.
+-- The reason why a row doesn't prevail for a connector at an instant, in a schedule requested from
+-- `asked` on: the first in the order of `WhyNot`. A ChargePointMaxProfile prevails for the whole
+-- point. Connector 0 is taken as one that never charges: the reasons of its sum are those of each
+-- active connector.
 abbrev pub why_not : PointState → ℕ → ℕ → ℕ → Row → Option WhyNot
 why_not state connector asked instant row =
     why_not_for state (counts_for row.profile.purpose connector) asked instant row
 
--- A row prevails for a connector at an instant: of its purpose it is the row that prevails, and if it is a
--- TxDefaultProfile, no TxProfile does.
+-- A row prevails for a connector at an instant if it does so among the rows of its purpose, and,
+-- for a TxDefaultProfile, if no TxProfile does.
 pub record Prevails (state : PointState) (connector asked instant : ℕ) (row : Row) : Type 0 where
   pub limit : ℕ
   pub of_purpose :
@@ -98,7 +102,7 @@ pub record Prevails (state : PointState) (connector asked instant : ℕ) (row : 
       row.profile.purpose ≡ TxDefaultProfile
       → prevailing_row TxProfile state connector asked instant ≡ None
 
--- no two rows have one connector, purpose and stack level, as those of a book never have
+-- no two rows have the same connector, purpose and stack level, which holds of every book
 pub record HaveOwnKeys (rows : List Row) : Type 0 where
   pub same :
       (one other : Row) → StandsIn rows one → StandsIn rows other

@@ -1,4 +1,4 @@
-//! What GetCompositeSchedule asks.
+//! Requests for a composite schedule.
 
 ghost use Rattle.std.specs.Prelude.{◌≡◌, ◌+◌, ◌<◌, ◌≤◌, IfOk};
 ghost use Rattle.ocpp_scalars.specs.Limits.{last_second};
@@ -6,10 +6,10 @@ ghost use Rattle.meaning.specs.Limits.{max_duration};
 
 use ocpp_scalars::{Instant, LAST_SECOND, Refusal};
 
-/// The longest duration that may be asked: 31 days, in seconds.
+/// The longest duration that may be requested: 31 days, in seconds.
 pub const MAX_DURATION: u32 = 2_678_400;
 
-/// What GetCompositeSchedule asks (chapter 5.7): the limits of a connector, 0 being the whole
+/// A GetCompositeSchedule request (chapter 5.7): for the limits of a connector, 0 for the whole
 /// point, from a start on for a number of seconds, none of them past the last instant.
 #[derive(Clone, Copy, PartialEq, Eq)]
 pub struct Ask {
@@ -25,9 +25,9 @@ pub struct Ask {
 impl Ask {
     ghost use Rattle.meaning.specs.Ask.{ask_of};
 
-    /// What is asked of a connector from a start on for a number of seconds. The refusals are
-    /// `BadDuration`, at 0 and above `MAX_DURATION`, and then `PastCalendar`, where the last second
-    /// lies past the last instant.
+    /// Makes a request for a connector from a start on for a number of seconds. The refusals are
+    /// `BadDuration`, for 0 and above `MAX_DURATION`, and then `PastCalendar`, if the last second
+    /// is past the last instant.
     pub fn try_new(connector: u32, start: Instant, duration: u32) -> Result<Ask, Refusal>
         ensures made { result ≡ ask_of connector start duration }
         ensures fields { IfOk result

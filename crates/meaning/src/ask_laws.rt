@@ -6,8 +6,8 @@ ghost use Rattle.ocpp_scalars.specs.Causes.{IsFirstCause};
 ghost use Rattle.meaning.specs.declared.ask.Ask.{Ask};
 ghost use Rattle.meaning.specs.Ask.{IsAskOf, ask_causes, ask_of};
 
-/// The law of requests. Numbers are refused by the first cause that holds. Where none holds, they
-/// make the request of these numbers.
+/// The law of requests. Numbers are refused by the first cause that holds. If none holds, they make
+/// the request of these numbers.
 pub fn asks()
     ensures refused { (connector start duration : ℕ) (refusal : Refusal)
         → (ask_of connector start duration ≡ Err refusal)

@@ -1,4 +1,4 @@
-//! Limits with what sets them, and the lesser of two.
+//! Limits with their causes, and the lesser of two.
 
 ghost use Rattle.std.specs.Prelude.{◌≡◌, ℕ, [], ◌∷◌};
 ghost use Rattle.std.specs.List.{filter_map};
@@ -10,7 +10,7 @@ use crate::cause::{Cause, PrevailingProfile};
 use profile::Row;
 use std::marker::Model;
 
-/// A limit in tenths, with what sets it.
+/// A limit in tenths, with its cause.
 #[derive(Drop)]
 pub struct Bound {
     pub limit: u32,
@@ -26,7 +26,7 @@ impl Model for Bound {
 }
 
 impl Bound {
-    /// Of two bounds the lesser, and the first of equals.
+    /// Returns the lesser of two bounds, or the first of equals.
     pub fn or_less(self, second: Bound) -> Bound
         ensures { result ≡ lesser self second }
     {
@@ -46,7 +46,7 @@ pub struct ProfileLimit {
 }
 
 impl ProfileLimit {
-    /// A row's profile with a limit.
+    /// Makes a limit of a row's profile.
     pub fn of(row: &Row, limit: u32) -> ProfileLimit
         ensures { result ≡ profile_limit_of (with_limit row.now limit) }
     {
@@ -62,12 +62,14 @@ impl ProfileLimit {
     }
 }
 
-/// Of a profile's limit, where there is one, and a bound the lesser, and the first of equals.
+/// Returns the lesser of a profile's limit, if there is one, and a bound, or the first of equals.
 pub fn lesser_of(best: Option<ProfileLimit>, other: Bound) -> Bound
     ensures { result ≡ lesser_bound best other }
 {
     match best {
         Some(best) => {
+            // The profile comes first: of equal bounds it is the cause, since an operator can
+            // change it.
             let first = Bound {
                 limit: best.limit,
                 cause: Cause::Profile(best.profile),
@@ -78,7 +80,7 @@ pub fn lesser_of(best: Option<ProfileLimit>, other: Bound) -> Bound
     }
 }
 
-/// Of two limits, where they are there, the one of the higher stack level, and the first of equals.
+/// Returns the limit with the higher stack level, or the first of equals, or the only one.
 pub(crate) fn higher_level(
     best: Option<ProfileLimit>,
     next: Option<ProfileLimit>,

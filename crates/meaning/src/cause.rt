@@ -1,11 +1,11 @@
-//! Why a limit is what it is, and why a profile has no part in it.
+//! The cause of a limit, and the reason why a profile has no part in it.
 
 ghost use Rattle.std.specs.Prelude.{◌≡◌, ◌↔◌, IsTrue};
 
 use crate::shares::Shares;
 use profile::Purpose;
 
-/// What identifies a profile that prevails (chapter 7, ChargingProfile).
+/// The fields that identify a profile that prevails (chapter 7, ChargingProfile).
 #[derive(Clone, Copy, PartialEq, Eq)]
 pub struct PrevailingProfile {
     /// chargingProfileId.
@@ -13,11 +13,11 @@ pub struct PrevailingProfile {
     /// chargingProfilePurpose.
     pub purpose: Purpose,
     pub stack_level: u32,
-    /// The connector at which it stands, 0 being the whole point.
+    /// The connector of the profile, 0 for the whole point.
     pub connector: u32,
 }
 
-/// What sets a limit (chapter 3.13).
+/// The cause of a limit (chapter 3.13).
 #[derive(Clone, Copy, PartialEq, Eq)]
 pub enum Cause {
     /// A profile that prevails.
@@ -26,28 +26,28 @@ pub enum Cause {
     ConnectorCeiling,
     /// The point's ceiling.
     PointCeiling,
-    /// At connector 0: what the active connectors may draw together.
+    /// At connector 0: the sum of the active connectors' limits.
     Sum,
 }
 
-/// What an active connector has in the sum of connector 0.
+/// The share of an active connector in the sum of connector 0.
 #[derive(Clone, Copy, PartialEq, Eq)]
 pub struct Share {
     /// From 1 on.
     pub connector: u32,
     /// Its own limit, in tenths of A or W.
     pub limit: u32,
-    /// What sets that: a profile, or the connector's ceiling.
+    /// The cause of that limit: a profile, or the connector's ceiling.
     pub cause: Cause,
 }
 
-/// A limit, with what sets it.
+/// A limit, with its cause.
 #[derive(Drop)]
 pub struct Reason {
     /// In tenths of A or W.
     pub limit: u32,
     pub cause: Cause,
-    /// Where the cause is the sum, what each active connector has in it; else none.
+    /// The share of each active connector, if the cause is the sum; otherwise none.
     pub shares: Shares,
 }
 
@@ -60,19 +60,19 @@ impl Reason {
     }
 }
 
-/// Why a profile that a point has doesn't prevail for a connector at an instant. Of several reasons the first in
-/// this order counts.
+/// The reason why a profile of a point doesn't prevail for a connector at an instant. Of several
+/// reasons the first in this order counts.
 #[derive(Clone, Copy, PartialEq, Eq)]
 pub enum WhyNot {
-    /// It stands at another connector.
+    /// It is at another connector.
     OtherConnector,
     /// It is a TxProfile, and there is no transaction.
     NoTransaction,
-    /// It stands at connector 0, and the connector has a TxDefaultProfile of its stack level.
+    /// It is at connector 0, and the connector has a TxDefaultProfile of its stack level.
     Hidden,
-    /// It isn't valid yet: validFrom is to come.
+    /// It isn't valid yet: its validFrom hasn't come.
     NotYetValid,
-    /// It isn't valid any more: validTo has come.
+    /// It isn't valid any more: its validTo has come.
     NoLongerValid,
     /// Its schedule hasn't begun.
     BeforeAnchor,

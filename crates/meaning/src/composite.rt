@@ -7,7 +7,8 @@ use crate::said::SaidPeriods;
 use std::alloc::AllocError;
 use std::marker::Model;
 
-/// The most periods of a schedule that is an answer. A [`Composite`] by itself may have more.
+/// The most periods of a schedule that is returned as an answer. A [`Composite`] by itself may have
+/// more.
 pub const MAX_COMPOSITE_PERIODS: usize = 4_096;
 
 /// One step of a composite schedule (chapter 7, ChargingSchedulePeriod).
@@ -42,7 +43,7 @@ impl Composite {
     ghost use Rattle.meaning.specs.Composite.{IsSchedule};
     ghost use Rattle.meaning.specs.Said.{IsSaidSchedule};
 
-    /// The schedule of these periods over a number of seconds.
+    /// Makes the schedule of these periods over a number of seconds.
     pub fn new(duration: u32, periods: Vec<CompositePeriod>) -> Composite
         requires schedule { IsSchedule duration periods.items }
         ensures lasts { result.duration ≡ duration }
@@ -51,9 +52,10 @@ impl Composite {
         Composite { duration, periods }
     }
 
-    /// The schedule over a number of seconds that periods from a point make. It succeeds exactly where
-    /// they begin at 0, each starts later than the one before it, all within the duration, and they are
-    /// at most `MAX_COMPOSITE_PERIODS`. Else it returns them. Allocates nothing.
+    /// Makes a schedule over a number of seconds of periods that a point reported. It succeeds
+    /// exactly if they begin at 0, each starts later than the one before it, all within the
+    /// duration, and they are at most `MAX_COMPOSITE_PERIODS`. Otherwise it returns them. Allocates
+    /// nothing.
     pub fn from_said(duration: u32, periods: SaidPeriods) -> Result<Composite, SaidPeriods>
         ensures valid { OnOk result (IsSaidSchedule duration periods) }
         ensures lasts { IfOk result (λ schedule. schedule.duration ≡ duration) }
@@ -68,14 +70,14 @@ impl Composite {
         }
     }
 
-    /// How many seconds it covers.
+    /// Returns the number of seconds that it covers.
     pub fn duration(&self) -> u32
         ensures { result ≡ self.now.duration }
     {
         self.duration
     }
 
-    /// The periods in order.
+    /// Returns the periods in order.
     pub fn periods(&self) -> &[CompositePeriod]
         ensures value { result.now ≡ self.now.periods }
         ensures schedule { IsSchedule self.now.duration self.now.periods }
@@ -83,7 +85,7 @@ impl Composite {
         self.periods.as_slice()
     }
 
-    /// A copy.
+    /// Returns a copy.
     pub fn copy(&self) -> Result<Composite, AllocError>
         ensures { IfOk result (λ copy. copy ≡ self.now) }
     {
@@ -96,14 +98,14 @@ impl Composite {
     }
 }
 
-/// Whether periods from a point make a schedule over a number of seconds.
+/// Whether periods that a point reported make a schedule over a number of seconds.
 fn is_said_schedule(duration: u32, periods: &[CompositePeriod]) -> bool
     ensures { result ≡ is_said_schedule duration periods.now }
 {
     periods.len() <= MAX_COMPOSITE_PERIODS && is_some_schedule(duration, periods)
 }
 
-/// The same of any number of periods.
+/// Whether any number of periods make a schedule over a number of seconds.
 fn is_some_schedule(duration: u32, periods: &[CompositePeriod]) -> bool
     ensures { result ≡ is_some_schedule duration periods.now }
 {

@@ -1,6 +1,6 @@
-//! What the profiles of a charge point mean (OCPP 1.6, chapter 3.13): the limit of a connector at
-//! an instant, and the composite schedule of a request, found second by second. The definitions in
-//! `specs/` are what every faster body is proved against.
+//! The meaning of a charge point's profiles (OCPP 1.6, chapter 3.13): the limit of a connector at
+//! an instant, and the composite schedule of a request, found second by second. Every faster body
+//! is proved against the definitions in `specs/`.
 #![tactic(auto)]
 
 mod ask;

@@ -8,14 +8,17 @@ use crate::view::View;
 use ocpp_scalars::Instant;
 use profile::Purpose;
 
-/// The limit of a connector at an instant, in tenths, in a schedule asked from `asked` on (chapter
-/// 3.13). Connector 0 is the whole point.
+/// Returns the limit of a connector at an instant, in tenths, in a schedule requested from `asked`
+/// on (chapter 3.13). Connector 0 is the whole point.
 pub fn limit_at(view: &View<'_>, connector: u32, asked: Instant, instant: Instant) -> u32
     requires has_connector { connector ≤ length view.now.ceilings.now }
     ensures { result ≡ limit (point_state view.now) connector asked instant }
 {
+    // As the definition does, this reads all rows for one second. The sweep is faster, and proved
+    // to give the same limits.
     let point = view.point_limit(asked, instant);
     if connector == 0 {
+        // The point's limit alone would promise power that no connector may draw.
         view.shared_limit_within(point, asked, instant)
     } else {
         point.min(view.own_limit(connector as usize, asked, instant))
@@ -23,7 +26,7 @@ pub fn limit_at(view: &View<'_>, connector: u32, asked: Instant, instant: Instan
 }
 
 impl View<'_> {
-    /// The least of the point's ceiling and the prevailing ChargePointMaxProfile.
+    /// Returns the least of the point's ceiling and the prevailing ChargePointMaxProfile.
     fn point_limit(&self, asked: Instant, instant: Instant) -> u32
         ensures { result ≡ point_limit (point_state self.now) asked instant }
     {
@@ -33,7 +36,7 @@ impl View<'_> {
         }
     }
 
-    /// The least of the connector's ceiling and its transaction limit.
+    /// Returns the least of the connector's ceiling and its transaction limit.
     fn own_limit(&self, connector: usize, asked: Instant, instant: Instant) -> u32
         requires above { 0 < connector }
         requires has_connector { connector ≤ length self.now.ceilings.now }
@@ -46,7 +49,7 @@ impl View<'_> {
         }
     }
 
-    /// The limit of the prevailing TxProfile, or else of the prevailing TxDefaultProfile.
+    /// Returns the limit of the prevailing TxProfile, otherwise of the prevailing TxDefaultProfile.
     fn transaction_limit(&self, connector: usize, asked: Instant, instant: Instant) -> Option<u32>
         ensures { result ≡ transaction_limit (point_state self.now) connector asked instant }
     {
@@ -56,8 +59,7 @@ impl View<'_> {
         }
     }
 
-    /// What the active connectors may draw together, as far as it lies within `most`. The sum stops
-    /// there, so that no number of connectors makes it overflow.
+    /// Returns the sum of the active connectors' limits, but at most `most`.
     fn shared_limit_within(&self, most: u32, asked: Instant, instant: Instant) -> u32
         ensures { result ≡ min most (shared_limit (point_state self.now) asked instant) }
     {
@@ -66,6 +68,8 @@ impl View<'_> {
             let connector = index + 1;
             if self.active_since(connector).is_some() {
                 let own = self.own_limit(connector, asked, instant);
+                // Cut at `most`, which leaves the least of both as it is: the definition's sum has
+                // no bound, but this one would overflow.
                 sum = least_sum(most, sum, own);
             }
         }
@@ -73,7 +77,7 @@ impl View<'_> {
     }
 }
 
-/// The sum of two limits, or `most` where it is greater.
+/// Returns the sum of two limits, but at most `most`.
 fn least_sum(most: u32, sum: u32, limit: u32) -> u32
     ensures { result ≡ min most (sum + limit) }
 {

@@ -1,4 +1,4 @@
-//! Why a profile that a point has doesn't prevail.
+//! The reason why a profile of a point doesn't prevail.
 
 ghost use Rattle.std.specs.Prelude.{◌≡◌, ℕ, ◌<◌, Option, Some, length, slice_get};
 ghost use Rattle.std.specs.List.{list_any};
@@ -14,9 +14,10 @@ use crate::view::View;
 use ocpp_scalars::Instant;
 use profile::{Purpose, Row, is_candidate};
 
-/// Why the row at a place among those of a view doesn't prevail for a connector at an instant, in a
-/// schedule asked from `asked` on (chapter 3.13), or `None` where it does. A ChargePointMaxProfile
-/// prevails for the whole point; connector 0 is taken as one that never charges.
+/// Returns the reason why the row at an index of a view doesn't prevail for a connector at an
+/// instant, in a schedule requested from `asked` on (chapter 3.13), or `None` if it does. A
+/// ChargePointMaxProfile prevails for the whole point; connector 0 is taken as one that never
+/// charges.
 pub fn why_not(
     view: &View<'_>,
     connector: u32,
@@ -43,7 +44,7 @@ pub fn why_not(
 }
 
 impl View<'_> {
-    /// Why a row doesn't count for a connector.
+    /// Returns the reason why a row doesn't count for a connector.
     fn why_not_counted(&self, connector: usize, row: &Row) -> Option<WhyNot>
         ensures { result ≡ why_not_counted (point_state self.now) connector row.now }
     {
@@ -61,7 +62,7 @@ impl View<'_> {
         None
     }
 
-    /// Why a row has no limit for a connector at an instant.
+    /// Returns the reason why a row has no limit for a connector at an instant.
     fn why_no_limit(
         &self,
         connector: usize,
@@ -81,7 +82,7 @@ impl View<'_> {
         why_no_limit_in(row, row.profile.offset(base, instant))
     }
 
-    /// Why a row with a limit doesn't prevail.
+    /// Returns the reason why a row with a limit doesn't prevail.
     fn why_behind(
         &self,
         connector: usize,
@@ -136,6 +137,9 @@ impl View<'_> {
             (is_higher purpose (point_state self.now) connector asked instant level)
             self.now.rows.now }
     {
+        // Stops at the first such row, and tests last whether it is a candidate, which may read all
+        // rows. An explanation asks this for every row: finding the prevailing profile each time
+        // was cubic.
         let started = self.active_since(connector);
         self.rows.iter().any(|row| {
             level < row.profile.stack_level
@@ -148,7 +152,7 @@ impl View<'_> {
     }
 }
 
-/// Whether a profile that stands at a connector doesn't speak for another one.
+/// Whether a profile at a connector doesn't apply to another one.
 fn is_elsewhere(purpose: Purpose, connector: usize, at: usize) -> bool
     ensures { result ≡ is_elsewhere purpose connector at }
 {
@@ -159,7 +163,7 @@ fn is_elsewhere(purpose: Purpose, connector: usize, at: usize) -> bool
     }
 }
 
-/// Why a row has no limit a number of seconds into its schedule, or before it.
+/// Returns the reason why a row has no limit at an offset in its schedule, or before it.
 fn why_no_limit_in(row: &Row, offset: Option<u64>) -> Option<WhyNot>
     ensures { result ≡ why_no_limit_in row.now offset }
 {

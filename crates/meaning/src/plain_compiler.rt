@@ -1,4 +1,4 @@
-//! The plain compiler of composite schedules, which every faster one is held against.
+//! The plain compiler of composite schedules, the reference for every faster one.
 
 ghost use Rattle.std.specs.Prelude.{◌≡◌, ◌+◌, ◌≤◌, ◌++◌, length, IfErr, OnErr, OnOk};
 ghost use Rattle.meaning.specs.Limits.{max_composite_periods};
@@ -14,8 +14,8 @@ use crate::view::View;
 use ocpp_scalars::Refusal;
 use std::alloc::Global;
 
-/// The exact schedule of a request, found second by second: `ResultTooLong` where it has more than
-/// `MAX_COMPOSITE_PERIODS` periods, and `OutOfMemory`.
+/// Compiles the exact schedule of a request, second by second. Returns `ResultTooLong` if it has
+/// more than `MAX_COMPOSITE_PERIODS` periods, or `OutOfMemory`.
 pub fn compile_plain(alloc: Global, view: &View<'_>, ask: &Ask) -> Result<Composite, Refusal>
     requires has_connector { ask.now.connector ≤ length view.now.ceilings.now }
     ensures { IsCompiled (limit_asked (point_state view.now) ask.now.connector ask.now.start)
@@ -36,7 +36,7 @@ pub fn compile_plain(alloc: Global, view: &View<'_>, ask: &Ask) -> Result<Compos
     Ok(Composite::new(ask.duration, periods))
 }
 
-/// Adds the period of one second more, unless its limit is that of the second before. The refusals
+/// Adds the period of one more second, unless its limit is that of the second before. The refusals
 /// are `ResultTooLong`, past `MAX_COMPOSITE_PERIODS`, and `OutOfMemory`; then nothing is added.
 pub fn add_second(
     periods: &mut Vec<CompositePeriod>,

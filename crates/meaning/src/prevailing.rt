@@ -1,4 +1,4 @@
-//! Which profile of a purpose prevails at an instant.
+//! The profile of a purpose that prevails at an instant.
 
 ghost use Rattle.std.specs.Prelude.{◌≡◌, ℕ, [], ◌∷◌};
 ghost use Rattle.std.specs.List.{filter_map};
@@ -11,8 +11,8 @@ use ocpp_scalars::Instant;
 use profile::{Purpose, Row, is_candidate};
 
 impl View<'_> {
-    /// The limit of a connector at an instant by the prevailing profile of a purpose (chapter 3.13),
-    /// in tenths, or `None` where no profile of that purpose has one.
+    /// Returns the limit of a connector at an instant by the prevailing profile of a purpose
+    /// (chapter 3.13), in tenths, or `None` if no profile of that purpose has one.
     pub(crate) fn prevailing(
         &self,
         purpose: Purpose,
@@ -34,7 +34,7 @@ impl View<'_> {
         best.map(|(_, limit)| limit)
     }
 
-    /// A row's stack level and its limit for a connector at an instant, where it has one.
+    /// Returns a row's stack level and its limit for a connector at an instant, if it has one.
     fn level_and_limit(
         &self,
         connector: usize,
@@ -55,17 +55,19 @@ pub fn has_its_transaction(purpose: Purpose, started: Option<Instant>) -> bool
     ensures { result ≡ has_its_transaction purpose started }
 {
     match purpose {
+        // A default counts without a transaction too, so that an operator sees the limit of a
+        // future one.
         Purpose::ChargePointMaxProfile | Purpose::TxDefaultProfile => true,
         Purpose::TxProfile => started.is_some(),
     }
 }
 
-/// Of two limits, each with its stack level where it is there, the one of the higher level, and the
-/// first of equals.
+/// Returns the limit with the higher stack level, or the first of equals, or the only one.
 fn higher(best: Option<(u32, u32)>, next: Option<(u32, u32)>) -> Option<(u32, u32)>
     ensures { result ≡ greatest (λ (limit : ℕ × ℕ). limit.0)
         (filter_map (λ limit. limit) (best ∷ (next ∷ []))) }
 {
+    // Candidates of a book never have equal levels; for other rows the definition takes the first.
     match (best, next) {
         (Some(first), Some(second)) if first.0 < second.0 => Some(second),
         (None, _) => next,

@@ -1,4 +1,4 @@
-//! What sets the limit of a connector at an instant.
+//! The reason for the limit of a connector at an instant.
 
 ghost use Rattle.std.specs.Prelude.{◌≡◌, ◌<◌, ◌≤◌, ◌^◌, true, IfOk, length, min, option_map};
 ghost use Rattle.profile.specs.declared.purpose.Purpose.TheVariants.{ChargePointMaxProfile};
@@ -17,8 +17,9 @@ use ocpp_scalars::Instant;
 use profile::{Purpose, Row, is_candidate};
 use std::alloc::{AllocError, Global};
 
-/// The limit of a connector at an instant with what sets it, in a schedule asked from `asked` on
-/// (chapter 3.13). Connector 0 is the whole point. Where that is the sum, the shares take memory.
+/// Returns the limit of a connector at an instant with its cause, in a schedule requested from
+/// `asked` on (chapter 3.13). Connector 0 is the whole point. If its cause is the sum, the shares
+/// take memory.
 pub fn reason_at(
     alloc: Global,
     view: &View<'_>,
@@ -49,14 +50,16 @@ pub fn reason_at(
 }
 
 impl View<'_> {
-    /// What sets the limit of the whole point.
+    /// Returns the bound of the whole point.
     fn whole_bound(&self, asked: Instant, instant: Instant) -> Bound
         ensures { result ≡ bound_by true (point_state self.now) 0 asked instant }
     {
+        // Just above the ceiling: a sum that is greater isn't the least, so its value doesn't
+        // matter.
         let most = u64::from(self.ceiling) + 1;
         let sum = self.shared_limit_up_to(most, asked, instant);
         if sum == most {
-            // It lies above the point's ceiling.
+            // The sum is above the point's ceiling.
             return self.below_maximum(self.point_ceiling(), asked, instant);
         }
         let sum = Bound {
@@ -66,7 +69,7 @@ impl View<'_> {
         self.below_point(sum, asked, instant)
     }
 
-    /// The point's ceiling.
+    /// Returns the point's ceiling.
     fn point_ceiling(&self) -> Bound
         ensures { result ≡ bound_of PointCeiling self.now.ceiling }
     {
@@ -76,14 +79,14 @@ impl View<'_> {
         }
     }
 
-    /// The least of the prevailing ChargePointMaxProfile, a bound and the point's ceiling.
+    /// Returns the least of the prevailing ChargePointMaxProfile, a bound and the point's ceiling.
     fn below_point(&self, bound: Bound, asked: Instant, instant: Instant) -> Bound
         ensures { result ≡ below_point (point_state self.now) asked instant bound }
     {
         self.below_maximum(bound.or_less(self.point_ceiling()), asked, instant)
     }
 
-    /// The least of the prevailing ChargePointMaxProfile and a bound.
+    /// Returns the least of the prevailing ChargePointMaxProfile and a bound.
     fn below_maximum(&self, bound: Bound, asked: Instant, instant: Instant) -> Bound
         ensures { result ≡ lesser_of
             (prevailing_row ChargePointMaxProfile (point_state self.now) 0 asked instant) bound }
@@ -92,7 +95,7 @@ impl View<'_> {
         lesser_of(most, bound)
     }
 
-    /// What sets a connector's own limit.
+    /// Returns the bound of a connector's own limit.
     fn own_bound(&self, connector: usize, asked: Instant, instant: Instant) -> Bound
         requires above { 0 < connector }
         requires has_connector { connector ≤ length self.now.ceilings.now }
@@ -105,7 +108,7 @@ impl View<'_> {
         lesser_of(self.transaction_profile(connector, asked, instant), ceiling)
     }
 
-    /// The prevailing TxProfile, or else the prevailing TxDefaultProfile, with its limit.
+    /// Returns the prevailing TxProfile, otherwise the prevailing TxDefaultProfile, with its limit.
     fn transaction_profile(
         &self,
         connector: usize,
@@ -121,7 +124,7 @@ impl View<'_> {
         }
     }
 
-    /// What the active connectors may draw together, as far as it lies within `most`.
+    /// Returns the sum of the active connectors' limits, but at most `most`.
     fn shared_limit_up_to(&self, most: u64, asked: Instant, instant: Instant) -> u64
         requires few { most ≤ 4294967296 }
         ensures { result ≡ min most (shared_limit (point_state self.now) asked instant) }
@@ -137,7 +140,7 @@ impl View<'_> {
         sum
     }
 
-    /// What each active connector has in the sum.
+    /// Returns the share of each active connector in the sum.
     fn shares(&self, alloc: Global, asked: Instant, instant: Instant) -> Result<Shares, AllocError>
         requires numbered { length self.now.ceilings.now < 2 ^ 32 }
         ensures { IfOk result
@@ -158,8 +161,8 @@ impl View<'_> {
         Ok(Shares::new(shares))
     }
 
-    /// The prevailing profile of a purpose (chapter 3.13) for a connector at an instant with its
-    /// limit, or `None` where no profile of that purpose has one.
+    /// Returns the prevailing profile of a purpose (chapter 3.13) for a connector at an instant
+    /// with its limit, or `None` if no profile of that purpose has one.
     pub(crate) fn prevailing_profile(
         &self,
         purpose: Purpose,
@@ -182,7 +185,7 @@ impl View<'_> {
         best
     }
 
-    /// A row's profile with its limit for a connector at an instant, where it has one.
+    /// Returns a row's profile with its limit for a connector at an instant, if it has one.
     fn profile_limit(
         &self,
         connector: usize,

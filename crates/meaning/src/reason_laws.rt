@@ -7,9 +7,9 @@ ghost use Rattle.meaning.specs.Prevailing.{prevailing};
 ghost use Rattle.meaning.specs.Limit.{limit, own_limit};
 ghost use Rattle.meaning.specs.Cause.{RowLimit, prevailing_row, share, reason, IsSetBy};
 
-/// The laws of reasons: the limit of the row that prevails is the limit that prevails; the limit of a
-/// reason is the limit, and its cause is what it says; and so is each share of a sum, whose limit is
-/// its connector's own.
+/// The laws of reasons: the limit of the row that prevails is the prevailing limit. The limit of a
+/// reason is that of the definition, and its cause holds as stated. The same holds of each share of
+/// a sum, whose limit is its connector's own.
 pub fn reasons()
     ensures prevails { (purpose : Purpose) (state : PointState) (connector asked instant : ℕ)
         → prevailing purpose state connector asked instant

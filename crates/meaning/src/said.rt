@@ -1,4 +1,4 @@
-//! What a charge point says its composite schedule is.
+//! The composite schedule that a charge point reports.
 
 ghost use Rattle.std.specs.Prelude.{◌≡◌, length};
 
@@ -7,7 +7,8 @@ use ocpp_scalars::Instant;
 use profile::Unit;
 use std::marker::Model;
 
-/// The periods that a charge point says, which may be no schedule: any number of them, in any order.
+/// The periods that a charge point reports, which may be no schedule: any number of them, in any
+/// order.
 #[derive(Drop)]
 pub struct SaidPeriods {
     items: Vec<CompositePeriod>,
@@ -23,28 +24,28 @@ impl Model for SaidPeriods {
 }
 
 impl SaidPeriods {
-    /// The periods of a list.
+    /// Makes the periods of a list.
     pub fn new(items: Vec<CompositePeriod>) -> SaidPeriods
         ensures { result ≡ items.items }
     {
         SaidPeriods { items }
     }
 
-    /// The periods, as the point has them.
+    /// Returns the periods, in the point's order.
     pub fn as_slice(&self) -> &[CompositePeriod]
         ensures { result.now ≡ self.now }
     {
         self.items.as_slice()
     }
 
-    /// How many there are.
+    /// Returns the number of periods.
     pub fn len(&self) -> usize
         ensures { result ≡ length self.now }
     {
         self.items.len()
     }
 
-    /// The list.
+    /// Returns the list.
     pub(crate) fn into_vec(self) -> Vec<CompositePeriod>
         ensures { result.items ≡ self }
     {
@@ -52,19 +53,19 @@ impl SaidPeriods {
     }
 }
 
-/// What a charge point replies to GetCompositeSchedule (chapter 5.7, and chapter 6,
+/// The reply of a charge point to GetCompositeSchedule (chapter 5.7, and chapter 6,
 /// GetCompositeSchedule.conf).
 #[derive(Drop)]
 pub enum Said {
-    /// That it has none to tell.
+    /// It rejects the request.
     Refused,
-    /// What can't be read.
+    /// The reply can't be read.
     Unread,
     /// A schedule.
     Schedule {
         /// scheduleStart.
         start: Instant,
-        /// Seconds, where it says so.
+        /// Seconds, if given.
         duration: Option<u32>,
         /// chargingRateUnit.
         unit: Unit,

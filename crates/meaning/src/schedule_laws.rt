@@ -10,7 +10,7 @@ ghost use Rattle.meaning.specs.Exact.{IsExact};
 ghost use Rattle.meaning.specs.Compiled.{IsExactAnswer, IsTooLong};
 ghost use Rattle.meaning.specs.ByCases.Exact.{exact_periods, exact_schedule};
 
-/// The law that every request of a connector of a point has an exact schedule.
+/// The law that every request for a connector of a point has an exact schedule.
 pub fn exact_schedule_exists()
     ensures { (state : PointState) (connector start duration : ℕ) → 0 < duration
         → IsExact (limit_asked state connector start) duration
@@ -25,8 +25,8 @@ pub fn one_schedule()
         → IsExact (limit_asked state connector start) duration other → one ≡ other }
 {}
 
-/// The law that the periods and the schedule that are computed second by second are the exact ones:
-/// what a compiler returns is that schedule, or that it is too long, or that memory ran out.
+/// The law that the periods and the schedule that are computed second by second are the exact ones.
+/// A compiler returns that schedule, or that it is too long, or that memory ran out.
 pub fn exact_schedules()
     ensures periods { (limit : ℕ → ℕ) (duration : ℕ) (periods : List CompositePeriod) → 0 < duration
         → IsExact limit duration periods ↔ (periods ≡ exact_periods limit duration) }

@@ -6,7 +6,7 @@ use crate::cause::Share;
 use std::alloc::Global;
 use std::marker::Model;
 
-/// What the active connectors of a point have in the sum of connector 0, by rising connector.
+/// The shares of the active connectors of a point in the sum of connector 0, by rising connector.
 #[derive(Drop)]
 pub struct Shares {
     items: Vec<Share>,
@@ -22,7 +22,7 @@ impl Model for Shares {
 }
 
 impl Shares {
-    /// No shares. Allocates nothing.
+    /// Makes an empty list. Allocates nothing.
     pub fn none(alloc: Global) -> Shares
         ensures { result ≡ [] }
     {
@@ -31,14 +31,14 @@ impl Shares {
         }
     }
 
-    /// The shares of a list.
+    /// Makes the shares of a list.
     pub fn new(items: Vec<Share>) -> Shares
         ensures { result ≡ items.items }
     {
         Shares { items }
     }
 
-    /// The shares, by rising connector.
+    /// Returns the shares, by rising connector.
     pub fn as_slice(&self) -> &[Share]
         ensures { result.now ≡ self.now }
     {

@@ -1,11 +1,11 @@
-//! What a charge point has at one time.
+//! The state of a charge point at one time.
 
 ghost use Rattle.std.specs.Prelude.{◌≡◌};
 
 use ocpp_scalars::Instant;
 use profile::Row;
 
-/// What a charge point has at one time: its ceilings, its active transactions and its rows.
+/// The state of a charge point at one time: its ceilings, its active transactions and its rows.
 #[derive(Clone, Copy)]
 pub struct View<'a> {
     /// The point's ceiling, in tenths of A or W.
@@ -21,7 +21,7 @@ pub struct View<'a> {
 impl View<'_> {
     ghost use Rattle.meaning.specs.View.{point_state, active_since};
 
-    /// The start of the active transaction at a connector; connector 0 never has one.
+    /// Returns the start of the active transaction at a connector; connector 0 never has one.
     pub fn active_since(&self, connector: usize) -> Option<Instant>
         ensures { result ≡ active_since (point_state self.now) connector }
     {

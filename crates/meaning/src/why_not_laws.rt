@@ -1,4 +1,4 @@
-//! The law of why a profile doesn't prevail, on a function that does nothing.
+//! The law of the reasons why a profile doesn't prevail, on a function that does nothing.
 
 ghost use Rattle.std.specs.Prelude.{◌≡◌, ◌↔◌, ℕ, None};
 ghost use Rattle.profile.specs.declared.row.Row.{Row};
@@ -6,8 +6,8 @@ ghost use Rattle.meaning.specs.View.{PointState};
 ghost use Rattle.meaning.specs.Cause.{StandsIn};
 ghost use Rattle.meaning.specs.WhyNot.{why_not, Prevails, HaveOwnKeys};
 
-/// The law that a row of a point has no reason not to prevail exactly where it prevails, as long as no two
-/// rows have one connector, purpose and stack level.
+/// The law that there is no reason why a row of a point doesn't prevail exactly if it prevails,
+/// provided that no two rows have the same connector, purpose and stack level.
 pub fn why_nots()
     ensures { (state : PointState) (connector asked instant : ℕ) (row : Row)
         → HaveOwnKeys state.rows → StandsIn state.rows row

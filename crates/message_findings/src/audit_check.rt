@@ -1,22 +1,23 @@
-//! What came of a charge point's audit, by the reply that a line brings.
+//! Checks the outcome of a charge point's audit, by the reply in a line.
 
 use crate::report::Report;
 use messages::AuditOutcome;
 use replay::{PlayedLine, Playing, PointChange};
 use std::alloc::AllocError;
 
-/// The audit whose call a line's reply confirmed, and how that reply was judged.
+/// The audit whose call a line's reply confirmed, and the verdict on that reply.
 #[derive(Clone, Copy)]
 pub(crate) struct JudgedAudit {
     /// The number of its call.
     pub call: u64,
     pub connector: u32,
-    /// Seconds.
+    /// In seconds.
     pub duration: u32,
     pub outcome: AuditOutcome,
 }
 
-/// The audit of the point of an identity, if the line that was played confirmed a call of it.
+/// Returns the last audit of the point of this identity, if the played line confirmed a call of it.
+// That may be another call than the audit's, so its number is compared with the reply's id later.
 pub(crate) fn judged_audit(
     playing: &Playing<'_>,
     played: &PlayedLine<'_>,
@@ -34,8 +35,8 @@ pub(crate) fn judged_audit(
     })
 }
 
-/// What is found in the reply to an audit's call: that the point isn't in step, or that nobody
-/// knows it.
+/// Checks the reply to an audit's call. Reports a point that isn't in step, or an audit without a
+/// verdict.
 pub(crate) fn check_verdict(report: &mut Report, audit: &JudgedAudit) -> Result<(), AllocError> {
     let alloc = report.alloc;
     let JudgedAudit {

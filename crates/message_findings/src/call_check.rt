@@ -1,4 +1,4 @@
-//! What is wrong with a CALL that a line of a script brings.
+//! Checks a CALL in a line of a script.
 
 use crate::field_fault::field_fault_message;
 use crate::line_hints::point_hint;
@@ -21,7 +21,7 @@ use profile_findings::has_no_criterion;
 use site_rules::{Site, SitePoint};
 use std::alloc::{AllocError, Global};
 
-/// A CALL of a line.
+/// A CALL in a line.
 #[derive(Clone, Copy)]
 pub(crate) struct Call<'a, 'node, 'memory> {
     pub text: &'a LineText<'a>,
@@ -42,7 +42,7 @@ pub(crate) fn check_call(report: &mut Report, call: &Call<'_, '_, '_>) -> Result
     }
 }
 
-/// That an action of this name is none of a side, and which one was probably meant.
+/// Reports an action that a side doesn't have, and the one that was probably meant.
 pub(crate) fn refuse_action(
     report: &mut Report,
     sender: Side,
@@ -73,7 +73,7 @@ pub(crate) fn refuse_action(
     report.fault(message)
 }
 
-/// The names of a side's actions.
+/// Returns the names of a side's actions.
 fn actions_of(alloc: Global, side: Side) -> Result<Vec<&'static str>, AllocError> {
     let mut names = Vec::new(alloc);
     for kind in ActionKind::all() {
@@ -84,13 +84,14 @@ fn actions_of(alloc: Global, side: Side) -> Result<Vec<&'static str>, AllocError
     Ok(names)
 }
 
-/// Checks the fields of an action, and what it asks for.
+/// Checks the fields of an action, and the action itself.
 fn check_action(
     report: &mut Report,
     call: &Call<'_, '_, '_>,
     kind: ActionKind,
 ) -> Result<(), AllocError> {
     let alloc = report.alloc;
+    // Of a point's CALL only some fields are read, so its other fields aren't unknown ones.
     if kind.side().is_same(Side::Operator) {
         warn_repeated(report, call.text.frame, kind)?;
     }
@@ -108,14 +109,14 @@ fn check_action(
     }
 }
 
-/// Checks what an action asks for, whose fields are right.
+/// Checks an action whose fields are right.
 fn check_asked(
     report: &mut Report,
     call: &Call<'_, '_, '_>,
     kind: ActionKind,
     action: Action,
 ) -> Result<(), AllocError> {
-    // Of a clear's fields more is said.
+    // An unknown field of a clear has a warning of its own: it may clear more than is meant.
     if kind.side().is_same(Side::Operator) && kind != ActionKind::ClearChargingProfile {
         warn_unknown(report, call.text.frame, kind)?;
         let payload = PayloadObject {
@@ -131,7 +132,7 @@ fn check_asked(
         Action::ClearChargingProfile(criteria) => check_clear(report, call, &criteria),
         Action::GetCompositeSchedule(request) => check_ask(report, call.text, &request),
         Action::RemoteStartTransaction(start) => check_remote_start(report, call.text, start),
-        // The point is asked for a schedule, in the site's unit.
+        // An audit asks the point for a schedule in the site's unit, so the same checks apply.
         Action::AuditPoint {
             connector,
             duration,
@@ -148,8 +149,7 @@ fn check_asked(
     }
 }
 
-/// An action of which nothing more is said here: its refusal, where the point's state has no part
-/// in it.
+/// Reports the refusal of any other action, unless it depends on the point's state.
 fn check_refused(report: &mut Report, text: &LineText<'_>) -> Result<(), AllocError> {
     match text.refusal() {
         Some(Refusal::UnknownPoint) => {
@@ -182,7 +182,7 @@ pub(crate) fn warn_repeated(
     Ok(())
 }
 
-/// The fields of an operator's CALL that nothing looks at.
+/// Returns the unknown fields of an operator's CALL.
 pub(crate) fn unknown_fields(
     alloc: Global,
     frame: &str,
@@ -192,14 +192,14 @@ pub(crate) fn unknown_fields(
     unknown_payload_fields(alloc, frame, &outline, kind)
 }
 
-/// Warns of fields of an operator's CALL that nothing looks at.
+/// Warns of unknown fields of an operator's CALL.
 pub(crate) fn warn_unknown(
     report: &mut Report,
     frame: &str,
     kind: ActionKind,
 ) -> Result<(), AllocError> {
     let alloc = report.alloc;
-    // Two actions are this system's own.
+    // OCPP doesn't have these two actions, so it doesn't define their fields.
     let whose = match kind {
         ActionKind::AuditPoint | ActionKind::PointStatus => "",
         _ => " of OCPP",
@@ -220,7 +220,7 @@ pub(crate) fn warn_unknown(
     Ok(())
 }
 
-/// A ClearChargingProfile, which clears all that matches what is given.
+/// Checks a ClearChargingProfile, which clears all profiles that match its criteria.
 fn check_clear(
     report: &mut Report,
     call: &Call<'_, '_, '_>,
@@ -237,7 +237,8 @@ fn check_clear(
     warn_of_clear(report, call.payload, criteria, &unknown)
 }
 
-/// Warns of a clear that clears more than it seems to, by the fields that are no criteria.
+/// Warns of a clear that clears more than it seems to, by its fields that are no criteria.
+// Unknown fields are ignored, so a clear whose only criterion is misspelled clears everything.
 pub(crate) fn warn_of_clear(
     report: &mut Report,
     payload: Node<'_, '_>,
@@ -259,7 +260,7 @@ pub(crate) fn warn_of_clear(
     Ok(())
 }
 
-/// The fields of a clear without a criterion that are one by their name: they are null.
+/// Returns the criteria of a clear without a criterion that are null.
 fn null_criteria(alloc: Global, payload: Node<'_, '_>) -> Result<Vec<&'static str>, AllocError> {
     let mut names = Vec::new(alloc);
     for row in fields_of(ActionKind::ClearChargingProfile) {
@@ -271,7 +272,7 @@ fn null_criteria(alloc: Global, payload: Node<'_, '_>) -> Result<Vec<&'static st
     Ok(names)
 }
 
-/// Whether a clear without a criterion has fields all the same.
+/// Returns whether a clear without a criterion has fields.
 pub(crate) fn has_fields(
     alloc: Global,
     payload: Node<'_, '_>,
@@ -280,7 +281,7 @@ pub(crate) fn has_fields(
     Ok(!unknown.is_empty() || !null_criteria(alloc, payload)?.is_empty())
 }
 
-/// That a clear has no criterion, and what was probably meant to be one.
+/// Describes a clear without a criterion, and the criteria that were probably meant.
 fn clears_all_message(
     alloc: Global,
     payload: Node<'_, '_>,
@@ -306,7 +307,8 @@ fn clears_all_message(
     Ok(message)
 }
 
-/// The criterion that is probably meant.
+/// Returns the criterion that is probably meant.
+// These names are from other messages or OCPP 2.0.1, and not similar enough for `similar_name`.
 fn criterion_meant(alloc: Global, name: &str) -> Result<Option<&'static str>, AllocError> {
     match name {
         "chargingProfileId" | "profileId" | "chargingProfileID" => Ok(Some("id")),
@@ -320,7 +322,7 @@ fn criterion_meant(alloc: Global, name: &str) -> Result<Option<&'static str>, Al
     }
 }
 
-/// That the site lacks a point, as an answer has it.
+/// Describes the refusal of a point that the site lacks.
 pub(crate) fn unknown_point_message(
     report: &mut Report,
     site: &Site,
@@ -332,13 +334,13 @@ pub(crate) fn unknown_point_message(
     format!(in alloc; "UnknownPoint: the site has no point \"{id}\"{hint}")
 }
 
-/// The point of the line.
+/// Returns the point of the line.
 pub(crate) fn point_of<'a>(site: &'a Site, text: &LineText<'_>) -> Option<SitePoint<'a>> {
     site.point(site.place_of(text.point)?)
 }
 
-/// A GetCompositeSchedule or an AuditPoint, by its answer, as far as what the point has by then has
-/// no part in it.
+/// Checks a GetCompositeSchedule or an AuditPoint by its answer. Reports a refusal unless it
+/// depends on the point's state.
 fn check_ask(
     report: &mut Report,
     text: &LineText<'_>,
@@ -358,7 +360,7 @@ fn check_ask(
     }
 }
 
-/// What was found where a request for a schedule is refused.
+/// Describes the value for which a request for a schedule is refused.
 fn ask_found(
     alloc: Global,
     text: &LineText<'_>,
@@ -377,7 +379,7 @@ fn ask_found(
     }
 }
 
-/// Which connector was named, and which there are.
+/// Describes the connector that was named, and the last one of the point.
 pub(crate) fn connector_found(
     alloc: Global,
     site: &Site,
@@ -393,12 +395,12 @@ pub(crate) fn connector_found(
     }
 }
 
-/// How many connectors the line's point has.
+/// Returns the number of connectors of the line's point.
 pub(crate) fn connector_count(text: &LineText<'_>) -> usize {
     point_of(text.site, text).map_or(0, |point| point.ceilings.len())
 }
 
-/// The unit of the site.
+/// Describes the unit of the site.
 pub(crate) fn unit_found(site: &Site) -> &'static str {
     match site.unit() {
         Unit::A => "the site's is \"A\"",
@@ -406,7 +408,7 @@ pub(crate) fn unit_found(site: &Site) -> &'static str {
     }
 }
 
-/// A refusal in its sentence, with what was found where that is known.
+/// Reports a refusal with its sentence, and with the value found if that is known.
 pub(crate) fn reject(
     report: &mut Report,
     refusal: Refusal,
@@ -421,7 +423,7 @@ pub(crate) fn reject(
     report.fault(message)
 }
 
-/// A StartTransaction at a connector that the point lacks.
+/// Checks a StartTransaction. Reports a connector that the point lacks.
 fn check_start(report: &mut Report, text: &LineText<'_>, connector: u32) -> Result<(), AllocError> {
     let Some(point) = point_of(text.site, text) else {
         return Ok(());

@@ -1,4 +1,4 @@
-//! The field at which a CALL is at fault: where it stands, what stands there and what is wanted.
+//! Describes the field at fault of a CALL: its path, the value found there and the value wanted.
 
 use crate::payload_objects::{MAX_DEPTH, PayloadList, PayloadObject, row_named};
 use findings::{ExpectedField, LIMIT, field_message, glance_at};
@@ -6,14 +6,14 @@ use messages::{ActionKind, CallFault, FieldKind, FieldName, FieldRow, fields_of}
 use ocppj_frame::{Field, Node, tenths_field, whole_field};
 use std::alloc::{AllocError, Global};
 
-/// An object of a payload, and the way to it.
+/// An object of a payload, and the path to it.
 #[derive(Drop)]
 struct ObjectPlace<'node, 'memory> {
     path: String,
     object: PayloadObject<'node, 'memory>,
 }
 
-/// The CALLERROR of a fault, with its field.
+/// Describes the CALLERROR of a fault, with its field.
 pub(crate) fn field_fault_message(
     alloc: Global,
     payload: Node<'_, '_>,
@@ -42,7 +42,7 @@ pub(crate) fn field_fault_message(
     format!(in alloc; "{code}: {path}{message}")
 }
 
-/// The field that a fault is of.
+/// Returns the field of a fault.
 fn field_of(fault: CallFault) -> Option<FieldName> {
     match fault {
         CallFault::OccurenceConstraintViolation(field)
@@ -52,8 +52,9 @@ fn field_of(fault: CallFault) -> Option<FieldName> {
     }
 }
 
-/// The outermost object of a payload that has a field of this name in its table, down to where
-/// objects are there.
+/// Returns the outermost object of a payload whose table has a field of this name. Where an object
+/// on the path is absent, returns the last one that is present.
+// A fault names its field without a path, so the payload is searched for it.
 fn place_of_field<'node, 'memory>(
     alloc: Global,
     payload: PayloadObject<'node, 'memory>,
@@ -82,7 +83,8 @@ fn place_of_field<'node, 'memory>(
     Ok(place)
 }
 
-/// The first object in the list of an object with a fault at this field, its index, and the list.
+/// Returns the first object in the list of an object that is at fault at this field, its index and
+/// the list.
 fn first_bad<'node, 'memory>(
     object: PayloadObject<'node, 'memory>,
     name: &str,
@@ -109,7 +111,8 @@ fn first_bad<'node, 'memory>(
     None
 }
 
-/// Whether a field of an object in a list is right. No list has objects with fields of other kinds.
+/// Returns whether a field of an object in a list is right. The objects of lists have no fields of
+/// other kinds.
 fn is_right(object: Node<'_, '_>, row: FieldRow) -> bool {
     let name = row.name().text();
     match row.kind() {
@@ -131,7 +134,7 @@ fn may_be_absent(row: FieldRow) -> bool {
     matches!(row, FieldRow::Optional(_, _))
 }
 
-/// What is wanted at a field: by what it counts, and else by its kind.
+/// Describes the value wanted at a field, by its name or else by its kind.
 fn wanted_of(row: FieldRow) -> &'static str {
     match row.name() {
         FieldName::StackLevel => "a whole number from 0 to 99",

@@ -1,4 +1,4 @@
-//! What is wrong with a script or an operator's message, before it is used.
+//! Checks a script or an operator's message before it is used.
 #![tactic(auto)]
 
 mod audit_check;

@@ -1,4 +1,4 @@
-//! What is wrong with a line of a script that can't be read, and what was probably meant.
+//! Describes the fault of a line of a script that can't be read, and the probable intention.
 
 use crate::line_text::utf8_of;
 use crate::report::Report;
@@ -9,10 +9,10 @@ use replay::LineFault;
 use site_rules::Site;
 use std::alloc::{AllocError, Global};
 
-/// The words that may stand behind the instant.
+/// The words that may follow the instant.
 const WORDS: [&str; 4] = ["operator", "point", "hold", "release"];
 
-/// What is wrong with a line that has a fault, with the line as it stands.
+/// Describes the fault of a line, with an excerpt of it.
 pub(crate) fn mistake_message(
     report: &mut Report,
     site: &Site,
@@ -49,12 +49,12 @@ pub(crate) fn mistake_message(
     }
 }
 
-/// The word at a place in a line, counted from 0, or nothing.
+/// Returns the word at an index in a line, counted from 0, or an empty text.
 fn word_at(line: &str, place: usize) -> &str {
     line.split(' ').nth(place).unwrap_or("")
 }
 
-/// What is wrong with a first word that is no instant.
+/// Describes the fault of a first word that is no instant.
 fn bad_instant(alloc: Global, word: &str) -> Result<String, AllocError> {
     let hint = match read_instant(word) {
         Ok(_) => "",
@@ -66,8 +66,10 @@ fn bad_instant(alloc: Global, word: &str) -> Result<String, AllocError> {
     format!(in alloc; "{fault}: \"{word}\" {hint}; {rule}")
 }
 
-/// Which mistake a line of no form makes.
+/// Describes the mistake in a line that has none of the forms.
 fn form_hint(alloc: Global, text: &str) -> Result<String, AllocError> {
+    // This comes before the words: of two blanks one would begin an empty word, and a tab is no
+    // end.
     if let Some(hint) = plain_hint(text) {
         return String::from_str(alloc, hint);
     }
@@ -89,7 +91,7 @@ fn form_hint(alloc: Global, text: &str) -> Result<String, AllocError> {
     }
 }
 
-/// A mistake that the line's first characters show.
+/// Returns a mistake that the line's first characters show.
 fn plain_hint(text: &str) -> Option<&'static str> {
     let start = text.trim_start();
     if start.starts_with('#') || start.starts_with("//") {
@@ -122,12 +124,12 @@ fn plain_hint(text: &str) -> Option<&'static str> {
     None
 }
 
-/// Whether a word looks like a date alone.
+/// Returns whether a word looks like a date without a time.
 fn is_date(word: &str) -> bool {
     word.len() == 10 && has_shape(word, "dddd-dd-dd")
 }
 
-/// Whether a text begins with characters of these kinds, `d` for a digit.
+/// Returns whether a text begins with characters of this shape, `d` for a digit.
 fn has_shape(text: &str, shape: &str) -> bool {
     if text.len() < shape.len() {
         return false;
@@ -145,7 +147,7 @@ fn has_shape(text: &str, shape: &str) -> bool {
     true
 }
 
-/// What is wrong behind a second word that is right.
+/// Describes the form of the words after a second word that is right.
 fn words_hint(word: &str) -> &'static str {
     match word {
         "release" => {
@@ -156,7 +158,7 @@ fn words_hint(word: &str) -> &'static str {
     }
 }
 
-/// What is wrong with an instant.
+/// Describes the fault of an instant.
 fn instant_hint(word: &str, fault: InstantFault) -> &'static str {
     if matches!(fault, InstantFault::Range) {
         return "lies before 1970 or after the year 9999";
@@ -176,7 +178,7 @@ fn instant_hint(word: &str, fault: InstantFault) -> &'static str {
     "is no instant"
 }
 
-/// The identity of the site that is probably meant, for the first thousand that aren't known.
+/// Returns a hint at the identity that is probably meant, for the first 1,000 unknown ones.
 pub(crate) fn point_hint(report: &mut Report, site: &Site, id: &str) -> Result<String, AllocError> {
     let alloc = report.alloc;
     if !report.takes_hint() {

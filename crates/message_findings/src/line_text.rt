@@ -1,4 +1,4 @@
-//! The message that a line of a script brings, as it is checked.
+//! The message in a line of a script, as the checks read it.
 
 use crate::audit_check::JudgedAudit;
 use messages::{CallFault, Response, Side};
@@ -7,7 +7,7 @@ use replay::{PlayedLine, PointChange, PrintedLine};
 use site_rules::Site;
 use texts::SentText;
 
-/// The second word of a line that brings a message.
+/// The second word of a line with a message.
 #[derive(Clone, Copy, PartialEq, Eq)]
 pub(crate) enum Sender {
     /// `operator`
@@ -19,7 +19,7 @@ pub(crate) enum Sender {
 }
 
 impl Sender {
-    /// Whose message it is.
+    /// Returns the side that sends the message.
     pub(crate) fn side(self) -> Side {
         match self {
             Sender::Operator | Sender::Hold => Side::Operator,
@@ -28,7 +28,7 @@ impl Sender {
     }
 }
 
-/// A message that a line brings, and what came of it.
+/// A message in a line, and its outcome.
 #[derive(Clone, Copy)]
 pub(crate) struct LineText<'a> {
     pub site: &'a Site,
@@ -39,18 +39,18 @@ pub(crate) struct LineText<'a> {
     pub frame: &'a str,
     /// The whole line.
     pub line: &'a str,
-    /// What the line prints.
+    /// The lines that `replay` prints for it.
     pub printed: &'a [PrintedLine],
     /// Whether the message confirmed the call in flight.
     pub confirms_call: bool,
     /// The point's audit, where the message confirmed a call.
     pub audit: Option<JudgedAudit>,
-    /// Whether the message confirmed a call that asks for a start.
+    /// Whether the message confirmed the call of a remote start.
     pub replies_to_start: bool,
 }
 
 impl<'a> LineText<'a> {
-    /// The message that a line brings on a site, where its second word is `hold`.
+    /// Makes the message of a line whose second word is `hold`.
     pub(crate) fn held(
         site: &'a Site,
         played: &'a PlayedLine<'_>,
@@ -62,7 +62,7 @@ impl<'a> LineText<'a> {
         }
     }
 
-    /// The message that a line brings on a site.
+    /// Makes the message of a line.
     pub(crate) fn new(
         site: &'a Site,
         played: &'a PlayedLine<'_>,
@@ -86,7 +86,7 @@ impl<'a> LineText<'a> {
         }
     }
 
-    /// Why the message is rejected, if it is.
+    /// Returns the reason of a `Rejected`, if that is the answer.
     pub(crate) fn rejection(&self) -> Option<Refusal> {
         for line in self.printed {
             if let PrintedLine::Answer {
@@ -100,7 +100,7 @@ impl<'a> LineText<'a> {
         None
     }
 
-    /// Why the message is refused, if it is.
+    /// Returns the reason of a `Rejected` or of a CALLERROR, if that is the answer.
     pub(crate) fn refusal(&self) -> Option<Refusal> {
         for line in self.printed {
             let PrintedLine::Answer { response, .. } = line else {
@@ -116,7 +116,7 @@ impl<'a> LineText<'a> {
     }
 }
 
-/// A line as a text, or nothing where it isn't UTF-8; and up to where it is.
+/// Returns a line as a text, empty if it isn't UTF-8, and the number of its bytes that are UTF-8.
 pub(crate) fn utf8_of(line: &[u8]) -> (&str, usize) {
     match std::str::from_utf8(line) {
         Ok(text) => (text, line.len()),

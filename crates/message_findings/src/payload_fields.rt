@@ -1,15 +1,14 @@
-//! Fields of an operator's payload that nothing looks at, and those that stand there twice.
+//! Finds the unknown and the duplicate fields of an operator's payload.
 
 use crate::payload_objects::row_named;
 use findings::{Label, Outline, Part, text_of};
 use messages::{ActionKind, FieldKind, FieldRow, fields_in, fields_of};
 use std::alloc::{AllocError, Global};
 
-/// The most fields of a message that are reported.
+/// The maximum number of fields of a message to report.
 const MAX_REPORTED: usize = 20;
 
-/// An object of a payload, or a list of objects, with the fields that are looked at in each of
-/// them.
+/// An object of a payload, or a list of objects, with the known fields of each object.
 #[derive(Clone, Copy)]
 enum PayloadPart {
     Object(&'static [FieldRow]),
@@ -17,7 +16,7 @@ enum PayloadPart {
 }
 
 impl PayloadPart {
-    /// The fields that are looked at in it.
+    /// Returns its known fields.
     fn fields(self) -> &'static [FieldRow] {
         match self {
             PayloadPart::Object(fields) => fields,
@@ -25,7 +24,7 @@ impl PayloadPart {
         }
     }
 
-    /// What its member of this name is.
+    /// Returns the object or the list in its member of this name.
     fn member(self, name: &str) -> Option<PayloadPart> {
         match row_named(self.fields(), name)?.kind() {
             FieldKind::Object(kind) => Some(PayloadPart::Object(fields_in(kind))),
@@ -34,7 +33,7 @@ impl PayloadPart {
         }
     }
 
-    /// What an entry of it is.
+    /// Returns the object that its entries are.
     fn entry(self) -> Option<PayloadPart> {
         match self {
             PayloadPart::List(fields) => Some(PayloadPart::Object(fields)),
@@ -43,15 +42,15 @@ impl PayloadPart {
     }
 }
 
-/// A field that nothing looks at.
+/// An unknown field, which has no effect.
 #[derive(Clone, Copy)]
 pub(crate) struct UnknownField<'text> {
-    /// The fields that are looked at in its object.
+    /// The known fields of its object.
     pub fields: &'static [FieldRow],
     pub name: &'text str,
 }
 
-/// The fields of an operator's CALL that nothing looks at, twenty at the most.
+/// Returns the unknown fields of an operator's CALL, at most 20.
 pub(crate) fn unknown_payload_fields<'text>(
     alloc: Global,
     text: &'text str,
@@ -77,7 +76,7 @@ pub(crate) fn unknown_payload_fields<'text>(
     Ok(unknown)
 }
 
-/// The fields of an operator's CALL that stand in their object a second time, twenty at the most.
+/// Returns the duplicate fields of an operator's CALL, at most 20.
 pub(crate) fn repeated_payload_fields<'text>(
     alloc: Global,
     text: &'text str,
@@ -102,7 +101,7 @@ pub(crate) fn repeated_payload_fields<'text>(
     Ok(repeated)
 }
 
-/// Whether a member of this name stands before this part in the same object.
+/// Returns whether a member of this name comes before this part in the same object.
 pub(crate) fn stands_before(
     text: &str,
     outline: &Outline,
@@ -124,7 +123,8 @@ pub(crate) fn stands_before(
     false
 }
 
-/// The name of a part that is a member. An escape in a name is rare, and such a name isn't judged.
+/// Returns the name of a part that is a member, unless it has an escape.
+// The span of a name with an escape isn't the whole name, so it can't be compared.
 fn name_of<'text>(text: &'text str, part: &Part) -> Option<&'text str> {
     let Label::Member(span) = part.label else {
         return None;
@@ -136,7 +136,7 @@ fn name_of<'text>(text: &'text str, part: &Part) -> Option<&'text str> {
     Some(name)
 }
 
-/// What each part of a frame is, where it is a part of the payload.
+/// Returns for each part of a frame the object or list of the payload that it is, if it is one.
 fn known_parts(
     alloc: Global,
     text: &str,
@@ -151,12 +151,12 @@ fn known_parts(
     Ok(known)
 }
 
-/// What the object or list is that a part stands in.
+/// Returns the object or list that contains a part.
 fn owner_of(known: &Vec<Option<PayloadPart>>, part: &Part) -> Option<PayloadPart> {
     *known.get(part.parent?)?
 }
 
-/// What a part is, by what it stands in.
+/// Returns the object or list of the payload that a part is, by its owner.
 fn part_of(
     text: &str,
     outline: &Outline,
@@ -167,6 +167,7 @@ fn part_of(
     match (part.label, owner) {
         (Label::Member(_), Some(owner)) => owner.member(name_of(text, part)?),
         (Label::Entry(_), Some(owner)) => owner.entry(),
+        // The payload of a CALL is the fourth element of the frame (OCPP-J 1.6, chapter 4).
         (Label::Entry(3), None) if is_root(outline, part) => {
             Some(PayloadPart::Object(fields_of(kind)))
         }
@@ -174,7 +175,7 @@ fn part_of(
     }
 }
 
-/// Whether a part stands in the outermost list.
+/// Returns whether a part is an entry of the outermost list.
 fn is_root(outline: &Outline, part: &Part) -> bool {
     match part.parent {
         Some(parent) => match outline.parts.get(parent) {

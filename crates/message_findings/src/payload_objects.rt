@@ -4,13 +4,13 @@ use messages::{FieldKind, FieldName, FieldRow, fields_in};
 use ocppj_frame::{Entries, Field, Node, list_field, object_field};
 use std::alloc::{AllocError, Global};
 
-/// How deep objects stand in a payload at the most: a profile, its schedule and a period.
+/// The maximum nesting depth of objects in a payload: a profile, its schedule and a period.
 pub(crate) const MAX_DEPTH: usize = 3;
 
-/// A payload, or an object inside.
+/// A payload, or an object in it.
 #[derive(Clone, Copy)]
 pub(crate) struct PayloadObject<'node, 'memory> {
-    /// The fields that are looked at in it.
+    /// Its known fields.
     pub fields: &'static [FieldRow],
     pub node: Node<'node, 'memory>,
 }
@@ -20,13 +20,13 @@ pub(crate) struct PayloadObject<'node, 'memory> {
 pub(crate) struct PayloadList<'node, 'memory> {
     /// The field that holds it.
     pub name: FieldName,
-    /// The fields that are looked at in each of its objects.
+    /// The known fields of each of its objects.
     pub fields: &'static [FieldRow],
     pub entries: Entries<'node, 'memory>,
 }
 
 impl<'node, 'memory> PayloadObject<'node, 'memory> {
-    /// The object that stands in this one, with its field. No table has two.
+    /// Returns the object in this one, with its field. No table has two.
     pub(crate) fn inner(self) -> Option<(FieldName, PayloadObject<'node, 'memory>)> {
         for row in self.fields {
             if let FieldKind::Object(kind) = row.kind() {
@@ -39,7 +39,7 @@ impl<'node, 'memory> PayloadObject<'node, 'memory> {
         None
     }
 
-    /// The list of objects that stands in this one. No table has two.
+    /// Returns the list of objects in this one. No table has two.
     pub(crate) fn list(self) -> Option<PayloadList<'node, 'memory>> {
         for row in self.fields {
             if let FieldKind::Objects(kind) = row.kind() {
@@ -56,7 +56,7 @@ impl<'node, 'memory> PayloadObject<'node, 'memory> {
     }
 }
 
-/// The field of this name.
+/// Returns the field of this name.
 pub(crate) fn row_named(fields: &[FieldRow], name: &str) -> Option<FieldRow> {
     for row in fields {
         if row.name().text() == name {
@@ -66,7 +66,7 @@ pub(crate) fn row_named(fields: &[FieldRow], name: &str) -> Option<FieldRow> {
     None
 }
 
-/// The names of fields, in their order.
+/// Returns the names of fields, in their order.
 pub(crate) fn names_of(
     alloc: Global,
     fields: &[FieldRow],

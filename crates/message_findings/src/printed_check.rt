@@ -1,4 +1,4 @@
-//! What a replay prints at a line, where only the state of the point by then can tell it.
+//! Finds refusals in a line's output that depend on the point's state, and clears without a match.
 
 use crate::sentences::sentence;
 use findings::{Finding, Location};
@@ -7,7 +7,8 @@ use ocpp_scalars::Refusal;
 use replay::PrintedLine;
 use std::alloc::{AllocError, Global};
 
-/// Whether a refusal depends on what the point has by then, or on how long a schedule gets.
+/// Returns whether a refusal depends on the state by then, or on the length of a schedule.
+// The check of a message by itself leaves these out, so that none is reported twice.
 pub(crate) fn depends_on_state(refusal: Refusal) -> bool {
     matches!(
         refusal,
@@ -22,9 +23,8 @@ pub(crate) fn depends_on_state(refusal: Refusal) -> bool {
     )
 }
 
-/// What is wrong by what a replay prints at the line of this number, besides what `ScriptCheck`
-/// finds in the line itself. These are the refusals that depend on the point's state, and clears
-/// that match nothing.
+/// Checks the output of the line of this number. Finds the refusals that depend on the point's
+/// state, and clears that match nothing. `ScriptCheck` finds the rest in the line itself.
 pub fn check_printed(
     alloc: Global,
     line: u64,
@@ -41,7 +41,7 @@ pub fn check_printed(
     Ok(findings)
 }
 
-/// What is found in an answer, if it tells of the point's state.
+/// Returns the finding in an answer that depends on the point's state.
 fn finding_of(
     alloc: Global,
     line: u64,
@@ -56,7 +56,7 @@ fn finding_of(
     }
 }
 
-/// That a message is refused, if that depends on the point's state.
+/// Makes the finding that a message is refused, if that depends on the point's state.
 fn refused(alloc: Global, line: u64, refusal: Refusal) -> Result<Option<Finding>, AllocError> {
     if !depends_on_state(refusal) {
         return Ok(None);
@@ -66,7 +66,7 @@ fn refused(alloc: Global, line: u64, refusal: Refusal) -> Result<Option<Finding>
     Ok(Some(Finding::fault(Location::Line(line), message)))
 }
 
-/// A clear that matched nothing.
+/// Makes the finding that a clear matched nothing.
 fn cleared_nothing(alloc: Global, line: u64) -> Result<Option<Finding>, AllocError> {
     let message = String::from_str(
         alloc,

@@ -1,4 +1,4 @@
-//! What is wrong with an install, and what its profile does else than it says.
+//! Checks an install, and warns of a profile that probably does something unintended.
 
 use crate::call_check::{connector_found, point_of, reject, unit_found, unknown_point_message};
 use crate::line_text::LineText;
@@ -37,8 +37,7 @@ pub(crate) fn check_install(
     warn_rates(report, text.moment, &profile)
 }
 
-/// What is said of an install's profile by itself, whose fields are right: nothing is known of the
-/// site or of the moment.
+/// Checks the profile of an install by itself, without the site or a moment. Its fields are right.
 pub(crate) fn check_sent_profile(
     report: &mut Report,
     parts: ProfileParts,
@@ -50,11 +49,12 @@ pub(crate) fn check_sent_profile(
     warn_never_rated(report, &profile)
 }
 
-/// The profile of its parts, or their refusal. What has no effect in it is warned of.
+/// Makes a profile of its parts, or reports their refusal. Warns of fields without an effect.
 pub(crate) fn check_parts(
     report: &mut Report,
     parts: ProfileParts,
 ) -> Result<Option<Profile>, AllocError> {
+    // This comes first, since a profile drops the fields that have no effect.
     warn_dropped(report, &parts)?;
     match Profile::try_new(parts) {
         Ok(profile) => Ok(Some(profile)),
@@ -65,12 +65,12 @@ pub(crate) fn check_parts(
     }
 }
 
-/// A warning of a profile, which is named.
+/// Adds a warning with the name of its profile.
 fn warn_of(report: &mut Report, profile: &Profile, message: &str) -> Result<(), AllocError> {
     report.warn_of(profile.purpose, profile.id, message)
 }
 
-/// A profile that never has a rate.
+/// Warns of a profile that never has a rate.
 pub(crate) fn warn_never_rated(report: &mut Report, profile: &Profile) -> Result<(), AllocError> {
     match never_rated(profile) {
         Some(why) => warn_of(report, profile, never_sentence(why)),
@@ -78,7 +78,7 @@ pub(crate) fn warn_never_rated(report: &mut Report, profile: &Profile) -> Result
     }
 }
 
-/// What was found where a profile may not stand.
+/// Describes the value for which the site doesn't admit a profile.
 fn place_found(
     alloc: Global,
     site: &Site,
@@ -93,7 +93,7 @@ fn place_found(
     }
 }
 
-/// Fields that have no meaning with the profile's purpose or kind.
+/// Warns of fields that have no meaning with the profile's purpose or kind.
 fn warn_dropped(report: &mut Report, parts: &ProfileParts) -> Result<(), AllocError> {
     let (purpose, id) = (parts.purpose, parts.id);
     if parts.transaction.is_some() && !matches!(purpose, Purpose::TxProfile) {
@@ -112,7 +112,7 @@ fn warn_dropped(report: &mut Report, parts: &ProfileParts) -> Result<(), AllocEr
     Ok(())
 }
 
-/// The refusal of a profile that isn't well formed.
+/// Reports the refusal of a profile that isn't well formed.
 fn refuse_parts(
     report: &mut Report,
     refusal: Refusal,
@@ -129,7 +129,7 @@ fn refuse_parts(
     reject(report, refusal, Some(found.as_str()))
 }
 
-/// The first period that doesn't start later than the one before it.
+/// Describes the first period that doesn't start later than the one before it.
 fn out_of_order(alloc: Global, periods: &[Period]) -> Result<String, AllocError> {
     let mut before: Option<u32> = None;
     for (index, period) in periods.iter().enumerate() {
@@ -146,7 +146,8 @@ fn out_of_order(alloc: Global, periods: &[Period]) -> Result<String, AllocError>
     Ok(String::new(alloc))
 }
 
-/// A TxProfile that isn't bound to its transaction.
+/// Warns of a TxProfile that isn't bound to its transaction.
+// The call may wait for the point until the transaction has ended, which doesn't cancel it.
 fn warn_transaction(report: &mut Report, profile: &Profile) -> Result<(), AllocError> {
     if matches!(profile.purpose, Purpose::TxProfile) && profile.transaction.is_none() {
         warn_of(
@@ -158,7 +159,7 @@ fn warn_transaction(report: &mut Report, profile: &Profile) -> Result<(), AllocE
     Ok(())
 }
 
-/// A profile that never lowers a limit at the line's point.
+/// Warns of a profile that never lowers a limit at the line's point.
 pub(crate) fn warn_ceiling_at(
     report: &mut Report,
     text: &LineText<'_>,
@@ -171,7 +172,7 @@ pub(crate) fn warn_ceiling_at(
     }
 }
 
-/// A profile that never lowers a limit, since the ceilings of the site file are below it.
+/// Warns of a profile that never lowers a limit, since the ceilings of the site file are below it.
 fn warn_ceiling(
     report: &mut Report,
     point: SitePoint<'_>,
@@ -190,9 +191,9 @@ fn warn_ceiling(
     warn_of(report, profile, message.as_str())
 }
 
-/// The highest ceiling that a profile could lower, in tenths. For the whole point it is the
-/// point's, else the lower of the point's and the connector's. Of a profile for all connectors it
-/// is that of the highest connector.
+/// Returns the highest ceiling that a profile could lower, in tenths. For a ChargePointMaxProfile
+/// it is the point's, otherwise the lower of the point's and the connector's. For a profile at
+/// connector 0 the highest ceiling of a connector counts.
 fn highest_ceiling(point: SitePoint<'_>, connector: u32, purpose: Purpose) -> u32 {
     if matches!(purpose, Purpose::ChargePointMaxProfile) {
         return point.ceiling;
@@ -206,7 +207,7 @@ fn highest_ceiling(point: SitePoint<'_>, connector: u32, purpose: Purpose) -> u3
     highest.min(point.ceiling)
 }
 
-/// When a profile has no rate: never, or in intervals that probably weren't meant.
+/// Warns of a profile that never has a rate, or has none in intervals that probably weren't meant.
 pub(crate) fn warn_rates(
     report: &mut Report,
     moment: Instant,
@@ -231,7 +232,7 @@ pub(crate) fn warn_rates(
     }
 }
 
-/// Periods that start when the duration is over.
+/// Warns of a period that starts when the duration is over.
 fn warn_duration(report: &mut Report, profile: &Profile) -> Result<(), AllocError> {
     let Some(duration) = profile.schedule.duration else {
         return Ok(());
@@ -247,7 +248,7 @@ fn warn_duration(report: &mut Report, profile: &Profile) -> Result<(), AllocErro
     }
 }
 
-/// The first period that starts at this offset or later, with its start.
+/// Returns the index and the start of the first period that starts at this offset or later.
 fn first_past(profile: &Profile, end: u64) -> Option<(usize, u32)> {
     for (index, period) in profile.schedule.periods.as_slice().iter().enumerate() {
         if u64::from(period.start) >= end {
@@ -257,7 +258,7 @@ fn first_past(profile: &Profile, end: u64) -> Option<(usize, u32)> {
     None
 }
 
-/// What a Daily or Weekly schedule says past its day or week, and when it says nothing.
+/// Warns of the parts of a Daily or Weekly schedule after its day or week, and of its gaps.
 fn warn_recurrence(
     report: &mut Report,
     profile: &Profile,
@@ -270,7 +271,7 @@ fn warn_recurrence(
         Recurrency::Weekly => "week",
     };
     let end = profile.schedule.duration.map_or(length, u64::from);
-    // What starts past a shorter duration was reported there.
+    // With a shorter duration, `warn_duration` has reported the period already.
     if let (true, Some((index, start))) = (end >= length, first_past(profile, length)) {
         let message = format!(in alloc;
             "chargingSchedulePeriod[{index}] starts at {start} s, when the {unit} of {length} s is over: it never counts"
@@ -295,8 +296,8 @@ fn warn_recurrence(
     }
 }
 
-/// That a Daily or Weekly profile sets no limit from one offset of its day or week to another. They
-/// are given by the clock if that is known, and else in seconds.
+/// Warns that a Daily or Weekly profile sets no limit between two offsets of its day or week.
+/// Writes them as times of the clock if those are known, otherwise in seconds.
 fn warn_gap(
     report: &mut Report,
     profile: &Profile,
@@ -320,7 +321,7 @@ fn warn_gap(
     warn_of(report, profile, message.as_str())
 }
 
-/// The times of the day at two offsets from an instant, where both lie in the calendar.
+/// Returns the times of day at two offsets from an instant, if both lie in the calendar.
 fn clock_texts(
     alloc: Global,
     start: Instant,
@@ -342,7 +343,7 @@ fn clock_texts(
     }
 }
 
-/// The hour and the minute in the text of an instant, with the second where it isn't 0.
+/// Returns the hour and the minute in the text of an instant, with the second if it isn't 0.
 fn time_in(instant: &str) -> Option<&str> {
     let (_, time) = instant.split_once('T')?;
     let time = time.strip_suffix('Z')?;

@@ -1,4 +1,4 @@
-//! What the refusal in an answer means, for an operator who got it.
+//! Explains the refusal in an answer to the operator who got it.
 
 use crate::rejection::{Rejection, fault_of, refusal_of, rejection_of};
 use crate::sentences::{call_sentence, sentence};
@@ -7,12 +7,13 @@ use ocpp_scalars::Refusal;
 use ocppj_frame::{FrameFault, ReadingMemory, read_tree};
 use std::alloc::{AllocError, Global};
 
-/// A central system whose device is full answers that it lacks memory, too.
+/// The explanation of `OutOfMemory`.
+// A step whose line doesn't fit on the journal's device has the same refusal as one without memory.
 const SHORT_OR_FULL: &str =
     "memory ran out, or the central system's device is full: see its status";
 
-/// What an answer's refusal means: its name and its sentence, with the field that it is of where it
-/// has one. None where the answer refuses nothing, or by a name that isn't this system's.
+/// Explains an answer's refusal: its name and its sentence, with the field at fault if it has one.
+/// None if the answer refuses nothing, or by a name that isn't this system's.
 pub fn answer_sentence(alloc: Global, answer: &str) -> Result<Option<String>, AllocError> {
     let mut memory = ReadingMemory::new(alloc);
     match read_tree(&mut memory, answer) {
@@ -36,7 +37,7 @@ fn sentence_of(alloc: Global, answer: Option<Rejection<'_>>) -> Result<Option<St
     }
 }
 
-/// The sentence of the refusal of a name.
+/// Returns the sentence of the refusal of this name.
 fn refusal_sentence(alloc: Global, name: &str) -> Result<Option<String>, AllocError> {
     let Some(refusal) = refusal_of(name) else {
         return Ok(None);
@@ -48,7 +49,7 @@ fn refusal_sentence(alloc: Global, name: &str) -> Result<Option<String>, AllocEr
     Ok(Some(format!(in alloc; "{refusal}: {why}")?))
 }
 
-/// The sentence of an error by its code, with the field that the description names.
+/// Returns the sentence of an error by its code, with the field that the description names.
 fn fault_sentence(alloc: Global, code: &str, field: &str) -> Result<Option<String>, AllocError> {
     let Some(fault) = fault_of(code) else {
         return Ok(None);

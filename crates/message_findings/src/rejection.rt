@@ -1,4 +1,4 @@
-//! What an answer says to an operator's CALL, as far as it refuses something.
+//! Reads the refusal in an answer to an operator's CALL.
 
 use messages::{CallFault, FieldName};
 use ocpp_scalars::Refusal;
@@ -19,6 +19,7 @@ pub(crate) enum Rejection<'text> {
 }
 
 /// The refusals that an answer may name.
+// An answer has a refusal's name only; the versions of `Behind` aren't part of that.
 const REFUSALS: [Refusal; 24] = [
     Refusal::UnknownPoint,
     Refusal::UnknownConnector,
@@ -46,7 +47,8 @@ const REFUSALS: [Refusal; 24] = [
     Refusal::OutOfMemory,
 ];
 
-/// The faults that an error's code may name; which field it is of says the description.
+/// The faults that an error's code may name.
+// The code doesn't depend on the field, which the description names: any one will do.
 const FAULTS: [CallFault; 5] = [
     CallFault::FormationViolation,
     CallFault::NotImplemented,
@@ -55,7 +57,7 @@ const FAULTS: [CallFault; 5] = [
     CallFault::PropertyConstraintViolation(FieldName::Id),
 ];
 
-/// What the frame of a tree says, if it is an answer that isn't simply accepted.
+/// Returns the rejection in the frame of a tree, if it is an answer that isn't simply accepted.
 pub(crate) fn rejection_of<'memory>(root: Node<'_, 'memory>) -> Option<Rejection<'memory>> {
     let entries = root.list()?;
     match entries.get(0)?.number()? {
@@ -70,7 +72,7 @@ pub(crate) fn rejection_of<'memory>(root: Node<'_, 'memory>) -> Option<Rejection
     }
 }
 
-/// The answer of a CALLRESULT with this payload.
+/// Returns the rejection in the payload of a CALLRESULT.
 fn rejection_of_result<'memory>(payload: Node<'_, 'memory>) -> Option<Rejection<'memory>> {
     match text_field(payload, "status") {
         Field::Value("Rejected") => match text_field(payload, "reason") {
@@ -82,7 +84,7 @@ fn rejection_of_result<'memory>(payload: Node<'_, 'memory>) -> Option<Rejection<
     }
 }
 
-/// The refusal of this name.
+/// Returns the refusal of this name.
 pub(crate) fn refusal_of(name: &str) -> Option<Refusal> {
     for refusal in &REFUSALS {
         if refusal.name() == name {
@@ -92,7 +94,7 @@ pub(crate) fn refusal_of(name: &str) -> Option<Refusal> {
     None
 }
 
-/// The fault of this code, of whichever field.
+/// Returns the fault of this code, with any field.
 pub(crate) fn fault_of(code: &str) -> Option<CallFault> {
     for fault in &FAULTS {
         if fault.code() == code {

@@ -1,4 +1,4 @@
-//! What is wrong with a remote start, and what becomes of the one that waits.
+//! Checks a remote start, and how one that waits ends.
 
 use crate::call_check::{connector_count, reject, unit_found, unknown_point_message};
 use crate::line_text::LineText;
@@ -39,7 +39,7 @@ pub(crate) fn check_remote_start(
     warn_rates(report, text.moment, &profile)
 }
 
-/// What is said of a remote start's profile by itself.
+/// Checks the profile of a remote start by itself.
 pub(crate) fn check_sent_start(
     report: &mut Report,
     start: RemoteStartTransaction,
@@ -54,7 +54,7 @@ pub(crate) fn check_sent_start(
     }
 }
 
-/// The profile of a remote start, or its refusal. What has no effect in it is warned of.
+/// Makes the profile of a remote start, or reports its refusal. Warns of fields without an effect.
 fn check_start_profile(
     report: &mut Report,
     parts: ProfileParts,
@@ -64,6 +64,7 @@ fn check_start_profile(
             "transactionId has no effect in a remote start: its transaction has no number yet";
         report.warn_of(parts.purpose, parts.id, message)?;
     }
+    // The central system drops it too. Kept, it could get a second warning in `check_parts`.
     let parts = ProfileParts {
         transaction: None,
         ..parts
@@ -71,7 +72,7 @@ fn check_start_profile(
     check_parts(report, parts)
 }
 
-/// Why a remote start is rejected, as far as what the point has by then has no part in it.
+/// Reports why a remote start is rejected, unless that depends on the point's state.
 fn refuse_start(
     report: &mut Report,
     text: &LineText<'_>,
@@ -105,7 +106,7 @@ fn refuse_start(
     }
 }
 
-/// That a point doesn't do what a remote start asks for.
+/// Warns that a point doesn't accept a remote start.
 pub(crate) fn warn_not_started(
     report: &mut Report,
     id: &str,
@@ -120,7 +121,7 @@ pub(crate) fn warn_not_started(
     report.warn(message)
 }
 
-/// That a transaction began without the profile of the remote start that waited at its connector.
+/// Warns of a transaction without the profile of the remote start that waited at its connector.
 pub(crate) fn check_ended_start(report: &mut Report, ended: &EndedStart) -> Result<(), AllocError> {
     let alloc = report.alloc;
     let id = ended.profile;

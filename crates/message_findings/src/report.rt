@@ -1,21 +1,22 @@
-//! The findings in a script, gathered line by line.
+//! The findings in a script, collected line by line.
 
 use findings::{Finding, Location};
 use messages::purpose_name;
 use profile::Purpose;
 use std::alloc::{AllocError, Global};
 
-/// How often an identity is compared with all those of the site.
+/// The maximum number of identities to compare with all those of the site.
+// A long script may name an unknown point in each line, and a site may have 1,000 points.
 const MAX_HINTS: u32 = 1_000;
 
-/// The findings so far, and the line that is looked at.
+/// The findings so far, and the current line.
 #[derive(Drop)]
 pub(crate) struct Report {
     pub alloc: Global,
     findings: Vec<Finding>,
-    /// Counted from 1; 0 before the first.
+    /// The number of the current line, counted from 1; 0 before the first.
     line: u64,
-    /// How many identities of points may still be compared with all that the site has.
+    /// The number of identities that may still be compared with all those of the site.
     hints: u32,
 }
 
@@ -33,12 +34,12 @@ impl Report {
         self.findings
     }
 
-    /// Goes on to the line of a number.
+    /// Goes to the line of this number.
     pub(crate) fn go_to(&mut self, line: u64) {
         self.line = line;
     }
 
-    /// Whether an identity may be compared with all those of the site once more.
+    /// Returns whether one more identity may be compared with all those of the site, and counts it.
     pub(crate) fn takes_hint(&mut self) -> bool {
         if self.hints == 0 {
             return false;
@@ -47,21 +48,21 @@ impl Report {
         true
     }
 
-    /// A fault in this line.
+    /// Adds a fault of the current line.
     pub(crate) fn fault(&mut self, message: String) -> Result<(), AllocError> {
         let place = Location::Line(self.line);
         self.findings.push(Finding::fault(place, message))?;
         Ok(())
     }
 
-    /// A warning of this line.
+    /// Adds a warning of the current line.
     pub(crate) fn warn(&mut self, message: String) -> Result<(), AllocError> {
         let place = Location::Line(self.line);
         self.findings.push(Finding::warning(place, message))?;
         Ok(())
     }
 
-    /// A warning of a profile in this line, which its purpose and its chargingProfileId name.
+    /// Adds a warning of a profile in the current line, named by its purpose and chargingProfileId.
     pub(crate) fn warn_of(
         &mut self,
         purpose: Purpose,
@@ -73,19 +74,19 @@ impl Report {
         self.warn(message)
     }
 
-    /// A remark on the line of a number.
+    /// Adds a remark on the line of this number.
     pub(crate) fn remark_at(&mut self, line: u64, message: String) -> Result<(), AllocError> {
         let place = Location::Line(line);
         self.findings.push(Finding::remark(place, message))?;
         Ok(())
     }
 
-    /// The number of this line.
+    /// Returns the number of the current line.
     pub(crate) fn line(&self) -> u64 {
         self.line
     }
 
-    /// A warning of this line, in words that are there.
+    /// Adds a warning of the current line with a copy of this message.
     pub(crate) fn warn_text(&mut self, message: &str) -> Result<(), AllocError> {
         let message = String::from_str(self.alloc, message)?;
         self.warn(message)

@@ -1,4 +1,4 @@
-//! What is wrong with a script, as far as each of its messages says it.
+//! Checks a script, message by message.
 
 use crate::audit_check::judged_audit;
 use crate::line_hints::mistake_message;
@@ -13,10 +13,9 @@ use ocppj_frame::ReadingMemory;
 use replay::{Held, LineFault, PlayedLine, Playing, PrintedLine, ScriptLine};
 use std::alloc::{AllocError, Global};
 
-/// What is found in a script, line by line as it is played: faults of lines, messages that are refused,
-/// and warnings. A message gets a warning if it does something else than it says. A refusal that
-/// depends on what the point has by then (`NoTransaction`, `OtherTransaction`, `TooManyProfiles`,
-/// `OutboxFull`, `AuditOpen`, `ResultTooLong`) isn't found.
+/// A check of a script, line by line as it is played. It finds faults of lines, refused messages,
+/// and messages that probably do something unintended. It leaves the refusals that depend on the
+/// point's state (`depends_on_state`) to `check_printed`.
 #[derive(Drop)]
 pub struct ScriptCheck {
     report: Report,
@@ -25,7 +24,7 @@ pub struct ScriptCheck {
     starts: Starts,
 }
 
-/// A request that a line held.
+/// A request that a `hold` line took.
 #[derive(Clone, Copy)]
 struct HeldLine {
     request: u64,
@@ -34,7 +33,7 @@ struct HeldLine {
 }
 
 impl ScriptCheck {
-    /// Before the first line.
+    /// Begins before the first line.
     pub fn new(alloc: Global) -> ScriptCheck {
         ScriptCheck {
             report: Report::new(alloc),
@@ -44,7 +43,7 @@ impl ScriptCheck {
         }
     }
 
-    /// Checks a line that was played just now.
+    /// Checks the line played last.
     pub fn take_in(
         &mut self,
         playing: &Playing<'_>,
@@ -104,7 +103,7 @@ impl ScriptCheck {
         }
     }
 
-    /// What was found, with a remark for each request that is still held when the script ends.
+    /// Returns the findings, with a remark for each request still held when the script ends.
     pub fn finish(mut self, held: &[Held]) -> Result<Vec<Finding>, AllocError> {
         for held in held {
             self.remark_held(held.number)?;
@@ -112,7 +111,7 @@ impl ScriptCheck {
         Ok(self.report.into_findings())
     }
 
-    /// A remark for each line that took a request of this number, which is still held.
+    /// Adds a remark on the line that took the request of this number, which is still held.
     fn remark_held(&mut self, number: u64) -> Result<(), AllocError> {
         for line in &self.held {
             if line.request == number {
@@ -126,7 +125,7 @@ impl ScriptCheck {
     }
 }
 
-/// That no line holds a request of this number.
+/// Reports that no request of this number is held.
 fn unknown_request(report: &mut Report, number: u64) -> Result<(), AllocError> {
     let sentence = line_sentence(LineFault::UnknownRequest);
     let message = format!(in report.alloc;

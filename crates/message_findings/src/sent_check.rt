@@ -1,4 +1,4 @@
-//! What is wrong with an operator's message on its own, before it is sent.
+//! Checks an operator's message by itself, before it is sent.
 
 ghost use Rattle.std.specs.Prelude.{◌≡◌, ◌↔◌, IfOk, IsSome, None};
 ghost use Rattle.ocppj_frame.specs.Read.{tree_of_text};
@@ -19,21 +19,21 @@ use profile::Criteria;
 use profile_findings::has_no_criterion;
 use std::alloc::{AllocError, Global};
 
-/// What is said of an operator's message before it is sent.
+/// The result of the check of an operator's message.
 #[derive(Drop)]
 pub struct SentCheck {
-    /// Why it is no CALL, where it isn't one.
+    /// The reason why it is no CALL, if it isn't one.
     pub no_call: Option<String>,
-    /// What is wrong with its action, its fields and its profile on their own. Also fields without
-    /// an effect, duplicate fields, and a clear that clears more than it seems to.
+    /// Faults of its action, its fields and its profile by themselves, and warnings of fields
+    /// without an effect, duplicate fields, and a clear that clears more than it seems to.
     pub findings: Vec<Finding>,
-    /// Whether it is a ClearChargingProfile that would clear everything by mistake. Its payload has
-    /// fields, and none of them is a criterion: they are others or null.
+    /// Whether it is a ClearChargingProfile that would clear everything by mistake: its payload has
+    /// fields, and none of them is a criterion, since they are unknown or null.
     pub clears_by_mistake: bool,
 }
 
-/// Checks an operator's message on its own: nothing is known of the site, or of what the point has.
-/// A message that is no CALL has no findings.
+/// Checks an operator's message by itself, without the site or the point's state. A message that is
+/// no CALL has no findings.
 pub fn check_sent(alloc: Global, text: &str) -> Result<SentCheck, AllocError> {
     let mut memory = ReadingMemory::new(alloc);
     match check_message(alloc, &mut memory, text)? {
@@ -53,6 +53,7 @@ fn check_message(
 ) -> Result<Option<SentCheck>, AllocError> {
     match read_frame(memory, text) {
         Ok(frame) => Ok(Some(check_frame(alloc, text, frame)?)),
+        // The central system answers this with an error, so it isn't held back as no CALL.
         Err(FrameFault::Formation { id: _id }) => Ok(Some(nothing_said(alloc, None)?)),
         Err(FrameFault::Dropped) => Ok(None),
         Err(FrameFault::OutOfMemory) => Err(AllocError),
@@ -76,8 +77,7 @@ fn check_frame(alloc: Global, text: &str, frame: Frame<'_>) -> Result<SentCheck,
     }
 }
 
-/// Where the JSON of a message breaks, if it does: the line and the column, and what is wanted
-/// there.
+/// Describes the break of a message that isn't JSON: the line, the column, and the token wanted.
 pub fn json_break(alloc: Global, text: &str) -> Result<Option<String>, AllocError>
     ensures { IfOk result (λ message. IsSome message ↔ (tree_of_text text.now ≡ None)) }
 {
@@ -89,7 +89,7 @@ pub fn json_break(alloc: Global, text: &str) -> Result<Option<String>, AllocErro
     Ok(Some(format!(in alloc; "{place}: {found}")?))
 }
 
-/// An action of this name is none of an operator's.
+/// Returns the check of an action that an operator doesn't have.
 fn no_operators_action(alloc: Global, name: &str) -> Result<SentCheck, AllocError> {
     let mut report = Report::new(alloc);
     refuse_action(&mut report, Side::Operator, name)?;
@@ -100,7 +100,7 @@ fn no_operators_action(alloc: Global, name: &str) -> Result<SentCheck, AllocErro
     })
 }
 
-/// Of a message there is nothing to say.
+/// Returns a check without findings.
 fn nothing_said(alloc: Global, no_call: Option<String>) -> Result<SentCheck, AllocError> {
     Ok(SentCheck {
         no_call,
@@ -132,7 +132,7 @@ fn check_fields(
     })
 }
 
-/// Checks what an action asks for. Returns whether it clears everything by mistake.
+/// Checks an action whose fields are right. Returns whether it clears everything by mistake.
 fn check_read(
     report: &mut Report,
     text: &str,
@@ -162,7 +162,7 @@ fn check_read(
     }
 }
 
-/// A field that isn't right.
+/// Reports a field that isn't right.
 fn check_fault(
     report: &mut Report,
     text: &str,
@@ -179,6 +179,7 @@ fn check_fault(
 }
 
 /// Warns of a clear. Returns whether it clears everything by mistake.
+// An empty payload isn't a mistake here: OCPP lets it clear everything, and nothing is misspelled.
 fn check_clear(
     report: &mut Report,
     text: &str,

@@ -1,12 +1,12 @@
-//! Why something is refused or has no effect, in one sentence each: the tables that all which
-//! prints for people reads. A test compares PROTOCOL's, RUNNING's and COMMANDS' tables with them.
+//! One sentence for each refusal, and for each reason why something has no effect. All output for
+//! people has them. A test compares PROTOCOL's, RUNNING's and COMMANDS' tables with them.
 
 use messages::CallFault;
 use ocpp_scalars::Refusal;
 use profile_findings::NeverRated;
 use replay::LineFault;
 
-/// Why a step is refused.
+/// Returns the reason why a step is refused.
 pub fn sentence(refusal: Refusal) -> &'static str {
     match refusal {
         Refusal::UnknownPoint =>
@@ -51,7 +51,7 @@ pub fn sentence(refusal: Refusal) -> &'static str {
     }
 }
 
-/// Why a line of a script can't be played.
+/// Returns the reason why a line of a script can't be played.
 pub fn line_sentence(fault: LineFault) -> &'static str {
     match fault {
         LineFault::TooLong => "the line has more than 1048576 bytes",
@@ -67,7 +67,7 @@ pub fn line_sentence(fault: LineFault) -> &'static str {
     }
 }
 
-/// Why a CALL is answered by a CALLERROR.
+/// Returns the reason why a CALL is answered by a CALLERROR.
 pub fn call_sentence(fault: CallFault) -> &'static str {
     match fault {
         CallFault::FormationViolation =>
@@ -82,7 +82,7 @@ pub fn call_sentence(fault: CallFault) -> &'static str {
     }
 }
 
-/// Why a profile never counts.
+/// Returns the reason why a profile never counts.
 pub fn never_sentence(why: NeverRated) -> &'static str {
     match why {
         NeverRated::EmptyValidity =>

@@ -1,5 +1,5 @@
-//! The remote starts that wait at each point, followed line by line: once a start ends, the machine
-//! tells no more of it.
+//! Follows the remote starts that wait at each point, line by line. The machine forgets a start
+//! when it ends, so this module keeps the fields that its finding needs.
 
 use messages::CallBody;
 use ocpp_scalars::IdTag;
@@ -8,7 +8,7 @@ use profile::Purpose;
 use replay::{PlayedLine, Playing, PointChange, PrintedLine};
 use std::alloc::{AllocError, Global};
 
-/// A start that waits.
+/// A remote start that waits for its transaction.
 #[derive(Drop)]
 struct KnownStart {
     connector: u32,
@@ -19,42 +19,42 @@ struct KnownStart {
     profile: Option<i32>,
 }
 
-/// What is known of a point.
+/// The remote starts of a point.
 #[derive(Drop)]
 struct PointStarts {
-    /// Whether the call in flight asks for a start.
+    /// Whether the call in flight is that of a remote start.
     is_asked: bool,
     waiting: Vec<KnownStart>,
 }
 
-/// A start that a transaction ended, without the profile that had come with it.
+/// A remote start that ended with a transaction, but without its profile.
 #[derive(Drop)]
 pub(crate) struct EndedStart {
     pub id_tag: IdTag,
     /// The profile's id.
     pub profile: i32,
-    /// Whether the transaction is of its idTag.
+    /// Whether the transaction has its idTag.
     pub is_same_tag: bool,
 }
 
-/// What a line did to the remote starts of its point.
+/// The effect of a line on the remote starts of its point.
 #[derive(Drop)]
 pub(crate) struct StartsChange {
-    /// Whether it confirmed a call that asks for a start.
+    /// Whether it confirmed the call of a remote start.
     pub is_reply: bool,
     pub ended: Option<EndedStart>,
 }
 
-/// The starts that wait at the points.
+/// The remote starts that wait at the points.
 #[derive(Drop)]
 pub(crate) struct Starts {
     alloc: Global,
-    /// Each at its place in the site file, as far as they are known.
+    /// The points of the site file, in its order, up to the last one with a message so far.
     points: Vec<PointStarts>,
 }
 
 impl Starts {
-    /// Before the first line there is none.
+    /// Begins before the first line, without any.
     pub(crate) fn new(alloc: Global) -> Starts {
         Starts {
             alloc,
@@ -62,7 +62,7 @@ impl Starts {
         }
     }
 
-    /// Takes in a line that was played just now, of the point of an identity.
+    /// Follows the line played last, of the point of this identity.
     pub(crate) fn follow(
         &mut self,
         playing: &Playing<'_>,
@@ -83,6 +83,7 @@ impl Starts {
         match played.outcome.change {
             PointChange::Confirmed => {
                 change.is_reply = known.is_asked;
+                // Without an `Accepted` the start is dropped, so the starts are read again.
                 known.is_asked = false;
                 known.waiting = known_starts(alloc, playing, point)?;
             }
@@ -97,7 +98,7 @@ impl Starts {
         Ok(change)
     }
 
-    /// What is known of the point at a place.
+    /// Returns the remote starts of the point at this index of the site.
     fn known(&mut self, place: usize) -> Result<Option<&mut PointStarts>, AllocError> {
         for _place in self.points.len()..place.saturating_add(1) {
             self.points.push(PointStarts {
@@ -110,7 +111,7 @@ impl Starts {
 }
 
 impl PointStarts {
-    /// Takes in the calls that a line sent.
+    /// Follows the calls that a line sent.
     fn follow_calls(&mut self, played: &PlayedLine<'_>) {
         for line in &played.outcome.printed {
             if let PrintedLine::Call { call, .. } = line {
@@ -120,7 +121,7 @@ impl PointStarts {
     }
 }
 
-/// The starts that wait at a point now.
+/// Returns the remote starts that wait at a point now.
 fn known_starts(
     alloc: Global,
     playing: &Playing<'_>,
@@ -138,7 +139,7 @@ fn known_starts(
     Ok(starts)
 }
 
-/// The start that waits no more, if it had a profile and that isn't installed.
+/// Returns the start that doesn't wait any more, if it had a profile that isn't installed.
 fn ended_start(
     alloc: Global,
     known: &PointStarts,
@@ -156,6 +157,7 @@ fn ended_start(
     match (start.profile, book.transaction_at(start.connector)) {
         (Some(profile), Some(active)) if !has_tx_profile(book, start.connector, profile) => {
             let id_tag = start.id_tag.copy(alloc)?;
+            // An idTag is a CiString, whose case doesn't count. Here that holds for ASCII letters.
             let is_same_tag = id_tag
                 .as_str()
                 .eq_ignore_ascii_case(active.begin.id_tag.as_str());
@@ -169,7 +171,7 @@ fn ended_start(
     }
 }
 
-/// Whether a TxProfile of this id stands at a connector.
+/// Returns whether a connector has a TxProfile of this id.
 fn has_tx_profile(book: &PointBook, connector: u32, id: i32) -> bool {
     book.view().rows.iter().any(|row| {
         row.connector == connector

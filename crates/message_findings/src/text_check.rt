@@ -1,4 +1,4 @@
-//! What is wrong with a message that a line of a script brings, as a frame (OCPP-J 1.6, chapter 4).
+//! Checks the message in a line of a script as a frame (OCPP-J 1.6, chapter 4).
 
 use crate::audit_check::check_verdict;
 use crate::call_check::{Call, check_call};
@@ -16,7 +16,7 @@ use ocppj_frame::{
 use replay::LineFault;
 use std::alloc::{AllocError, Global};
 
-/// What became of a message.
+/// The outcome of reading a message.
 #[derive(Clone, Copy, PartialEq, Eq)]
 enum Reading {
     /// It is a message, and was checked as one.
@@ -52,7 +52,7 @@ fn check_message(
     Ok(Reading::Checked)
 }
 
-/// Checks a message.
+/// Checks a frame.
 fn check_frame(
     report: &mut Report,
     text: &LineText<'_>,
@@ -83,7 +83,7 @@ fn check_frame(
     }
 }
 
-/// The status of a reply, to a remote start or another call, where it isn't well.
+/// Returns the status of a reply to a remote start or another call, if it isn't accepted.
 fn unaccepted_status<'memory>(
     is_of_start: bool,
     payload: Node<'_, 'memory>,
@@ -95,7 +95,8 @@ fn unaccepted_status<'memory>(
     }
 }
 
-/// The status of a reply, where it is neither accepted nor, of a clear, that nothing matched.
+/// Returns the status of a reply, if it is neither `Accepted` nor `Unknown`.
+// A clear answered `Unknown` matched nothing: the point is without the profiles, as it should be.
 fn reply_status<'memory>(payload: Node<'_, 'memory>) -> Option<&'memory str> {
     match text_field(payload, "status") {
         Field::Value("Accepted" | "Unknown") => None,
@@ -104,7 +105,8 @@ fn reply_status<'memory>(payload: Node<'_, 'memory>) -> Option<&'memory str> {
     }
 }
 
-/// The status of a reply to a remote start, where it isn't accepted.
+/// Returns the status of a reply to a remote start, if it isn't `Accepted`.
+// Any other reply ends the remote start, one without a status too.
 fn status_of_start<'memory>(payload: Node<'_, 'memory>) -> Option<&'memory str> {
     match text_field(payload, "status") {
         Field::Value("Accepted") => None,
@@ -113,8 +115,8 @@ fn status_of_start<'memory>(payload: Node<'_, 'memory>) -> Option<&'memory str> 
     }
 }
 
-/// A point that doesn't accept the call in flight or isn't in step, and an operator that replies. A
-/// reply that confirms no call is ignored.
+/// Checks a reply. Warns of a point that doesn't accept the call in flight or isn't in step, and of
+/// an operator's reply. A point's reply that confirms no call is ignored.
 fn check_reply(
     report: &mut Report,
     text: &LineText<'_>,
@@ -146,7 +148,7 @@ fn check_reply(
     report.warn(message)
 }
 
-/// A held line that is no request for a schedule.
+/// Reports a `hold` line that is no request for a schedule.
 pub(crate) fn not_composite(
     report: &mut Report,
     text: &LineText<'_>,
@@ -159,7 +161,7 @@ pub(crate) fn not_composite(
     report.fault(message)
 }
 
-/// A CALL whose action is no string or whose payload is no object.
+/// Reports a CALL whose action is no string or whose payload is no object.
 fn check_malformed(report: &mut Report, text: &LineText<'_>) -> Result<(), AllocError> {
     if text.sender == Sender::Hold {
         return not_composite(report, text, "it is malformed");
@@ -170,7 +172,7 @@ fn check_malformed(report: &mut Report, text: &LineText<'_>) -> Result<(), Alloc
     report.fault(message)
 }
 
-/// A frame that is no message.
+/// Reports a frame that is no message.
 fn check_dropped(
     report: &mut Report,
     memory: &mut ReadingMemory,
@@ -188,7 +190,7 @@ fn check_dropped(
     report.warn(message)
 }
 
-/// Why a frame is no message; `before` is the number of characters before it in its line.
+/// Describes why a frame is no message. `before` is the number of characters before it in its line.
 pub(crate) fn why_dropped(
     alloc: Global,
     memory: &mut ReadingMemory,
@@ -202,7 +204,7 @@ pub(crate) fn why_dropped(
     }
 }
 
-/// Where the JSON of a frame breaks, by its column in the line.
+/// Describes the break of a frame that isn't JSON, with its column in the line.
 fn broken_at(
     alloc: Global,
     frame: &str,
@@ -220,7 +222,7 @@ fn broken_at(
     format!(in alloc; "its JSON breaks at column {column}, where {found}")
 }
 
-/// Why a tree is no message.
+/// Returns the reason why a tree is no message.
 fn why_no_message(root: Node<'_, '_>) -> &'static str {
     let Some(entries) = root.list() else {
         return "a frame is a list such as [2,\"id\",\"Action\",{}]";

@@ -1,4 +1,4 @@
-//! Instants of an operator's payload that have no zone, and so count as UTC.
+//! Finds instants without a zone in an operator's payload, which count as UTC.
 
 use crate::payload_objects::{MAX_DEPTH, PayloadObject};
 use crate::report::Report;
@@ -6,7 +6,8 @@ use messages::{FieldKind, FieldRow};
 use ocppj_frame::{Field, text_field};
 use std::alloc::AllocError;
 
-/// Remarks on the instants of a payload without a zone.
+/// Adds a remark for each instant of a payload without a zone.
+// A local time that counts as UTC shifts a schedule by hours. RFC 3339 requires an offset.
 pub(crate) fn remark_unzoned(
     report: &mut Report,
     payload: PayloadObject<'_, '_>,
@@ -46,7 +47,8 @@ fn remark_field(
     }
 }
 
-/// Whether the time of an instant has `Z` or an offset behind it.
+/// Returns whether the time after a `T` has `Z` or an offset. Without a `T`, returns true.
+// A date has hyphens too, so only the part after the `T` is searched.
 fn has_zone(text: &str) -> bool {
     match text.split_once(['T', 't']) {
         Some((_, time)) => time.contains(['Z', 'z', '+', '-']),

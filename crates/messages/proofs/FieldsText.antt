@@ -1,4 +1,4 @@
--- An object's fields that are written in two parts.
+-- The fields of an object, written in two parts.
 use Rattle.std.proofs.Common.{◌≡◌, ℕ, List, [], ◌∷◌, ◌++◌, ap, sym, ◌∙◌, append-nil, append_assoc, Option, Some, None, codes, refl}
 use Rattle.std.specs.List.{filter_map}
 use Rattle.messages.specs.ObjectText.{field_text, fields_text, later_texts, object_text, present, string_text, time_text}
@@ -13,7 +13,7 @@ later-append ((key, Some value) ∷ fields) more =
     ap (λ (l : List ℕ). codes "," ++ field_text key value ++ l) (later-append fields more)
     ∙ sym (append_assoc (codes "," ++ field_text key value) (later_texts (filter_map present fields)) (later_texts (filter_map present more)))
 
--- Fields are written up to one that is present, and the later ones behind them.
+-- Fields are written up to one that is present, and the later ones after them.
 cut : (before middle after : List (List ℕ × Option (List ℕ))) (key value : List ℕ) → fields_text (before ++ ((key, Some value) ∷ (middle ++ after))) ≡ fields_text (before ++ ((key, Some value) ∷ middle)) ++ later_fields_text after
 unfolding fields_text later_fields_text
 cut [] middle after key value =
@@ -34,7 +34,7 @@ fields_more old before middle after key value s t p q =
     appended old (fields_text (before ++ ((key, Some value) ∷ middle))) s (later_fields_text after) t p q
     ∙ ap (λ (l : List ℕ). old ++ l) (sym (cut before middle after key value))
 
--- A key behind a comma, its value and the later fields.
+-- A comma, a key, its value and the later fields.
 later_field : (old key value : List ℕ) (after : List (List ℕ × Option (List ℕ))) (a b c : List ℕ)
     → a ≡ old ++ (codes "," ++ string_text key ++ codes ":") → b ≡ a ++ value
     → c ≡ b ++ later_fields_text after → c ≡ old ++ later_fields_text ((key, Some value) ∷ after)
@@ -51,7 +51,7 @@ unfolding later_fields_text
 one_later_field old key value a b p q =
     later_field old key value [] a b b p q (sym (append-nil b))
 
--- An object's fields, a key behind a comma, its value and the later fields.
+-- An object's fields, a comma, a key, its value and the later fields.
 pub nested_object : (old : List ℕ) (before middle after : List (List ℕ × Option (List ℕ)))
     (key value name text s t u v w x : List ℕ) → s ≡ old ++ codes "{"
     → t ≡ s ++ fields_text (before ++ ((key, Some value) ∷ middle))
@@ -74,7 +74,7 @@ pub object_of_two : (old : List ℕ) (middle : List (List ℕ × Option (List �
 unfolding later_fields_text
 object_of_two old middle key value name text s t u v x h i j k m = nested_object old [] middle [] key value name text s t u v v x h i j k (sym (append-nil v)) m
 
--- Two fields, the second of them behind its key, and the later fields.
+-- Two fields, the second of them after its key, and the later fields.
 pub fields_of_two_and_later : (old : List ℕ) (middle after : List (List ℕ × Option (List ℕ)))
     (key value name text s t u v : List ℕ) → s ≡ old ++ fields_text ((key, Some value) ∷ middle)
     → t ≡ s ++ (codes "," ++ string_text name ++ codes ":") → u ≡ t ++ text
@@ -84,7 +84,7 @@ fields_of_two_and_later old middle after key value name text s t u v h i j k =
     fields_more old [] middle ((name, Some text) ∷ after) key value s v h
     (later_field s name text after t u v i j k)
 
--- Two fields, the second of them behind its key.
+-- Two fields, the second of them after its key.
 pub fields_of_two : (old : List ℕ) (middle : List (List ℕ × Option (List ℕ)))
     (key value name text s t u : List ℕ) → s ≡ old ++ fields_text ((key, Some value) ∷ middle)
     → t ≡ s ++ (codes "," ++ string_text name ++ codes ":") → u ≡ t ++ text
@@ -93,7 +93,7 @@ unfolding later_fields_text
 fields_of_two old middle key value name text s t u h i j =
     fields_of_two_and_later old middle [] key value name text s t u u h i j (sym (append-nil u))
 
--- An object's first field stands apart from what is written behind it.
+-- An object's first field is written apart from the fields after it.
 pub first_field : (key value : List ℕ) (fields : List (List ℕ × Option (List ℕ))) → object_text ((key, Some value) ∷ fields) ≡ first_field_text key value ++ (later_fields_text fields ++ codes "}")
 unfolding fields_text first_field_text later_fields_text object_text
 first_field key value fields = ap (λ (l : List ℕ). codes "{" ++ l) (append_assoc (field_text key value) (later_texts (filter_map present fields)) (codes "}"))

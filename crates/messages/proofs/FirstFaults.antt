@@ -1,4 +1,4 @@
--- The first fault of the fields that are listed is the one that a reading stops at.
+-- The first fault of the listed fields is the one at which a reading stops.
 use Rattle.std.proofs.Common.{◌≡◌, Bool, true, false, ℕ, List, [], ◌∷◌, ◌++◌, Option, Some, None, Result, Ok, Err, refl, sym, ap, subst, ◌∙◌}
 use Rattle.std.specs.Prelude.{◌↔◌, IsOk, if◌then◌else◌}
 use Rattle.std.specs.List.{flat_map}
@@ -57,7 +57,7 @@ no_first [] h = refl
 no_first (None ∷ fields) h = no_first fields h.1
 no_first (Some fault ∷ fields) h = cc (h.0)
 
--- ---- what a reading stops at
+-- ---- the fault at which a reading stops
 
 stopped : {A : Type 0} → (reading : Result A CallFault) (fault : CallFault) → result_err reading ≡ Some fault → reading ≡ Err fault
 stopped (Ok x) fault e = cc
@@ -107,7 +107,7 @@ regrouped : {A B C : Type 0} → (reading : Result A CallFault) (f : A → Resul
 regrouped (Ok x) f g = refl
 regrouped (Err fault) f g = refl
 
--- ---- what stands in a field
+-- ---- the contents of a field
 
 single : (fault : Option CallFault) → first_fault (fault ∷ []) ≡ fault
 single None = refl
@@ -120,13 +120,13 @@ inside_value inner rest name WrongKind x h = cc
 inside_value inner rest name WrongValue x h = cc
 inside_value {A} inner rest name (Value y) x h = let e : y ≡ x = cc in ap (λ (z : A). first_fault (inner z ++ rest)) (sym e)
 
--- what stands in a field that is there
+-- the contents of a field that is present
 inside : {A : Type 0} → (inner : A → Checked) (rest : Checked) (read : NamedField A) (x : A) → required read ≡ Ok x
     → first_fault (inner x ++ rest) ≡ first_fault (faults_of_value inner read.field ++ rest)
 unfolding required
 inside inner rest read x h = inside_value inner rest read.name read.field x h
 
--- the whole of a field with what stands in it, and then the rest
+-- a field with its contents, and then the rest
 within_field : {A B C : Type 0} → (read : NamedField A) (inner : A → Checked) (reading : A → Result B CallFault) (next : A → B
     → Result C CallFault) (rest : Checked)
     → ((x : A) → result_err (reading x) ≡ first_fault (inner x)) → ((x : A) (y : B) → result_err (next x y) ≡ first_fault rest)
@@ -134,7 +134,7 @@ within_field : {A B C : Type 0} → (read : NamedField A) (inner : A → Checked
 within_field read inner reading next rest here h =
     step (required read) _ _ (λ x e. steps (reading x) (next x) (inner x) rest (here x) (λ y _. h x y) ∙ inside inner rest read x e)
 
--- what stands in a field that may be absent
+-- the contents of an optional field
 abbrev faults_if_given : {A : Type 0} → (A → Checked) → Option A → Checked
 faults_if_given inner None = []
 faults_if_given inner (Some x) = inner x
@@ -153,7 +153,7 @@ inside_optional : {A : Type 0} → (inner : A → Checked) (rest : Checked) (rea
 unfolding optional
 inside_optional inner rest read found h = inside_option inner rest read.name read.field found h
 
--- the whole of a field that may be absent with what stands in it, and then the rest
+-- an optional field with its contents, and then the rest
 within_optional : {A B C : Type 0} → (read : NamedField A) (inner : A → Checked) (reading : Option A → Result B CallFault) (next : Option A → B
     → Result C CallFault) (rest : Checked)
     → ((x : Option A) → result_err (reading x) ≡ first_fault (faults_if_given inner x)) → ((x : Option A) (y : B) → result_err (next x y) ≡ first_fault rest)

@@ -1,4 +1,4 @@
--- Periods that are read one after the other.
+-- Periods read one after another.
 use Rattle.std.proofs.Common.{◌≡◌, List, [], ◌∷◌, ◌++◌, Result, Ok, Err, ap, refl, sym, subst, append_assoc}
 use Rattle.ocpp_scalars.specs.ResultSteps.{◌>>=◌}
 use Rattle.ocppj_frame.specs.Tree.{Tree}
@@ -6,7 +6,7 @@ use Rattle.profile.specs.declared.period.Period.{Period}
 use Rattle.messages.specs.declared.call_fault.CallFault.{CallFault}
 use Rattle.messages.specs.ProfileFields.{each_period_of, period_of}
 
--- Periods that were read, and then those of the rest.
+-- The periods read so far, and then those of the rest.
 abbrev pub after_periods : List Period → Result (List Period) CallFault → Result (List Period) CallFault
 after_periods before (Ok periods) = Ok (before ++ periods)
 after_periods before (Err fault) = Err fault

@@ -1,5 +1,5 @@
--- What a CALL asks for by its action and its payload, or its first fault: the fields of each
--- action, in the order in which they are checked (OCPP 1.6, chapters 4 to 6).
+-- The action of a CALL by its name and payload, or its first fault: the fields of each action, in
+-- the order of the checks (OCPP 1.6, chapters 4 to 6).
 use Rattle.std.specs.Prelude.{◌≡◌, ℕ, List, Bool, true, false, Option, Some, None, Result, Ok, Err}
 use Rattle.std.specs.List.{AllByRecursion}
 use Rattle.ocpp_scalars.specs.ResultSteps.{◌>>=◌}
@@ -66,7 +66,7 @@ remote_start_of payload = do
   Ok (actions.RemoteStartTransaction (record
       { connector = connector; id_tag = tag; profile = profile }))
 
--- AuditPoint, this system's own
+-- AuditPoint, our own
 unfoldable pub audit_point_of : Tree → Result Action CallFault
 audit_point_of payload = do
   connector ← required (whole_from_zero payload ConnectorId)
@@ -93,7 +93,8 @@ stop_transaction_of payload = do
 
 -- ---- actions
 
--- An action whose fields aren't looked at; by the law `first_faults` no action is without both.
+-- An action whose fields aren't read; by the law `first_faults` each action has fields or an
+-- answer.
 abbrev pub action_answered : Option FixedAnswer → Result Action CallFault
 action_answered (Some answer) = Ok (actions.Answered answer)
 action_answered None = Err NotImplemented
@@ -110,28 +111,28 @@ action_of_kind StartTransaction payload = start_transaction_of payload
 action_of_kind StopTransaction payload = stop_transaction_of payload
 action_of_kind kind payload = action_answered (answer_of_kind kind)
 
--- A CALL for an action that isn't known is NotImplemented.
+-- A CALL with an unknown action is NotImplemented.
 abbrev pub action_if_known : Option ActionKind → Tree → Result Action CallFault
 action_if_known None payload = Err NotImplemented
 action_if_known (Some kind) payload = action_of_kind kind payload
 
--- What a CALL of this name and payload asks for, or its first fault.
+-- The action of a CALL with this name and payload, or its first fault.
 abbrev pub action_of : List ℕ → Tree → Result Action CallFault
 action_of name payload = action_if_known (action_named name) payload
 
--- What a message asks for; nothing where it is no CALL.
+-- The action of a message, or none if it isn't a CALL.
 abbrev pub action_in : Message → Result Action CallFault
 action_in (call id name payload) = action_of name payload
 action_in _ = Ok actions.NotACall
 
 -- ---- memory
 
--- The action that a message asks for by its name, where it is known.
+-- The action that a message names, if it is known.
 abbrev pub kind_asked : Message → Option ActionKind
 kind_asked (call id name payload) = action_named name
 kind_asked _ = None
 
--- Only a profile's periods and an idTag need memory to be read.
+-- Only a profile's periods and an idTag need memory.
 abbrev pub takes_memory : FieldKind → Bool
 takes_memory IdToken = true
 takes_memory (Object object) = true

@@ -1,7 +1,7 @@
--- The table of actions: of each its name, who sends it, what it is answered where its fields aren't
--- looked at, and else its fields in the order in which they are checked (OCPP 1.6, chapters 4 to
--- 6; RemoteStartTransaction's connectorId may be absent there). AuditPoint and PointStatus are
--- this system's own.
+-- The table of actions. Each has its name, the side that sends it, and either a fixed answer or the
+-- fields that are read, in the order of the checks (OCPP 1.6, chapters 4 to 6;
+-- RemoteStartTransaction's connectorId may be absent there). AuditPoint and PointStatus are our
+-- own.
 use Rattle.std.specs.Prelude.{ℕ, List, [], ◌∷◌, Bool, true, false, Option, Some, None, codes, option_map, if◌then◌else◌}
 use Rattle.std.specs.Str.{bytes_eq}
 use Rattle.messages.specs.declared.action_kind.ActionKind.{ActionKind}
@@ -22,12 +22,12 @@ pub record ActionRow : Type 0 where
   pub fixed_answer : Option FixedAnswer
   pub fields : List FieldRow
 
--- an action whose fields are looked at
+-- an action whose fields are read
 abbrev pub with_fields : Side → List ℕ → List FieldRow → ActionRow
 with_fields side name fields =
     record { name = name; side = side; fixed_answer = None; fields = fields }
 
--- an action whose fields aren't looked at
+-- an action with a fixed answer, whose fields aren't read
 abbrev pub answered : Side → List ℕ → FixedAnswer → ActionRow
 answered side name answer =
     record { name = name; side = side; fixed_answer = Some answer; fields = [] }
@@ -80,15 +80,15 @@ row_of DataTransfer = answered Point (codes "DataTransfer") answers.UnknownVendo
 abbrev pub name_of_kind : ActionKind → List ℕ
 name_of_kind kind = (row_of kind).name
 
--- Who sends an action.
+-- The side that sends an action.
 abbrev pub side_of_kind : ActionKind → Side
 side_of_kind kind = (row_of kind).side
 
--- What an action is answered where its fields aren't looked at.
+-- The fixed answer to an action, if its fields aren't read.
 abbrev pub answer_of_kind : ActionKind → Option FixedAnswer
 answer_of_kind kind = (row_of kind).fixed_answer
 
--- The fields of an action that are looked at.
+-- The fields of an action that are read.
 abbrev pub fields_of : ActionKind → List FieldRow
 fields_of kind = (row_of kind).fields
 
@@ -122,7 +122,7 @@ kind_in (kind ∷ kinds) text =
 abbrev pub action_named : List ℕ → Option ActionKind
 action_named text = kind_in action_kinds text
 
--- Who sends the action of a name.
+-- The side that sends the action of a name.
 abbrev pub side_of : List ℕ → Option Side
 side_of text = option_map side_of_kind (action_named text)
 

@@ -1,3 +1,3 @@
--- Forms by cases, with which proofs compute.
+-- Definitions by cases, with which proofs compute.
 pub mod FieldValue
 pub mod ObjectText

@@ -1,4 +1,4 @@
--- The error code and the description of a CALLERROR, by why the CALL is answered so (OCPP-J 1.6, 4.2.3).
+-- The error code and the description of a CALLERROR, by the fault of the CALL (OCPP-J 1.6, 4.2.3).
 use Rattle.std.specs.Prelude.{Bool, true, false, ℕ, List, [], codes}
 use Rattle.ocpp_scalars.specs.declared.refusal.Refusal.{Refusal}
 use Rattle.ocpp_scalars.specs.declared.refusal.Refusal.TheVariants as refusals
@@ -7,8 +7,8 @@ use Rattle.messages.specs.declared.call_fault.CallFault.{CallFault}
 use Rattle.messages.specs.declared.call_fault.CallFault.TheVariants.{FormationViolation, NotImplemented, OccurenceConstraintViolation, TypeConstraintViolation, PropertyConstraintViolation, Refused}
 use Rattle.messages.specs.FieldName.{fault_field_text}
 
--- Of a refused ClearChargingProfile, StartTransaction or StopTransaction, and of any CALL where
--- memory runs out. The first is never refused for its connector.
+-- The code of a refused ClearChargingProfile, StartTransaction or StopTransaction, and of any CALL
+-- if memory runs out. A ClearChargingProfile is never refused for its connector.
 abbrev pub refused_code : Refusal → List ℕ
 refused_code refusals.UnknownConnector = codes "PropertyConstraintViolation"
 refused_code _ = codes "InternalError"
@@ -30,7 +30,7 @@ fault_description (TypeConstraintViolation name) = fault_field_text name
 fault_description (PropertyConstraintViolation name) = fault_field_text name
 fault_description (Refused refusal) = refusal_name refusal
 
--- Out of memory says nothing of the CALL.
+-- A failed allocation says nothing about the CALL.
 abbrev pub is_memory : CallFault → Bool
 is_memory (Refused refusals.OutOfMemory) = true
 is_memory _ = false

@@ -1,5 +1,5 @@
--- What calls to a charge point look like, byte for byte: the keys in the order of OCPP 1.6,
--- chapters 6 and 7, without those of absent fields, no blanks, limits with one decimal.
+-- The texts of calls to a charge point, byte for byte: the keys in the order of OCPP 1.6, chapters
+-- 6 and 7, without absent fields, without blanks, limits with one decimal.
 use Rattle.std.specs.Prelude.{Bool, true, false, ℕ, ℤ, List, [], ◌∷◌, ◌++◌, map, Option, Some, None, option_map, codes}
 use Rattle.std.specs.List.{filter_map}
 use Rattle.std.specs.Fmt.{decimal, signed_decimal}
@@ -109,9 +109,9 @@ abbrev pub call_text : Call → List ℕ
 call_text call =
     frames.call_text (decimal call.number) (action_name call.body) (payload_text call.body)
 
--- ---- what a call is about, in words for people
+-- ---- the subject of a call, in words for people
 
--- the criteria of a clear, where they are given
+-- the criteria of a clear, if they are given
 abbrev pub criteria_given : Criteria → List (Option Criterion)
 criteria_given criteria =
     option_map criterion.Id criteria.id
@@ -130,12 +130,12 @@ abbrev pub later_words : List Criterion → List ℕ
 later_words [] = []
 later_words (first ∷ rest) = codes ", " ++ criterion_words first ++ later_words rest
 
--- a clear without a criterion is of every profile
+-- a clear without a criterion is one of every profile
 abbrev pub words_of : List Criterion → List ℕ
 words_of [] = codes "every profile"
 words_of (first ∷ rest) = criterion_words first ++ later_words rest
 
--- what is left of the criteria, by whether some of them are written
+-- the rest of the criteria, by whether some of them are written
 abbrev pub rest_of_words : Bool → List Criterion → List ℕ
 rest_of_words false criteria = words_of criteria
 rest_of_words true criteria = later_words criteria
@@ -165,7 +165,7 @@ abbrev pub remote_start_words : ℕ → List ℕ → Option Profile → List ℕ
 remote_start_words connector tag profile =
     tag_words connector tag ++ words_of_profile profile
 
--- what a call is about: its profiles, the schedule that it asks for, or the start that it asks for
+-- the subject of a call: its profiles, the requested schedule, or the requested start
 abbrev pub subject_text : CallBody → List ℕ
 subject_text (Clear criteria) = criteria_text (criteria_given criteria)
 subject_text (Set connector profile) =

@@ -1,6 +1,6 @@
 -- The faults of fields, by the tables of fields in `ActionKind` and `FieldRow` (OCPP 1.6, chapters
--- 6 and 7). By the law `first_faults` an action is read exactly where no field of its table has a
--- fault, and else its fault is the first. So what is read is what the tables say.
+-- 6 and 7). By the law `first_faults` an action is read exactly if no field of its table has a
+-- fault, and otherwise its fault is the first. So the tables define the reading.
 use Rattle.std.specs.Prelude.{◌≡◌, ℕ, zero, suc, Bool, true, false, List, [], ◌∷◌, ◌++◌, Option, Some, None}
 use Rattle.std.specs.List.{AllByRecursion, flat_map}
 use Rattle.std.specs.Result.{result_err}
@@ -22,13 +22,13 @@ use Rattle.messages.specs.ActionKind.{fields_of}
 use Rattle.messages.specs.FieldRow.{fields_in}
 use Rattle.messages.specs.Fields.{required, optional, whole, whole_from_zero, tenths, instant, one_name_of, list, object, text, as_object, as_id_tag}
 
--- The fields of an object in the order in which they are checked, each with its fault if any.
+-- The fields of an object in the order of the checks, each with its fault, if any.
 abbrev pub Checked : Type 0
 Checked = List (Option CallFault)
 
 -- ---- a field
 
--- The fault of a field that has to be there, or that may be absent.
+-- The fault of a required or an optional field.
 abbrev pub fault_of : {A : Type 0} → Bool → NamedField A → Option CallFault
 fault_of true field = result_err (required field)
 fault_of false field = result_err (optional field)
@@ -47,9 +47,9 @@ own_fault must UnitName fields name = fault_of must (one_name_of unit_named fiel
 own_fault must (Object kind) fields name = fault_of must (object fields name)
 own_fault must (Objects kind) fields name = fault_of must (list fields name)
 
--- ---- what stands in a field
+-- ---- the contents of a field
 
--- Where there is nothing, it has no fault.
+-- Without a value there is no fault inside.
 abbrev pub faults_of_value : {A : Type 0} → (A → Checked) → Field A → Checked
 faults_of_value inner (Value x) = inner x
 faults_of_value inner _ = []
@@ -57,11 +57,11 @@ faults_of_value inner _ = []
 abbrev pub id_tag_faults : FieldName → List ℕ → Checked
 id_tag_faults name tag = result_err (as_id_tag name tag) ∷ []
 
--- An entry of a list has to be an object.
+-- An entry of a list must be an object.
 abbrev pub entry_faults : (Tree → Checked) → FieldName → Tree → Checked
 entry_faults inner name entry = result_err (as_object name entry) ∷ inner entry
 
--- A list that is empty counts as absent.
+-- An empty list counts as absent.
 abbrev pub empty_fault : FieldName → List Tree → Option CallFault
 empty_fault name [] = Some (OccurenceConstraintViolation name)
 empty_fault name (entry ∷ entries) = None
@@ -70,7 +70,7 @@ abbrev pub entries_faults : (Tree → Checked) → FieldName → List Tree → C
 entries_faults inner name entries =
     flat_map (entry_faults inner name) entries ++ (empty_fault name entries ∷ [])
 
--- The faults inside a field of a kind, of which objects have those that `inner` says.
+-- The faults inside a field of a kind; `inner` gives those of objects.
 abbrev pub inside_faults : (ObjectKind → Tree → Checked) → FieldKind → Tree → FieldName → Checked
 inside_faults inner IdToken fields name =
     faults_of_value (id_tag_faults name) (text fields name).field
@@ -88,13 +88,13 @@ row_faults inner fields (Required name kind) =
 row_faults inner fields (Optional name kind) =
     own_fault false kind fields name ∷ inside_faults inner kind fields name
 
--- The faults of the fields of a table, down to a number of objects in one another.
+-- The faults of the fields of a table, down to this depth of nested objects.
 abbrev pub faults_down : ℕ → List FieldRow → Tree → Checked
 faults_down zero rows fields = []
 faults_down (suc depth) rows fields =
     flat_map (row_faults (λ kind inside. faults_down depth (fields_in kind) inside) fields) rows
 
--- a payload, in it a profile, in that its schedule, in that its periods
+-- the depth of a payload, its profile, the profile's schedule and the schedule's periods
 abbrev pub deepest : ℕ
 deepest = 4
 
@@ -106,7 +106,7 @@ field_faults kind payload = faults_down deepest (fields_of kind) payload
 abbrev pub HaveNoFault : Checked → Type 0
 HaveNoFault fields = AllByRecursion (λ field. field ≡ None) fields
 
--- A fault that a field has, where none before it has one.
+-- The fault of a field, if no earlier field has one.
 pub record IsFirstFault (fields : Checked) (fault : CallFault) : Type 0 where
   pub before : Checked
   pub after : Checked

@@ -1,5 +1,5 @@
--- The names of fields: as they are read from payloads, and as the descriptions of faults write them
--- (OCPP 1.6, chapters 6 and 7). Two tables, so that what is read and what is written share no
+-- The names of fields, as they are read from payloads and as descriptions of faults write them
+-- (OCPP 1.6, chapters 6 and 7). There are two tables, so that reading and writing share no
 -- definition.
 use Rattle.std.specs.Prelude.{ℕ, List, codes}
 use Rattle.messages.specs.declared.field_name.FieldName.{FieldName}

@@ -1,6 +1,5 @@
--- Tables of fields, each with what its value has to be, in the order in which they are checked:
--- those of the objects inside payloads (OCPP 1.6, chapter 7). Those of payloads stand in
--- `ActionKind`.
+-- Tables of fields with the kinds of their values, in the order of the checks: those of the objects
+-- inside payloads (OCPP 1.6, chapter 7). `ActionKind` has those of payloads.
 use Rattle.std.specs.Prelude.{List, [], ◌∷◌}
 use Rattle.messages.specs.declared.field_name.FieldName.{FieldName}
 use Rattle.messages.specs.declared.field_name.FieldName.TheVariants.{ChargingProfileId, ChargingProfileKind, ChargingProfilePurpose, ChargingRateUnit, ChargingSchedule, ChargingSchedulePeriod, Duration, Limit, MinChargingRate, NumberPhases, RecurrencyKind, StackLevel, StartPeriod, StartSchedule, TransactionId, ValidFrom, ValidTo}
@@ -19,7 +18,7 @@ abbrev pub kind_of_row : FieldRow → FieldKind
 kind_of_row (Required name kind) = kind
 kind_of_row (Optional name kind) = kind
 
--- the fields of an object that are looked at
+-- the fields of an object that are read
 abbrev pub fields_in : ObjectKind → List FieldRow
 fields_in Profile =
     Required ChargingProfileId Whole

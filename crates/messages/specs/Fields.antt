@@ -1,5 +1,5 @@
--- The fields of an object: what stands at a field's name, and which fault it is where that won't do
--- (OCPP-J 1.6, 4.2.3, for the three faults).
+-- The fields of an object: the value at a field's name, or its fault (OCPP-J 1.6, 4.2.3, for the
+-- three faults).
 use Rattle.std.specs.Prelude.{ℕ, ℤ, pos, negsuc, nat_le, List, length, Option, Some, None, Result, Ok, Err, if◌then◌else◌}
 use Rattle.std.specs.Str.{chars}
 use Rattle.ocpp_scalars.specs.Limits.{max_id_tag_characters}
@@ -13,14 +13,14 @@ use Rattle.messages.specs.declared.call_fault.CallFault.{CallFault}
 use Rattle.messages.specs.declared.call_fault.CallFault.TheVariants.{OccurenceConstraintViolation, TypeConstraintViolation, PropertyConstraintViolation}
 use Rattle.messages.specs.FieldName.{field_name}
 
--- the value of a field that has to be there, else its fault
+-- the value of a required field, or its fault
 abbrev pub required_value : {A : Type 0} → FieldName → Field A → Result A CallFault
 required_value name Absent = Err (OccurenceConstraintViolation name)
 required_value name WrongKind = Err (TypeConstraintViolation name)
 required_value name WrongValue = Err (PropertyConstraintViolation name)
 required_value name (Value x) = Ok x
 
--- the value of a field that may be absent
+-- the value of an optional field, or its fault
 abbrev pub optional_value : {A : Type 0} → FieldName → Field A → Result (Option A) CallFault
 optional_value name Absent = Ok None
 optional_value name WrongKind = Err (TypeConstraintViolation name)
@@ -56,7 +56,7 @@ tenths fields name = record { name = name; field = tenths_field_of (field_name n
 unfoldable pub instant : Tree → FieldName → NamedField ℕ
 instant fields name = record { name = name; field = instant_field_of (field_name name) fields }
 
--- a text that is no such name is a wrong value
+-- a text that isn't such a name is a wrong value
 abbrev pub value_or_wrong : {A : Type 0} → Option A → Field A
 value_or_wrong None = WrongValue
 value_or_wrong (Some x) = Value x
@@ -78,7 +78,7 @@ list fields name = record { name = name; field = list_field_of (field_name name)
 unfoldable pub object : Tree → FieldName → NamedField Tree
 object fields name = record { name = name; field = object_field_of (field_name name) fields }
 
--- an entry of a list that has to be an object
+-- an entry of a list, which must be an object
 abbrev pub as_object : FieldName → Tree → Result Tree CallFault
 as_object name entry = if is_object entry then Ok entry else Err (TypeConstraintViolation name)
 

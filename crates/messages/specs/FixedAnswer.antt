@@ -1,4 +1,4 @@
--- The answers to actions that depend neither on their fields nor on what the site has (OCPP 1.6,
+-- Answers that depend neither on the fields of the action nor on the state of the site (OCPP 1.6,
 -- chapter 6).
 use Rattle.std.specs.Prelude.{ℕ}
 use Rattle.messages.specs.declared.response.Response.{Response}

@@ -1,5 +1,5 @@
--- The names of OCPP's enumerations, as payloads write them (OCPP 1.6, chapter 7). They are read by
--- the tables of names of `profile`.
+-- The names of OCPP's enumerations in written payloads (OCPP 1.6, chapter 7). The tables of names
+-- in `profile` read them.
 use Rattle.std.specs.Prelude.{ℕ, List, Option, Some, None, codes}
 use Rattle.profile.specs.declared.kind.Kind.{Kind}
 use Rattle.profile.specs.declared.kind.Kind.TheVariants.{Absolute, Recurring, Relative}
@@ -22,7 +22,7 @@ kind_name Absolute = codes "Absolute"
 kind_name (Recurring recurrency) = codes "Recurring"
 kind_name Relative = codes "Relative"
 
--- a Recurring profile alone has one
+-- only a Recurring profile has one
 abbrev pub recurrency_of : Kind → Option Recurrency
 recurrency_of Absolute = None
 recurrency_of (Recurring recurrency) = Some recurrency

@@ -1,5 +1,5 @@
--- What JSON lists and objects look like: without blanks, and of an object the fields that are
--- present, in a given order (RFC 8259, sections 4 and 5).
+-- The texts of JSON lists and objects: without blanks; an object has the fields that are present,
+-- in a given order (RFC 8259, sections 4 and 5).
 use Rattle.std.specs.Prelude.{ℕ, List, [], ◌∷◌, ◌++◌, Option, option_map, codes}
 use Rattle.std.specs.List.{filter_map}
 use Rattle.ocpp_scalars.specs.Writing.{instant_text}
@@ -12,7 +12,7 @@ string_text text = codes "\"" ++ text ++ codes "\""
 abbrev pub time_text : ℕ → List ℕ
 time_text instant = string_text (instant_text instant)
 
--- each behind a comma
+-- each after a comma
 abbrev pub later_texts : List (List ℕ) → List ℕ
 later_texts [] = []
 later_texts (text ∷ texts) = codes "," ++ text ++ later_texts texts
@@ -25,7 +25,7 @@ joined (text ∷ texts) = text ++ later_texts texts
 abbrev pub list_text : List (List ℕ) → List ℕ
 list_text texts = codes "[" ++ joined texts ++ codes "]"
 
--- a field by its key, with its value as it is written
+-- a field: its key, and the text of its value
 abbrev pub field_text : List ℕ → List ℕ → List ℕ
 field_text key value = string_text key ++ codes ":" ++ value
 

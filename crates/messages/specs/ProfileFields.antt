@@ -1,4 +1,4 @@
--- The fields of a charging profile, in the order in which they are checked (OCPP 1.6, chapter 7).
+-- The fields of a charging profile, in the order of the checks (OCPP 1.6, chapter 7).
 use Rattle.std.specs.Prelude.{List, [], ◌∷◌, Option, Some, None, Result, Ok, Err}
 use Rattle.ocpp_scalars.specs.ResultSteps.{◌>>=◌}
 use Rattle.ocppj_frame.specs.Tree.{Tree}
@@ -28,7 +28,7 @@ each_period_of (entry ∷ entries) = do
   periods ← each_period_of entries
   Ok (period ∷ periods)
 
--- A required list that is empty counts as absent.
+-- An empty list that is required counts as absent.
 abbrev pub unless_empty : List Period → Result (List Period) CallFault
 unless_empty [] = Err (OccurenceConstraintViolation ChargingSchedulePeriod)
 unless_empty (period ∷ periods) = Ok (period ∷ periods)

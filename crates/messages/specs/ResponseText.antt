@@ -1,4 +1,4 @@
--- What answers look like, byte for byte: keys in this order, no blanks, limits with one decimal.
+-- The texts of answers, byte for byte: keys in this order, no blanks, limits with one decimal.
 use Rattle.std.specs.Prelude.{Bool, true, false, if◌then◌else◌, ℕ, ℤ, List, [], ◌∷◌, map, Option, Some, codes}
 use Rattle.std.specs.Fmt.{decimal, signed_decimal}
 use Rattle.ocpp_scalars.specs.declared.refusal.Refusal.{Refusal}
@@ -50,8 +50,8 @@ unfoldable pub start_transaction_text : ℤ → List ℕ
 start_transaction_text transaction = object_text (
     id_tag_info ∷ (codes "transactionId", Some (signed_decimal transaction)) ∷ [])
 
--- OCPP 1.6, chapter 6, SetChargingProfile.conf and GetCompositeSchedule.conf; the reason is this
--- system's own field
+-- OCPP 1.6, chapter 6, SetChargingProfile.conf and GetCompositeSchedule.conf; the field `reason` is
+-- our own
 unfoldable pub rejected_text : Refusal → List ℕ
 rejected_text refusal = object_text (
     (codes "status", Some (string_text (codes "Rejected")))
@@ -75,7 +75,7 @@ composite_schedule_text unit schedule =
     ∷ (codes "chargingSchedulePeriod", Some (list_text periods))
     ∷ [])
 
--- OCPP 1.6, chapter 6, GetCompositeSchedule.conf: the connector and the start asked, and the
+-- OCPP 1.6, chapter 6, GetCompositeSchedule.conf: the requested connector, the start, and the
 -- schedule in the site's unit
 unfoldable pub composite_text : ScheduleResponse → List ℕ
 composite_text response = object_text (
@@ -85,7 +85,7 @@ composite_text response = object_text (
     ∷ (codes "chargingSchedule", Some (composite_schedule_text response.unit response.schedule))
     ∷ [])
 
--- how an audit came out; this system's own names
+-- the outcome of an audit; names of our own
 abbrev pub audit_name : AuditOutcome → List ℕ
 audit_name outcomes.NoAudit = codes "None"
 audit_name outcomes.Waiting = codes "Waiting"
@@ -94,7 +94,7 @@ audit_name outcomes.Differs = codes "Differs"
 audit_name outcomes.Rejected = codes "Rejected"
 audit_name outcomes.Unsettled = codes "Unsettled"
 
--- the answer to PointStatus, this system's own
+-- the answer to PointStatus, our own
 unfoldable pub point_status_text : PointStatus → List ℕ
 point_status_text status = object_text (
     (codes "status", Some (string_text (codes "Accepted")))
@@ -107,14 +107,14 @@ abbrev pub is_out_of_memory : Refusal → Bool
 is_out_of_memory OutOfMemory = true
 is_out_of_memory _ = false
 
--- a refused install or request is a result; out of memory is an error, as it is for every action
+-- a refused install or request is a CALLRESULT; `OutOfMemory` is a CALLERROR, as for every action
 abbrev pub refusal_text : List ℕ → Refusal → List ℕ
 refusal_text id refusal =
     if is_out_of_memory refusal then call_error_text id (codes "InternalError") (codes "OutOfMemory")
     else call_result_text id (rejected_text refusal)
 
--- the message that answers the CALL of an id (OCPP-J 1.6, 4.2): a CALLRESULT, or a CALLERROR with the
--- code and the description that name why
+-- the message that answers the CALL of an id (OCPP-J 1.6, 4.2): a CALLRESULT, or a CALLERROR with
+-- the code and the description of the fault
 abbrev pub response_text : List ℕ → Response → List ℕ
 response_text id Accepted = call_result_text id (status_text (codes "Accepted"))
 response_text id (Rejected refusal) = refusal_text id refusal

@@ -1,5 +1,5 @@
--- What a charge point's reply says: whether it accepts, and in its reply to a GetCompositeSchedule
--- the composite schedule that it follows (OCPP 1.6, 5.7, and chapter 6, the .conf payloads).
+-- A charge point's reply: whether it accepts, and the composite schedule in a reply to a
+-- GetCompositeSchedule (OCPP 1.6, 5.7, and chapter 6, the .conf payloads).
 use Rattle.std.specs.Prelude.{ℕ, List, map, Bool, false, Result, Ok, Err, codes, if◌then◌else◌}
 use Rattle.std.specs.Str.{bytes_eq}
 use Rattle.ocpp_scalars.specs.ResultSteps.{◌>>=◌}
@@ -21,7 +21,7 @@ abbrev pub is_accepted : Field (List ℕ) → Bool
 is_accepted (Value status) = bytes_eq status (codes "Accepted")
 is_accepted _ = false
 
--- whether a message is a reply that accepts: a CALLERROR isn't one, nor is what is no CALLRESULT
+-- whether a message is a reply that accepts: only a CALLRESULT can be one
 abbrev pub is_accepted_reply : Message → Bool
 is_accepted_reply (call_result id payload) = is_accepted (text payload Status).field
 is_accepted_reply _ = false
@@ -30,9 +30,9 @@ is_accepted_reply _ = false
 abbrev pub composite_period : Period → CompositePeriod
 composite_period period = record { start = period.start; limit = period.limit }
 
--- The schedule that an accepted reply has, or a fault of its fields. Every field of the schedule is
--- checked as a profile's is; startSchedule, minChargingRate and numberPhases are then left out, and
--- so is the connector.
+-- The schedule in an accepted reply, or a fault of its fields. Every field of the schedule is
+-- checked as that of a profile. startSchedule, minChargingRate, numberPhases and the connector are
+-- then left out.
 unfoldable pub schedule_said : Tree → Result Said CallFault
 schedule_said payload = do
   connector ← optional (whole_from_zero payload ConnectorId)
@@ -41,7 +41,7 @@ schedule_said payload = do
   schedule ← schedule_of fields
   Ok (Schedule start schedule.duration schedule.unit (map composite_period schedule.periods))
 
--- A reply that is accepted, but has no schedule that can be read.
+-- The reply accepts; without a readable schedule it is unread.
 abbrev pub or_unread : Result Said CallFault → Said
 or_unread (Ok said) = said
 or_unread (Err fault) = Unread
@@ -50,7 +50,7 @@ abbrev pub said_of_payload : Tree → Said
 said_of_payload payload =
     if is_accepted (text payload Status).field then or_unread (schedule_said payload) else Refused
 
--- What a message says of the schedule: a CALLERROR refuses it, and so does what is no CALLRESULT.
+-- The schedule in a message: every message except a CALLRESULT refuses it.
 abbrev pub said_of : Message → Said
 said_of (call_result id payload) = said_of_payload payload
 said_of _ = Refused

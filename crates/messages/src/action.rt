@@ -1,5 +1,5 @@
-//! What a CALL asks for, read from its action and its payload: the fields of each action, in the order
-//! in which they are checked.
+//! Reads the action of a CALL from its name and payload: the fields of each action, in the order of
+//! their checks.
 ghost use Rattle.std.specs.Prelude.{◌≡◌, Some};
 ghost use Rattle.ocppj_frame.specs.Frame.{message_in};
 ghost use Rattle.ocppj_frame.specs.Payload.{tree_at};
@@ -24,7 +24,7 @@ use ocppj_frame::{Frame, Node};
 use profile::{Criteria, ProfileParts, Unit};
 use std::alloc::Global;
 
-/// What a message asks for, by its fields (chapters 4, 5 and 6).
+/// The action of a message, with its fields (chapters 4, 5 and 6).
 #[derive(Drop)]
 pub enum Action {
     SetChargingProfile {
@@ -43,9 +43,9 @@ pub enum Action {
     StartTransaction(StartTransaction),
     /// The transaction's number.
     StopTransaction(i32),
-    /// An action whose fields aren't looked at, with what it is answered.
+    /// An action whose fields aren't read, with its answer.
     Answered(FixedAnswer),
-    /// The message is no CALL, and so asks for nothing.
+    /// The message isn't a CALL, and has no action.
     NotACall,
 }
 
@@ -53,9 +53,9 @@ pub enum Action {
 #[derive(Drop)]
 pub struct ScheduleRequest {
     pub connector: u32,
-    /// Seconds.
+    /// The duration, in seconds.
     pub duration: u32,
-    /// chargingRateUnit: the unit that the schedule has to be in.
+    /// chargingRateUnit: the unit requested for the schedule.
     pub unit: Option<Unit>,
 }
 
@@ -64,7 +64,7 @@ pub struct ScheduleRequest {
 pub struct RemoteStartTransaction {
     pub connector: u32,
     pub id_tag: IdTag,
-    /// chargingProfile, with the transactionId that it may have.
+    /// chargingProfile, with its transactionId if it has one.
     pub profile: Option<ProfileParts>,
 }
 
@@ -75,13 +75,13 @@ pub struct StartTransaction {
     pub id_tag: IdTag,
     /// meterStart, in watt-hours.
     pub meter_start: i32,
-    /// When the transaction began.
+    /// The instant at which the transaction began.
     pub timestamp: Instant,
 }
 
-/// Reads what a message asks for, or names the first fault of its CALL: `NotImplemented` for an
-/// action that isn't known, else as [`read_fields`]. Who sends the action
-/// ([`ActionKind::side`]) is asked before.
+/// Reads the action of a message, or returns the first fault of its CALL: `NotImplemented` for an
+/// unknown action, otherwise that of [`read_fields`]. The caller checks first that the action's
+/// side ([`ActionKind::side`]) is that of the sender.
 pub fn read_action(alloc: Global, frame: &Frame<'_>) -> Result<Action, CallFault>
     ensures value { ReadsUnless is_memory (λ action. action) result
         (action_in (message_in frame.now)) }
@@ -102,9 +102,9 @@ pub fn read_action(alloc: Global, frame: &Frame<'_>) -> Result<Action, CallFault
     }
 }
 
-/// Reads the fields of an action from the payload of its CALL, or names the first fault in the order
-/// in which they are checked. Only a SetChargingProfile, a RemoteStartTransaction or a
-/// StartTransaction can be out of memory.
+/// Reads the fields of an action from the payload of its CALL, or returns the first fault in the
+/// order of the checks. Only a SetChargingProfile, a RemoteStartTransaction or a StartTransaction
+/// allocates memory.
 pub fn read_fields(
     alloc: Global,
     kind: ActionKind,
@@ -128,10 +128,11 @@ pub fn read_fields(
     }
 }
 
-/// An action whose fields aren't looked at.
+/// Returns an action whose fields aren't read.
 fn answered(answer: Option<FixedAnswer>) -> Result<Action, CallFault>
     ensures { result ≡ action_answered answer }
 {
+    // Never `None` here: by the law `first_faults` an action has fields or a fixed answer.
     answer
         .map(Action::Answered)
         .ok_or(CallFault::NotImplemented)
@@ -139,7 +140,7 @@ fn answered(answer: Option<FixedAnswer>) -> Result<Action, CallFault>
 
 // ---- the fields of operators' actions
 
-/// Chapter 6, SetChargingProfile.req.
+/// Reads SetChargingProfile.req (chapter 6).
 #[tactic(auto, unfolding(crate::specs::Action::set_charging_profile_of))]
 fn read_set_charging_profile(alloc: Global, payload: Node<'_, '_>) -> Result<Action, CallFault>
     ensures { ReadsUnless is_memory (λ action. action) result
@@ -151,7 +152,7 @@ fn read_set_charging_profile(alloc: Global, payload: Node<'_, '_>) -> Result<Act
     Ok(Action::SetChargingProfile { connector, profile })
 }
 
-/// Chapter 6, ClearChargingProfile.req.
+/// Reads ClearChargingProfile.req (chapter 6).
 #[tactic(auto, unfolding(crate::specs::Action::clear_charging_profile_of))]
 fn read_clear_charging_profile(payload: Node<'_, '_>) -> Result<Action, CallFault>
     ensures { result ≡ clear_charging_profile_of (tree_at payload.entry) }
@@ -168,7 +169,7 @@ fn read_clear_charging_profile(payload: Node<'_, '_>) -> Result<Action, CallFaul
     }))
 }
 
-/// Chapter 6, GetCompositeSchedule.req.
+/// Reads GetCompositeSchedule.req (chapter 6).
 #[tactic(auto, unfolding(crate::specs::Action::get_composite_schedule_of))]
 fn read_get_composite_schedule(payload: Node<'_, '_>) -> Result<Action, CallFault>
     ensures { result ≡ get_composite_schedule_of (tree_at payload.entry) }
@@ -183,7 +184,7 @@ fn read_get_composite_schedule(payload: Node<'_, '_>) -> Result<Action, CallFaul
     }))
 }
 
-/// Chapter 6, RemoteStartTransaction.req.
+/// Reads RemoteStartTransaction.req (chapter 6).
 #[tactic(auto, unfolding(crate::specs::Action::remote_start_of))]
 fn read_remote_start(alloc: Global, payload: Node<'_, '_>) -> Result<Action, CallFault>
     ensures { ReadsUnless is_memory (λ action. action) result
@@ -200,7 +201,7 @@ fn read_remote_start(alloc: Global, payload: Node<'_, '_>) -> Result<Action, Cal
     }))
 }
 
-/// AuditPoint, this system's own.
+/// Reads AuditPoint, an action of our own.
 #[tactic(auto, unfolding(crate::specs::Action::audit_point_of))]
 fn read_audit_point(payload: Node<'_, '_>) -> Result<Action, CallFault>
     ensures { result ≡ audit_point_of (tree_at payload.entry) }
@@ -213,7 +214,7 @@ fn read_audit_point(payload: Node<'_, '_>) -> Result<Action, CallFault>
     })
 }
 
-/// The idTag: a text of at most 20 characters (chapter 7, IdToken).
+/// Reads the idTag, a text of at most 20 characters (chapter 7, IdToken).
 #[tactic(auto, unfolding(crate::specs::Action::id_tag_of))]
 fn read_id_tag(alloc: Global, payload: Node<'_, '_>) -> Result<IdTag, CallFault>
     ensures { ReadsUnless is_memory (λ id_tag. id_tag) result (id_tag_of (tree_at payload.entry)) }
@@ -224,7 +225,7 @@ fn read_id_tag(alloc: Global, payload: Node<'_, '_>) -> Result<IdTag, CallFault>
 
 // ---- the fields of points' actions
 
-/// Chapter 6, StartTransaction.req.
+/// Reads StartTransaction.req (chapter 6).
 #[tactic(auto, unfolding(crate::specs::Action::start_transaction_of))]
 fn read_start_transaction(alloc: Global, payload: Node<'_, '_>) -> Result<Action, CallFault>
     ensures { ReadsUnless is_memory (λ action. action) result
@@ -242,7 +243,7 @@ fn read_start_transaction(alloc: Global, payload: Node<'_, '_>) -> Result<Action
     }))
 }
 
-/// Chapter 6, StopTransaction.req, of which the transaction alone is looked at.
+/// Reads only the transactionId of StopTransaction.req (chapter 6).
 #[tactic(auto, unfolding(crate::specs::Action::stop_transaction_of))]
 fn read_stop_transaction(payload: Node<'_, '_>) -> Result<Action, CallFault>
     ensures { result ≡ stop_transaction_of (tree_at payload.entry) }

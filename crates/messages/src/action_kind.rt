@@ -1,5 +1,5 @@
-//! The table of actions: of each its name, who sends it, what it is answered where its fields aren't
-//! looked at, and else its fields.
+//! The table of actions. Each has its name, the side that sends it, and either a fixed answer or
+//! the fields that are read.
 
 ghost use Rattle.std.specs.Prelude.{◌≡◌, [], Some, None};
 ghost use Rattle.messages.specs.ActionKind.{action_kinds, action_named, answer_of_kind, fields_of, kind_in, kind_of_sender, name_of_kind, row_of, side_of_kind};
@@ -16,17 +16,16 @@ use crate::field_row::ObjectKind;
 use crate::fixed_answer::FixedAnswer;
 use crate::side::Side::{self, Operator, Point};
 
-/// The actions that are known (chapters 4.1 to 4.10 and 5, and two of this system's own), without
-/// their fields.
+/// The known actions (chapters 4.1 to 4.10 and 5, and two of our own), without their fields.
 #[derive(Clone, Copy, PartialEq, Eq)]
 pub enum ActionKind {
     SetChargingProfile,
     ClearChargingProfile,
     GetCompositeSchedule,
     RemoteStartTransaction,
-    /// This system's own: the point is asked for the composite schedule that it follows, to compare it.
+    /// Our own: asks the point for the composite schedule that it follows, to compare it.
     AuditPoint,
-    /// This system's own: the version, the calls that are left, and the last audit.
+    /// Our own: returns the version, the number of unconfirmed calls, and the last audit.
     PointStatus,
     BootNotification,
     Heartbeat,
@@ -40,8 +39,8 @@ pub enum ActionKind {
     DataTransfer,
 }
 
-/// SetChargingProfile.req (chapter 6). These are the fields that are looked at, in the order in which
-/// they are checked.
+/// SetChargingProfile.req (chapter 6). Each of these tables has the fields that are read, in the
+/// order of the checks.
 const SET_FIELDS: &[FieldRow] = &[
     Required(ConnectorId, WholeFromZero),
     Required(CsChargingProfiles, Object(ObjectKind::Profile)),
@@ -62,14 +61,16 @@ const GET_FIELDS: &[FieldRow] = &[
     Optional(ChargingRateUnit, UnitName),
 ];
 
-/// RemoteStartTransaction.req, of which this system requires the connectorId.
+/// RemoteStartTransaction.req. The connectorId is required (our choice).
+// OCPP lets it be absent (5.11), but a pending start is kept by its connector.
 const REMOTE_START_FIELDS: &[FieldRow] = &[
     Required(ConnectorId, WholeFromZero),
     Required(IdTag, IdToken),
     Optional(ChargingProfile, Object(ObjectKind::Profile)),
 ];
 
-/// AuditPoint, of this system's own.
+/// AuditPoint, an action of our own.
+// Without a unit: the point is asked in the site's unit.
 const AUDIT_FIELDS: &[FieldRow] = &[
     Required(ConnectorId, WholeFromZero),
     Required(Duration, WholeFromZero),
@@ -86,7 +87,7 @@ const START_FIELDS: &[FieldRow] = &[
 /// StopTransaction.req.
 const STOP_FIELDS: &[FieldRow] = &[Required(TransactionId, Whole)];
 
-/// The row of an action in the table.
+/// A row of the table of actions.
 #[derive(Clone, Copy)]
 struct ActionRow {
     name: &'static str,
@@ -95,7 +96,7 @@ struct ActionRow {
     fields: &'static [FieldRow],
 }
 
-/// An action whose fields are looked at.
+/// Makes the row of an action whose fields are read.
 fn with_fields(side: Side, name: &'static str, fields: &'static [FieldRow]) -> ActionRow
     ensures name { result.name.now ≡ name.now }
     ensures side { result.side ≡ side }
@@ -110,7 +111,7 @@ fn with_fields(side: Side, name: &'static str, fields: &'static [FieldRow]) -> A
     }
 }
 
-/// An action whose fields aren't looked at.
+/// Makes the row of an action with a fixed answer, whose fields aren't read.
 fn answered(side: Side, name: &'static str, answer: FixedAnswer) -> ActionRow
     ensures name { result.name.now ≡ name.now }
     ensures side { result.side ≡ side }
@@ -126,7 +127,7 @@ fn answered(side: Side, name: &'static str, answer: FixedAnswer) -> ActionRow
 }
 
 impl ActionKind {
-    /// All that are known.
+    /// Returns all known actions.
     pub fn all() -> &'static [ActionKind]
         ensures { result.now ≡ action_kinds }
     {
@@ -150,7 +151,7 @@ impl ActionKind {
         ]
     }
 
-    /// The table.
+    /// Returns the row of the action: this is the table.
     fn row(self) -> ActionRow
         ensures name { result.name.now ≡ (row_of self).name }
         ensures side { result.side ≡ (row_of self).side }
@@ -197,36 +198,36 @@ impl ActionKind {
         }
     }
 
-    /// Its name.
+    /// Returns its name.
     pub fn name(self) -> &'static str
         ensures { result.now ≡ name_of_kind self }
     {
         self.row().name
     }
 
-    /// Who sends it.
+    /// Returns the side that sends it.
     pub fn side(self) -> Side
         ensures { result ≡ side_of_kind self }
     {
         self.row().side
     }
 
-    /// What it is answered where its fields aren't looked at.
+    /// Returns its fixed answer, if its fields aren't read.
     pub fn fixed_answer(self) -> Option<FixedAnswer>
         ensures { result ≡ answer_of_kind self }
     {
         self.row().fixed_answer
     }
 
-    /// The action of this name, exactly as written. Needs no memory: a CALL's name is looked up
-    /// before its fields are read.
+    /// Returns the action of this name, exactly as written. Allocates nothing: a CALL's name is
+    /// looked up before its fields are read.
     pub fn named(text: &str) -> Option<ActionKind>
         ensures { result ≡ action_named text.now }
     {
         kind_in(ActionKind::all(), text)
     }
 
-    /// The action of this name, where it is one that this side sends.
+    /// Returns the action of this name, if this side sends it.
     pub fn of_sender(sender: Side, name: &str) -> Option<ActionKind>
         ensures { result ≡ kind_of_sender sender (action_named name.now) }
     {
@@ -239,7 +240,7 @@ impl ActionKind {
     }
 }
 
-/// The first of these actions that has this name.
+/// Returns the first of these actions with this name.
 fn kind_in(kinds: &[ActionKind], text: &str) -> Option<ActionKind>
     ensures { result ≡ kind_in kinds.now text.now }
 {
@@ -251,7 +252,7 @@ fn kind_in(kinds: &[ActionKind], text: &str) -> Option<ActionKind>
     None
 }
 
-/// The fields of an action that are looked at, in the order in which they are checked.
+/// Returns the fields of an action that are read, in the order of the checks.
 pub fn fields_of(kind: ActionKind) -> &'static [FieldRow]
     ensures { result.now ≡ fields_of kind }
 {

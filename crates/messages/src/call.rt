@@ -1,4 +1,4 @@
-//! The calls that go to a charge point.
+//! The calls to a charge point.
 
 ghost use Rattle.std.specs.Prelude.{◌≡◌, IfOk};
 ghost use Rattle.messages.specs.ActionKind.{row_of};
@@ -17,10 +17,10 @@ pub struct Call {
     pub body: CallBody,
 }
 
-/// What a call asks a charge point to do (chapters 5.5, 5.7, 5.11 and 5.16).
+/// The action of a call and its fields (chapters 5.5, 5.7, 5.11 and 5.16).
 #[derive(Drop)]
 pub enum CallBody {
-    /// ClearChargingProfile, of the profiles that match these criteria.
+    /// ClearChargingProfile, with these criteria.
     Clear(Criteria),
     /// SetChargingProfile, at this connector.
     Set {
@@ -33,7 +33,8 @@ pub enum CallBody {
         duration: u32,
         unit: Unit,
     },
-    /// RemoteStartTransaction, at this connector by this idTag, and with this profile if there is one.
+    /// RemoteStartTransaction, at this connector with this idTag, and with this profile if there is
+    /// one.
     RemoteStart {
         connector: u32,
         id_tag: IdTag,
@@ -42,7 +43,7 @@ pub enum CallBody {
 }
 
 impl Call {
-    /// A copy.
+    /// Returns a copy.
     pub fn copy(&self, alloc: Global) -> Result<Call, AllocError>
         ensures { IfOk result (λ copy. copy ≡ self.now) }
     {
@@ -54,7 +55,7 @@ impl Call {
 }
 
 impl CallBody {
-    /// Its action.
+    /// Returns its action.
     pub fn kind(&self) -> ActionKind
         ensures { (row_of result).name ≡ action_name self.now }
     {
@@ -66,14 +67,14 @@ impl CallBody {
         }
     }
 
-    /// The name of its action.
+    /// Returns the name of its action.
     pub fn action(&self) -> &'static str
         ensures { result.now ≡ action_name self.now }
     {
         self.kind().name()
     }
 
-    /// A copy.
+    /// Returns a copy.
     pub fn copy(&self, alloc: Global) -> Result<CallBody, AllocError>
         ensures { IfOk result (λ copy. copy ≡ self.now) }
     {
@@ -81,6 +82,7 @@ impl CallBody {
             CallBody::Clear(criteria) => Ok(CallBody::Clear(*criteria)),
             CallBody::Set { connector, profile } => Ok(CallBody::Set {
                 connector: *connector,
+                // Shares the periods, up to 200, which never change.
                 profile: profile.copy()?,
             }),
             CallBody::Audit {

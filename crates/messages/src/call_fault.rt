@@ -1,4 +1,4 @@
-//! Why a CALL is answered with a CALLERROR.
+//! The faults of a CALL that are answered with a CALLERROR.
 ghost use Rattle.std.specs.Prelude.{◌≡◌};
 ghost use Rattle.messages.specs.CallFault.{fault_code, fault_description, refused_code};
 
@@ -6,28 +6,29 @@ use crate::field_name::FieldName;
 use ocpp_scalars::Refusal;
 use std::alloc::{AllocError, AllocFailed};
 
-/// Why a CALL is answered with a CALLERROR (OCPP-J 1.6, 4.2.3).
+/// The reason why a CALL is answered with a CALLERROR (OCPP-J 1.6, 4.2.3).
 #[derive(Clone, Copy, PartialEq, Eq)]
 pub enum CallFault {
     /// The action or the payload is malformed (`ocppj_frame::FrameFault::Formation`).
     FormationViolation,
-    /// The action isn't known, or comes from the other side.
+    /// The action isn't known, or is one of the other side.
     NotImplemented,
-    /// A required field is absent, or a required list empty.
+    /// A required field is absent, or a required list is empty.
     OccurenceConstraintViolation(FieldName),
-    /// A field is of another JSON kind.
+    /// A field is of the wrong JSON kind.
     TypeConstraintViolation(FieldName),
-    /// A field's value is out of bounds, or isn't what it has to spell.
+    /// A field's value is out of bounds, or isn't of the required form.
     PropertyConstraintViolation(FieldName),
     /// A ClearChargingProfile, StartTransaction or StopTransaction is refused, or memory ran out.
     Refused(Refusal),
 }
 
 impl CallFault {
-    /// The error code.
+    /// Returns the error code.
     pub fn code(self) -> &'static str
         ensures { result.now ≡ fault_code self }
     {
+        // Spelled as in OCPP-J 1.6, 4.2.3, which has `Occurence` with one r.
         match self {
             CallFault::FormationViolation => "FormationViolation",
             CallFault::NotImplemented => "NotImplemented",
@@ -38,7 +39,8 @@ impl CallFault {
         }
     }
 
-    /// The error description: the name of the field or of the refusal, where the fault is one's.
+    /// Returns the error description: the name of the field or of the refusal, if the fault has
+    /// one.
     pub fn description(self) -> &'static str
         ensures { result.now ≡ fault_description self }
     {
@@ -52,11 +54,13 @@ impl CallFault {
     }
 }
 
-/// The error code of a refused ClearChargingProfile, StartTransaction or StopTransaction.
+/// Returns the error code of a refused ClearChargingProfile, StartTransaction or StopTransaction.
 fn refused_code(refusal: Refusal) -> &'static str
     ensures { result.now ≡ refused_code refusal }
 {
     match refusal {
+        // Only a StartTransaction is refused for this: its connectorId isn't a connector of the
+        // point.
         Refusal::UnknownConnector => "PropertyConstraintViolation",
         _ => "InternalError",
     }

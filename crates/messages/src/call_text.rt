@@ -19,11 +19,12 @@ use ocppj_frame::{push_call_head, push_frame_end, push_string};
 use profile::{Criteria, Period, Profile, Purpose, Schedule, Unit};
 use std::alloc::AllocError;
 
-/// Appends the text of a call, a CALL whose message id is the call's number in decimal. Its keys
-/// stand in a fixed order, without blanks and without those of absent fields.
+/// Appends the text of a call: a CALL whose message id is the call's number in decimal. Its keys
+/// are in a fixed order, without blanks and without absent fields.
 pub fn push_call(out: &mut String, call: &Call) -> Result<(), AllocError>
     ensures { Appends result (string_bytes out.old) (string_bytes out.new) (call_text call.now) }
 {
+    // A reply confirms the call only if its id has exactly these digits.
     let mut digits = itoa::Buffer::new();
     let id = digits.format(call.number);
     push_call_head(out, id, call.body.action())?;
@@ -117,12 +118,13 @@ fn push_remote_start(
 {
     push_fields(out, &[("connectorId", Some(FieldValue::Whole(connector)))])?;
     out.push_str(r#","idTag":"#)?;
+    // Unlike the other texts of a call, an idTag may have characters to escape.
     push_string(out, id_tag.as_str())?;
     push_profile_field(out, profile)?;
     Ok(())
 }
 
-/// Appends a profile behind a comma and its key, if there is one.
+/// Appends a comma, the key and the profile, if there is one.
 #[tactic(auto, unfolding(crate::specs::ByCases::ObjectText::later_fields_text))]
 fn push_profile_field(out: &mut String, profile: &Option<Profile>) -> Result<(), AllocError>
     ensures { Appends result (string_bytes out.old) (string_bytes out.new)
@@ -174,7 +176,8 @@ fn push_own_fields(out: &mut String, profile: &Profile) -> Result<(), AllocError
     )
 }
 
-/// The chargingProfileId, apart: its clause says that the number keeps its sign.
+/// Returns the chargingProfileId.
+// A function of its own: its contract says that the number keeps its sign.
 fn profile_id(profile: &Profile) -> Option<FieldValue>
     ensures { option_map value_text result ≡ Some (signed_decimal profile.now.id) }
 {
@@ -232,10 +235,10 @@ fn push_period(out: &mut String, period: &Period) -> Result<(), AllocError>
     Ok(())
 }
 
-// ---- what a call is about
+// ---- the subject of a call
 
-/// Appends what a call is about, in words: `TxProfile 7 at connector 1`, the criteria of a clear,
-/// `connector 1 for 60 s` of an audit, or `idTag T1 at connector 1` of a remote start.
+/// Appends the subject of a call, in words: `TxProfile 7 at connector 1`, the criteria of a clear,
+/// `connector 1 for 60 s` for an audit, or `idTag T1 at connector 1` for a remote start.
 pub fn push_subject(out: &mut String, body: &CallBody) -> Result<(), AllocError>
     ensures { Appends result (string_bytes out.old) (string_bytes out.new) (subject_text body.now) }
 {
@@ -255,7 +258,7 @@ pub fn push_subject(out: &mut String, body: &CallBody) -> Result<(), AllocError>
     }
 }
 
-/// A criterion of a clear that is given.
+/// A given criterion of a clear.
 #[derive(Clone, Copy)]
 enum Criterion {
     Id(i32),
@@ -264,7 +267,7 @@ enum Criterion {
     StackLevel(u32),
 }
 
-/// Appends the criteria that are given, with commas between them, or that there is none.
+/// Appends the given criteria, with commas between them, or `every profile` if there is none.
 fn push_criteria(out: &mut String, criteria: &Criteria) -> Result<(), AllocError>
     ensures { Appends result (string_bytes out.old) (string_bytes out.new)
         (criteria_text (criteria_given criteria.now)) }
@@ -294,6 +297,7 @@ fn push_given(out: &mut String, criteria: &[Option<Criterion>]) -> Result<(), Al
             some_written = true;
         }
     }
+    // A clear without a criterion matches all profiles.
     if !some_written {
         out.push_str("every profile")?;
     }
@@ -323,7 +327,7 @@ fn push_words(out: &mut String, words: &str, number: FieldValue) -> Result<(), A
     push_value(out, number)
 }
 
-/// Appends a profile by its purpose and id, and where it is installed.
+/// Appends a profile by its purpose and id, and the connector of its install.
 fn push_profile_at(out: &mut String, connector: u32, profile: &Profile) -> Result<(), AllocError>
     ensures { Appends result (string_bytes out.old) (string_bytes out.new)
         (profile_words profile.now.purpose profile.now.id

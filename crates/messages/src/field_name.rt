@@ -2,7 +2,7 @@
 ghost use Rattle.std.specs.Prelude.{◌≡◌};
 ghost use Rattle.messages.specs.FieldName.{fault_field_text, field_name};
 
-/// A field of a payload, under its OCPP name.
+/// A field of a payload, by its name in OCPP.
 #[derive(Clone, Copy, PartialEq, Eq)]
 pub enum FieldName {
     ChargingProfile,
@@ -34,11 +34,12 @@ pub enum FieldName {
 }
 
 impl FieldName {
-    /// The name as payloads have it.
+    /// Returns the name as payloads have it.
     pub fn text(self) -> &'static str
         ensures read { result.now ≡ field_name self }
         ensures written { result.now ≡ fault_field_text self }
     {
+        // The contract has two tables, so that definitions of reading and writing share nothing.
         match self {
             FieldName::ChargingProfile => "chargingProfile",
             FieldName::ChargingProfileId => "chargingProfileId",

@@ -1,4 +1,4 @@
-//! Tables of fields, each with what its value has to be, in the order in which they are checked.
+//! Tables of fields with the kinds of their values, in the order of the checks.
 
 ghost use Rattle.std.specs.Prelude.{◌≡◌};
 ghost use Rattle.messages.specs.FieldRow.{fields_in, kind_of_row, name_of_row};
@@ -14,14 +14,14 @@ use FieldKind::{
 };
 use FieldRow::{Optional, Required};
 
-/// What the value of a field has to be.
+/// The required kind of a field's value.
 #[derive(Clone, Copy, PartialEq, Eq)]
 pub enum FieldKind {
     /// A whole number of 32 bits.
     Whole,
     /// A whole number of 32 bits that isn't below 0.
     WholeFromZero,
-    /// A limit, with one decimal at most.
+    /// A limit, with at most one decimal.
     Tenths,
     /// An instant.
     Time,
@@ -37,7 +37,7 @@ pub enum FieldKind {
     UnitName,
     /// An object of this kind.
     Object(ObjectKind),
-    /// A list of such objects; one that is empty counts as absent.
+    /// A list of such objects; an empty one counts as absent.
     Objects(ObjectKind),
 }
 
@@ -52,17 +52,17 @@ pub enum ObjectKind {
     Period,
 }
 
-/// A field of an object, with what its value has to be.
+/// A field of an object, with the required kind of its value.
 #[derive(Clone, Copy, PartialEq, Eq)]
 pub enum FieldRow {
-    /// It has to be there.
+    /// It must be present.
     Required(FieldName, FieldKind),
     /// It may be absent.
     Optional(FieldName, FieldKind),
 }
 
 impl FieldRow {
-    /// The field's name.
+    /// Returns the field's name.
     pub fn name(self) -> FieldName
         ensures { result ≡ name_of_row self }
     {
@@ -71,7 +71,7 @@ impl FieldRow {
         }
     }
 
-    /// What its value has to be.
+    /// Returns the required kind of its value.
     pub fn kind(self) -> FieldKind
         ensures { result ≡ kind_of_row self }
     {
@@ -81,8 +81,7 @@ impl FieldRow {
     }
 }
 
-/// The fields of an object inside a payload that are looked at, in the order in which they are
-/// checked.
+/// Returns the fields that are read of an object inside a payload, in the order of the checks.
 pub fn fields_in(object: ObjectKind) -> &'static [FieldRow]
     ensures { result.now ≡ fields_in object }
 {

@@ -1,4 +1,4 @@
-//! The values of a call's fields that are no object and no list.
+//! The values of a call's fields that are neither objects nor lists.
 ghost use Rattle.std.specs.Prelude.{◌≡◌, option_map, string_bytes};
 ghost use Rattle.std.specs.Fmt.{decimal, signed_decimal};
 ghost use Rattle.ocpp_scalars.specs.Appending.{Appends};
@@ -12,7 +12,7 @@ use ocpp_scalars::{Instant, push_instant, push_integer, push_tenths};
 use profile::{Kind, Purpose, Recurrency, Unit};
 use std::alloc::AllocError;
 
-/// A field's value that is no object and no list.
+/// A field's value that is neither an object nor a list.
 #[derive(Clone, Copy)]
 pub(crate) enum FieldValue {
     Whole(u32),
@@ -56,7 +56,7 @@ pub(crate) fn purpose(purpose: Option<Purpose>) -> Option<FieldValue>
     purpose.map(FieldValue::PurposeName)
 }
 
-/// The recurrencyKind of a kind, which a Recurring one alone has.
+/// Returns the recurrencyKind of a kind, which only a Recurring one has.
 pub(crate) fn recurrency(kind: Kind) -> Option<FieldValue>
     ensures { option_map value_text result
         ≡ option_map (λ r. string_text (recurrency_name r)) (recurrency_of kind) }
@@ -93,7 +93,7 @@ fn push_time(out: &mut String, instant: Instant) -> Result<(), AllocError>
     Ok(())
 }
 
-/// Appends a text without a character to escape as a JSON string.
+/// Appends a text as a JSON string. The text has no character to escape.
 pub(crate) fn push_string(out: &mut String, text: &str) -> Result<(), AllocError>
     ensures { Appends result (string_bytes out.old) (string_bytes out.new) (string_text text.now) }
 {

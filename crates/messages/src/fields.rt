@@ -1,5 +1,5 @@
-//! The fields of an object, each read under its name and then as required or optional, so that the
-//! reading of an action stands as its table of fields does.
+//! The fields of an object. Each is read under its name, and then as required or optional, so that
+//! the code that reads an action has the form of its table of fields.
 ghost use Rattle.std.specs.Prelude.{◌≡◌, Ok, Err, MatchResult, option_map};
 ghost use Rattle.ocppj_frame.specs.Field.{field_map};
 ghost use Rattle.ocppj_frame.specs.Payload.{entries_in, tree_at};
@@ -14,7 +14,7 @@ use ocppj_frame::{
 };
 use profile::Named;
 
-/// What stands at the name of a field.
+/// The field of an object with this name.
 #[derive(Drop)]
 pub struct NamedField<T> {
     pub name: FieldName,
@@ -22,7 +22,7 @@ pub struct NamedField<T> {
 }
 
 impl<T: Drop> NamedField<T> {
-    /// The value of a field that has to be there.
+    /// Returns the value of a required field, or its fault.
     #[tactic(auto, unfolding(crate::specs::Fields::required))]
     pub fn required(self) -> Result<T, CallFault>
         ensures { result ≡ required self }
@@ -35,7 +35,7 @@ impl<T: Drop> NamedField<T> {
         }
     }
 
-    /// The value of a field that may be absent.
+    /// Returns the value of an optional field, or its fault.
     #[tactic(auto, unfolding(crate::specs::Fields::optional))]
     pub fn optional(self) -> Result<Option<T>, CallFault>
         ensures { result ≡ optional self }
@@ -49,7 +49,7 @@ impl<T: Drop> NamedField<T> {
     }
 }
 
-/// A whole number.
+/// Reads a field as a whole number.
 #[tactic(auto, unfolding(crate::specs::Fields::whole))]
 pub fn whole(fields: Node<'_, '_>, name: FieldName) -> NamedField<i32>
     ensures { result ≡ whole (tree_at fields.entry) name }
@@ -60,7 +60,7 @@ pub fn whole(fields: Node<'_, '_>, name: FieldName) -> NamedField<i32>
     }
 }
 
-/// A whole number from 0.
+/// Reads a field as a whole number from 0.
 #[tactic(auto, unfolding(crate::specs::Fields::whole_from_zero))]
 pub fn whole_from_zero(fields: Node<'_, '_>, name: FieldName) -> NamedField<u32>
     ensures { result ≡ whole_from_zero (tree_at fields.entry) name }
@@ -82,7 +82,7 @@ fn from_zero(field: Field<i32>) -> Field<u32>
     }
 }
 
-/// Tenths of A or W.
+/// Reads a field as tenths of A or W.
 #[tactic(auto, unfolding(crate::specs::Fields::tenths))]
 pub fn tenths(fields: Node<'_, '_>, name: FieldName) -> NamedField<u32>
     ensures { result ≡ tenths (tree_at fields.entry) name }
@@ -93,7 +93,7 @@ pub fn tenths(fields: Node<'_, '_>, name: FieldName) -> NamedField<u32>
     }
 }
 
-/// An instant.
+/// Reads a field as an instant.
 #[tactic(auto, unfolding(crate::specs::Fields::instant))]
 pub fn instant(fields: Node<'_, '_>, name: FieldName) -> NamedField<Instant>
     ensures { result ≡ instant (tree_at fields.entry) name }
@@ -104,7 +104,7 @@ pub fn instant(fields: Node<'_, '_>, name: FieldName) -> NamedField<Instant>
     }
 }
 
-/// A value that is written as one of a few names.
+/// Reads a field as one of the named values of `T`.
 #[tactic(auto, unfolding(crate::specs::Fields::one_name_of))]
 pub fn one_name_of<T: Named + Drop>(fields: Node<'_, '_>, name: FieldName) -> NamedField<T>
     ensures { result ≡ one_name_of T.named (tree_at fields.entry) name }
@@ -135,7 +135,7 @@ fn value_or_wrong<T: Drop>(value: Option<T>) -> Field<T>
     }
 }
 
-/// The object of a field that has to be there.
+/// Reads a required field as an object.
 #[tactic(auto, unfolding(crate::specs::Fields::required, crate::specs::Fields::object))]
 pub fn required_object<'tree, 'memory>(
     fields: Node<'tree, 'memory>,
@@ -152,7 +152,7 @@ pub fn required_object<'tree, 'memory>(
     .required()
 }
 
-/// The object of a field that may be absent.
+/// Reads an optional field as an object.
 #[tactic(auto, unfolding(crate::specs::Fields::optional, crate::specs::Fields::object))]
 pub fn optional_object<'tree, 'memory>(
     fields: Node<'tree, 'memory>,
@@ -169,7 +169,7 @@ pub fn optional_object<'tree, 'memory>(
     .optional()
 }
 
-/// The text of a field that has to be there.
+/// Reads a required field as a text.
 #[tactic(auto, unfolding(crate::specs::Fields::required, crate::specs::Fields::text))]
 pub fn required_text<'memory>(
     fields: Node<'_, 'memory>,
@@ -186,7 +186,7 @@ pub fn required_text<'memory>(
     .required()
 }
 
-/// The entries of a list that has to be there.
+/// Reads a required field as a list of entries.
 #[tactic(auto, unfolding(crate::specs::Fields::required, crate::specs::Fields::list))]
 pub fn required_list<'tree, 'memory>(
     fields: Node<'tree, 'memory>,

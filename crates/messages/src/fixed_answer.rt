@@ -1,4 +1,4 @@
-//! The answers to actions that depend neither on their fields nor on what the site has.
+//! Answers that depend neither on the fields of the action nor on the state of the site.
 
 ghost use Rattle.std.specs.Prelude.{◌≡◌};
 ghost use Rattle.messages.specs.FixedAnswer.{fixed_response};
@@ -6,7 +6,7 @@ ghost use Rattle.messages.specs.FixedAnswer.{fixed_response};
 use crate::response::Response;
 use ocpp_scalars::Instant;
 
-/// What an action is answered whatever its fields are (chapter 6, the .conf payloads).
+/// The answer to an action, whatever its fields are (chapter 6, the .conf payloads).
 #[derive(Clone, Copy, PartialEq, Eq)]
 pub enum FixedAnswer {
     BootNotification,
@@ -18,7 +18,7 @@ pub enum FixedAnswer {
 }
 
 impl FixedAnswer {
-    /// The response, at this moment.
+    /// Returns the response at this moment.
     pub fn response(self, current_time: Instant) -> Response
         ensures { result ≡ fixed_response self current_time }
     {

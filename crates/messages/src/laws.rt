@@ -7,14 +7,14 @@ ghost use Rattle.messages.specs.Action.{action_of_kind};
 ghost use Rattle.messages.specs.ActionKind.{action_named, name_of_kind};
 ghost use Rattle.messages.specs.FieldFaults.{field_faults, HaveNoFault, IsFirstFault};
 
-/// A law of the table of actions: each is the action of its name, so none is missing where names are
-/// looked up. It does nothing.
+/// States a law of the table of actions: each is found by its name, so none is missing from the
+/// look-up. It does nothing.
 pub fn action_names()
     ensures { (kind : ActionKind) → action_named (name_of_kind kind) ≡ Some kind }
 {}
 
-/// A law of all payloads: an action is read exactly where none of its fields has a fault, and else
-/// its fault is the first in the order in which they are checked. It does nothing.
+/// States a law of all payloads: an action is read exactly if none of its fields has a fault.
+/// Otherwise its fault is the first in the order of the checks. It does nothing.
 pub fn first_faults()
     ensures action { (kind : ActionKind) (payload : Tree)
         → IsOk (action_of_kind kind payload) ↔ HaveNoFault (field_faults kind payload) }

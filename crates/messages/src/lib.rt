@@ -1,5 +1,5 @@
-//! The actions of OCPP 1.6 that are known here (chapters 4, 5 and 6): a CALL is read as the action
-//! that it asks for or as the fault to answer, and answers are written.
+//! The actions of OCPP 1.6 that are known here (chapters 4, 5 and 6). Reads a CALL as its action or
+//! as the fault to answer. Writes answers, and calls to charge points.
 #![tactic(auto)]
 
 mod action;

@@ -5,7 +5,7 @@ ghost use Rattle.messages.specs.ObjectText.{joined, list_text};
 
 use std::alloc::AllocError;
 
-/// A value that lists hold, written as a text of its own.
+/// A value that can be an item of a list.
 pub(crate) trait ListItem {
     /// The text of a value.
     ghost text: { Self → List ℕ };

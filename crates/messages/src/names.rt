@@ -1,11 +1,11 @@
-//! The names of OCPP's enumerations, as payloads write them.
+//! The names of OCPP's enumerations in payloads.
 
 ghost use Rattle.std.specs.Prelude.{◌≡◌, option_map};
 ghost use Rattle.messages.specs.Names.{kind_name, purpose_name, recurrency_name, recurrency_of, unit_text};
 
 use profile::{Kind, Purpose, Recurrency, Unit};
 
-/// chargingProfilePurpose (chapter 7, ChargingProfilePurposeType).
+/// Returns the chargingProfilePurpose (chapter 7, ChargingProfilePurposeType).
 pub fn purpose_name(purpose: Purpose) -> &'static str
     ensures { result.now ≡ purpose_name purpose }
 {
@@ -16,7 +16,7 @@ pub fn purpose_name(purpose: Purpose) -> &'static str
     }
 }
 
-/// chargingProfileKind (chapter 7, ChargingProfileKindType).
+/// Returns the chargingProfileKind (chapter 7, ChargingProfileKindType).
 pub fn kind_name(kind: Kind) -> &'static str
     ensures { result.now ≡ kind_name kind }
 {
@@ -27,7 +27,7 @@ pub fn kind_name(kind: Kind) -> &'static str
     }
 }
 
-/// recurrencyKind, which a Recurring profile alone has (chapter 7, RecurrencyKindType).
+/// Returns the recurrencyKind, which only a Recurring profile has (chapter 7, RecurrencyKindType).
 pub fn recurrency_name(kind: Kind) -> Option<&'static str>
     ensures { option_map (λ name. name.now) result
         ≡ option_map recurrency_name (recurrency_of kind) }
@@ -38,7 +38,7 @@ pub fn recurrency_name(kind: Kind) -> Option<&'static str>
     }
 }
 
-/// recurrencyKind.
+/// Returns the recurrencyKind.
 pub(crate) fn name_of_recurrency(recurrency: Recurrency) -> &'static str
     ensures { result.now ≡ recurrency_name recurrency }
 {
@@ -48,7 +48,7 @@ pub(crate) fn name_of_recurrency(recurrency: Recurrency) -> &'static str
     }
 }
 
-/// chargingRateUnit (chapter 7, ChargingRateUnitType).
+/// Returns the chargingRateUnit (chapter 7, ChargingRateUnitType).
 pub fn unit_name(unit: Unit) -> &'static str
     ensures { result.now ≡ unit_text unit }
 {

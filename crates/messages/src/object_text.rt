@@ -1,4 +1,4 @@
-//! The texts of JSON objects, of the fields that are present.
+//! The texts of JSON objects, with the fields that are present.
 ghost use Rattle.std.specs.Prelude.{map, option_map, string_bytes};
 ghost use Rattle.std.specs.List.{filter_map};
 ghost use Rattle.ocpp_scalars.specs.Appending.{Appends};
@@ -9,7 +9,7 @@ ghost use Rattle.messages.specs.ByCases.ObjectText.{later_fields_text, rest_text
 use crate::field_value::{FieldValue, push_string, push_value};
 use std::alloc::AllocError;
 
-/// Appends an object of the fields that are present, in this order.
+/// Appends an object with the fields that are present, in this order.
 #[tactic(auto, unfolding(crate::specs::ObjectText::object_text))]
 pub(crate) fn push_object(
     out: &mut String,
@@ -36,7 +36,7 @@ pub(crate) fn push_fields(
     push_rest(out, false, fields)
 }
 
-/// Appends the fields that are present, in this order, each behind a comma.
+/// Appends the fields that are present, in this order, each after a comma.
 #[tactic(auto, unfolding(crate::specs::ByCases::ObjectText::later_fields_text))]
 pub(crate) fn push_later_fields(
     out: &mut String,
@@ -48,8 +48,8 @@ pub(crate) fn push_later_fields(
     push_rest(out, true, fields)
 }
 
-/// Appends the fields that are present, in this order, with commas between them, and one before
-/// them if some are written.
+/// Appends the fields that are present, in this order, with commas between them. Begins with a
+/// comma if earlier fields are written.
 fn push_rest(
     out: &mut String,
     some_written: bool,

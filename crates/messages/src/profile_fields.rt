@@ -1,4 +1,4 @@
-//! The fields of a charging profile.
+//! Reads the fields of a charging profile.
 ghost use Rattle.std.specs.Prelude.{◌≡◌, option_map};
 ghost use Rattle.ocppj_frame.specs.Payload.{entries_in, tree_at};
 ghost use Rattle.messages.specs.ProfileFields.{period_of, periods_of, schedule_of, profile_of, optional_profile_of};
@@ -18,7 +18,7 @@ use ocppj_frame::{Entries, Node};
 use profile::{Period, PeriodList, ProfileParts, ScheduleParts};
 use std::alloc::Global;
 
-/// Reads the fields of a profile (chapter 7, ChargingProfile), or names the first fault.
+/// Reads the fields of a profile (chapter 7, ChargingProfile), or returns the first fault.
 #[tactic(auto, unfolding(crate::specs::ProfileFields::profile_of))]
 pub fn read_profile(alloc: Global, fields: Node<'_, '_>) -> Result<ProfileParts, CallFault>
     ensures { ReadsUnless is_memory (λ parts. parts) result
@@ -29,6 +29,7 @@ pub fn read_profile(alloc: Global, fields: Node<'_, '_>) -> Result<ProfileParts,
     let stack_level = whole_from_zero(fields, StackLevel).required()?;
     let purpose = one_name_of(fields, ChargingProfilePurpose).required()?;
     let kind = one_name_of(fields, ChargingProfileKind).required()?;
+    // Checked for each kind of profile. A field without a meaning for the kind is dropped later.
     let recurrency = one_name_of(fields, RecurrencyKind).optional()?;
     let valid_from = instant(fields, ValidFrom).optional()?;
     let valid_to = instant(fields, ValidTo).optional()?;
@@ -61,7 +62,7 @@ pub fn read_optional_profile(
     }
 }
 
-/// Reads the fields of a schedule (chapter 7, ChargingSchedule), or names the first fault.
+/// Reads the fields of a schedule (chapter 7, ChargingSchedule), or returns the first fault.
 #[tactic(auto, unfolding(crate::specs::ProfileFields::schedule_of))]
 pub fn read_schedule(alloc: Global, fields: Node<'_, '_>) -> Result<ScheduleParts, CallFault>
     ensures { ReadsUnless is_memory (λ parts. parts) result
@@ -82,7 +83,7 @@ pub fn read_schedule(alloc: Global, fields: Node<'_, '_>) -> Result<SchedulePart
     })
 }
 
-/// Reads the periods of a list, in order, or names the first fault.
+/// Reads the periods of a list, in order, or returns the first fault.
 fn read_periods(alloc: Global, entries: Entries<'_, '_>) -> Result<PeriodList, CallFault>
     ensures { ReadsUnless is_memory (λ periods. periods) result
         (periods_of (entries_in entries.entry)) }
@@ -93,12 +94,12 @@ fn read_periods(alloc: Global, entries: Entries<'_, '_>) -> Result<PeriodList, C
     }
     match PeriodList::try_new(periods)? {
         Some(periods) => Ok(periods),
-        // A required list that is empty counts as absent.
+        // An empty list that is required counts as absent.
         None => Err(CallFault::OccurenceConstraintViolation(ChargingSchedulePeriod)),
     }
 }
 
-/// Reads the fields of a period (chapter 7, ChargingSchedulePeriod), or names the first fault.
+/// Reads the fields of a period (chapter 7, ChargingSchedulePeriod), or returns the first fault.
 #[tactic(auto, unfolding(crate::specs::ProfileFields::period_of))]
 fn read_period(fields: Node<'_, '_>) -> Result<Period, CallFault>
     ensures { result ≡ period_of (tree_at fields.entry) }

@@ -1,4 +1,4 @@
-//! What the status of a point's reply says of the call that it answers.
+//! The status of a point's reply to a call.
 
 ghost use Rattle.std.specs.Prelude.{◌≡◌};
 ghost use Rattle.messages.specs.ReplyStatus.{is_done};
@@ -6,8 +6,8 @@ ghost use Rattle.messages.specs.ReplyStatus.{is_done};
 use crate::action_kind::ActionKind;
 use ocppj_frame::{Field, Payload, text_field};
 
-/// The statuses of the replies to calls (chapter 7, ChargingProfileStatus, ClearChargingProfileStatus,
-/// GetCompositeScheduleStatus and RemoteStartStopStatus).
+/// The statuses of the replies to calls (chapter 7, ChargingProfileStatus,
+/// ClearChargingProfileStatus, GetCompositeScheduleStatus and RemoteStartStopStatus).
 #[derive(Clone, Copy, PartialEq, Eq)]
 pub enum ReplyStatus {
     Accepted,
@@ -18,7 +18,7 @@ pub enum ReplyStatus {
 }
 
 impl ReplyStatus {
-    /// The one of this name.
+    /// Returns the status of this name.
     pub fn named(name: &str) -> Option<ReplyStatus> {
         match name {
             "Accepted" => Some(ReplyStatus::Accepted),
@@ -29,7 +29,7 @@ impl ReplyStatus {
         }
     }
 
-    /// That of a reply's payload. None where it has none that is known.
+    /// Returns the status in a reply's payload. `None` if it has no known status.
     pub fn in_payload(payload: &Payload<'_>) -> Option<ReplyStatus> {
         match text_field(payload.root(), "status") {
             Field::Value(name) => ReplyStatus::named(name),
@@ -37,7 +37,7 @@ impl ReplyStatus {
         }
     }
 
-    /// As a reply names it.
+    /// Returns its name in replies.
     pub fn name(self) -> &'static str {
         match self {
             ReplyStatus::Accepted => "Accepted",
@@ -47,12 +47,14 @@ impl ReplyStatus {
         }
     }
 
-    /// Whether it leaves nothing undone of a call with this action.
+    /// Returns whether a reply with this status means that a call with this action is done.
     pub fn is_done(self, action: ActionKind) -> bool
         ensures { result ≡ is_done self action }
     {
         match self {
             ReplyStatus::Accepted => true,
+            // The point has no profile to clear, so the clear is done. Any other call counts as
+            // rejected.
             ReplyStatus::Unknown => action == ActionKind::ClearChargingProfile,
             ReplyStatus::Rejected | ReplyStatus::NotSupported => false,
         }

@@ -1,4 +1,4 @@
-//! What a CALL is answered.
+//! The answers to CALLs.
 ghost use Rattle.std.specs.Prelude.{◌≡◌};
 ghost use Rattle.messages.specs.ResponseText.{audit_name};
 
@@ -7,19 +7,19 @@ use meaning::Composite;
 use ocpp_scalars::{Instant, Refusal};
 use profile::Unit;
 
-/// What a CALL is answered (chapter 6, the .conf payloads, and OCPP-J 1.6, 4.2.3, CALLERROR).
+/// The answer to a CALL (chapter 6, the .conf payloads, and OCPP-J 1.6, 4.2.3, CALLERROR).
 #[derive(Drop)]
 pub enum Response {
     /// A profile was installed, a ClearChargingProfile removed some, or an audit was begun.
     Accepted,
-    /// An install, a request, an audit or a PointStatus is refused. Out of memory is answered as an
-    /// InternalError, as of every action.
+    /// An install, a request, a remote start, an audit or a PointStatus is refused. The refusal
+    /// `OutOfMemory` is answered as an InternalError, as for every action.
     Rejected(Refusal),
     /// A ClearChargingProfile matched no profile.
     Unknown,
     /// GetCompositeSchedule.conf: accepted, with the schedule.
     Schedule(ScheduleResponse),
-    /// PointStatus: accepted, with what the point has.
+    /// The answer to PointStatus: accepted, with the state of the point.
     PointStatus(PointStatus),
     /// BootNotification.conf: accepted, with the present moment and an interval of 300 seconds.
     BootNotification { current_time: Instant },
@@ -42,26 +42,26 @@ pub enum Response {
 /// The composite schedule of a connector from a start on (chapter 6, GetCompositeSchedule.conf).
 #[derive(Drop)]
 pub struct ScheduleResponse {
-    /// The connector asked.
+    /// The requested connector.
     pub connector: u32,
-    /// The start asked.
+    /// The start of the schedule, the moment of the request.
     pub start: Instant,
-    /// The site's unit, which the schedule's limits are in.
+    /// The site's unit, in which the schedule's limits are.
     pub unit: Unit,
     pub schedule: Composite,
 }
 
-/// What the central system has of a point; this system's own answer.
+/// The state of a point in the central system; an answer of our own.
 #[derive(Clone, Copy, PartialEq, Eq)]
 pub struct PointStatus {
     /// The version of the site's book.
     pub version: u64,
-    /// The calls to the point that it hasn't confirmed.
+    /// The number of calls that the point hasn't confirmed.
     pub outbox: usize,
     pub audit: AuditOutcome,
 }
 
-/// What came of a point's last audit.
+/// The outcome of a point's last audit.
 #[derive(Clone, Copy, PartialEq, Eq)]
 pub enum AuditOutcome {
     /// There was none.
@@ -70,7 +70,7 @@ pub enum AuditOutcome {
     Waiting,
     /// The point's schedule has the exact schedule's limit at each second that both cover.
     Agrees,
-    /// It has another one at some second.
+    /// The point's schedule has another limit at some second.
     Differs,
     /// The point gave no schedule.
     Rejected,
@@ -79,7 +79,7 @@ pub enum AuditOutcome {
 }
 
 impl AuditOutcome {
-    /// Its name.
+    /// Returns its name.
     pub fn name(self) -> &'static str
         ensures { result.now ≡ audit_name self }
     {

@@ -1,4 +1,4 @@
-//! The texts of answers, byte for byte.
+//! Writes the texts of answers, byte for byte.
 ghost use Rattle.std.specs.Prelude.{◌≡◌, IfOk, codes, string_bytes};
 ghost use Rattle.ocpp_scalars.specs.Appending.{Appends};
 ghost use Rattle.ocppj_frame.specs.Write.{call_result_text};
@@ -16,16 +16,18 @@ use profile::Unit;
 use std::alloc::{AllocError, Global};
 
 /// Room for an answer without periods, in bytes.
+// This and `PERIOD_ROOM` are estimates: the text of a longer answer grows.
 const ROOM: usize = 256;
 
 /// Room for a period, in bytes.
 const PERIOD_ROOM: usize = 40;
 
-/// The message that answers the CALL of this id. Its keys stand in a fixed order, without blanks.
+/// Returns the message that answers the CALL of this id. Its keys are in a fixed order, without
+/// blanks.
 pub fn write_response(alloc: Global, id: &str, response: &Response) -> Result<String, AllocError>
     ensures { IfOk result (λ s. string_bytes s ≡ response_text id.now response.now) }
 {
-    // Room from the start, so that a long schedule isn't copied as it grows.
+    // Room from the start, so that the text of a long schedule isn't copied as it grows.
     let mut out = String::with_capacity(alloc, room(response))?;
     push_response(&mut out, id, response)?;
     Ok(out)
@@ -57,6 +59,7 @@ pub fn push_response(out: &mut String, id: &str, response: &Response) -> Result<
             push_boot_notification(out, id, *current_time)
         }
         Response::Heartbeat { current_time } => push_heartbeat(out, id, *current_time),
+        // No list of idTags is kept, so each is accepted.
         Response::Authorize => push_result(out, id, r#"{"idTagInfo":{"status":"Accepted"}}"#),
         Response::StartTransaction { transaction } => {
             push_start_transaction(out, id, *transaction)
@@ -67,7 +70,7 @@ pub fn push_response(out: &mut String, id: &str, response: &Response) -> Result<
     }
 }
 
-/// Appends a CALLRESULT of this payload.
+/// Appends a CALLRESULT with this payload.
 fn push_result(out: &mut String, id: &str, payload: &str) -> Result<(), AllocError>
     ensures { Appends result (string_bytes out.old) (string_bytes out.new)
         (call_result_text id.now payload.now) }
@@ -77,7 +80,7 @@ fn push_result(out: &mut String, id: &str, payload: &str) -> Result<(), AllocErr
     push_frame_end(out)
 }
 
-/// Appends the answer to a refused install or request. Out of memory is an error, as it is for every
+/// Appends the answer to a refused install or request. `OutOfMemory` is a CALLERROR, as for every
 /// action.
 fn push_rejected(out: &mut String, id: &str, refusal: Refusal) -> Result<(), AllocError>
     ensures { Appends result (string_bytes out.old) (string_bytes out.new)
@@ -134,7 +137,7 @@ fn push_heartbeat(out: &mut String, id: &str, current_time: Instant) -> Result<(
     push_frame_end(out)
 }
 
-/// Appends an object's beginning with its first field, the present moment.
+/// Appends the beginning of an object with its first field, the present moment.
 fn push_current_time(out: &mut String, current_time: Instant) -> Result<(), AllocError>
     ensures { Appends result (string_bytes out.old) (string_bytes out.new)
         (first_field_text (codes "currentTime") (time_text current_time)) }
@@ -249,7 +252,7 @@ fn push_point_status_result(
     push_frame_end(out)
 }
 
-/// Appends the payload that says what the central system has of a point.
+/// Appends the payload with the state of a point in the central system.
 fn push_point_status(out: &mut String, status: PointStatus) -> Result<(), AllocError>
     ensures { Appends result (string_bytes out.old) (string_bytes out.new)
         (point_status_text status) }

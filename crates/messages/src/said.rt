@@ -1,4 +1,4 @@
-//! What a charge point's reply says: whether it accepts, and of the composite schedule that the point
+//! Reads a charge point's reply: whether it accepts, and the composite schedule that the point
 //! follows.
 ghost use Rattle.std.specs.Prelude.{◌≡◌, IfErr, IfOk, map};
 ghost use Rattle.ocpp_scalars.specs.Reading.{ReadsUnless};
@@ -21,8 +21,8 @@ use ocppj_frame::{Field, Frame, Node, text_field};
 use profile::Period;
 use std::alloc::{AllocError, Global};
 
-/// Whether a message is a reply that accepts what was asked: a CALLRESULT whose status is the text
-/// Accepted.
+/// Returns whether a message is a reply that accepts the call: a CALLRESULT whose status is the
+/// text `Accepted`.
 pub fn is_accepted(frame: &Frame<'_>) -> bool
     ensures { result ≡ is_accepted_reply (message_in frame.now) }
 {
@@ -32,9 +32,9 @@ pub fn is_accepted(frame: &Frame<'_>) -> bool
     }
 }
 
-/// Reads what a reply to a GetCompositeSchedule says (chapter 6, GetCompositeSchedule.conf):
-/// `Refused` where its status isn't Accepted or the message is no CALLRESULT, `Unread` where a field
-/// is missing or malformed, or else the schedule. Only `OutOfMemory` is refused.
+/// Reads a reply to a GetCompositeSchedule (chapter 6, GetCompositeSchedule.conf). Returns
+/// `Refused` if the message isn't a CALLRESULT or its status isn't `Accepted`, `Unread` if a field
+/// is missing or malformed, and otherwise the schedule. The only error is `OutOfMemory`.
 pub fn read_said(alloc: Global, frame: &Frame<'_>) -> Result<Said, Refusal>
     ensures said { IfOk result (λ said. said ≡ said_of (message_in frame.now)) }
     ensures memory { IfErr result (λ refusal. refusal ≡ Refusal.OutOfMemory) }
@@ -55,7 +55,7 @@ fn read_payload(alloc: Global, payload: Node<'_, '_>) -> Result<Said, AllocError
     }
 }
 
-/// Whether a payload's status is Accepted.
+/// Returns whether a payload's status is `Accepted`.
 #[tactic(auto, unfolding(crate::specs::Fields::text))]
 fn has_accepted(payload: Node<'_, '_>) -> bool
     ensures { result ≡ is_accepted (text (tree_at payload.entry) FieldName.Status).field }
@@ -63,7 +63,7 @@ fn has_accepted(payload: Node<'_, '_>) -> bool
     is_accepted_status(text_field(payload, Status.text()))
 }
 
-/// Whether a status is Accepted.
+/// Returns whether a status is `Accepted`.
 fn is_accepted_status(status: Field<&str>) -> bool
     ensures { result ≡ is_accepted (field_map (λ text. text.now) status.entry) }
 {
@@ -79,16 +79,18 @@ fn read_accepted(alloc: Global, payload: Node<'_, '_>) -> Result<Said, AllocErro
 {
     match read_schedule_said(alloc, payload) {
         Ok(said) => Ok(said),
+        // Says nothing about the reply, so the reply doesn't count as malformed.
         Err(CallFault::Refused(Refusal::OutOfMemory)) => Err(AllocError),
         Err(_) => Ok(Said::Unread),
     }
 }
 
-/// Reads the schedule of an accepted reply, or names a fault of its fields.
+/// Reads the schedule of an accepted reply, or returns a fault of its fields.
 #[tactic(auto, unfolding(crate::specs::Said::schedule_said))]
 fn read_schedule_said(alloc: Global, payload: Node<'_, '_>) -> Result<Said, CallFault>
     ensures { ReadsUnless is_memory (λ said. said) result (schedule_said (tree_at payload.entry)) }
 {
+    // Not used, but checked as every field is: a malformed one makes the reply `Unread`.
     let _connector = whole_from_zero(payload, ConnectorId).optional()?;
     let start = instant(payload, ScheduleStart).required()?;
     let fields = required_object(payload, ChargingSchedule)?;
@@ -102,12 +104,13 @@ fn read_schedule_said(alloc: Global, payload: Node<'_, '_>) -> Result<Said, Call
     })
 }
 
-/// The periods by their starts and limits.
+/// Copies the starts and limits of periods.
 fn composite_periods(alloc: Global, periods: &[Period]) -> Result<Vec<CompositePeriod>, AllocError>
     ensures { IfOk result (λ copies. copies.items ≡ map composite_period periods.now) }
 {
     let mut copies = Vec::with_capacity(alloc, periods.len())?;
     for period in periods {
+        // numberPhases has no part in a composite schedule here.
         copies.push(CompositePeriod {
             start: period.start,
             limit: period.limit,

@@ -1,21 +1,21 @@
-//! Who sends an action.
+//! The sender of an action.
 ghost use Rattle.std.specs.Prelude.{◌≡◌};
 ghost use Rattle.messages.specs.ActionKind.{side_eq, side_of};
 
 use crate::action_kind::ActionKind;
 
-/// Who talks to the central system.
+/// A side of a conversation with the central system.
 #[derive(Clone, Copy, PartialEq, Eq)]
 pub enum Side {
-    /// An operator of the site. The operator's messages have the form of OCPP-J, but are this system's
-    /// own use of it.
+    /// An operator of the site. OCPP has no operators: their messages have the form of OCPP-J, but
+    /// are our own use of it.
     Operator,
     /// A charge point.
     Point,
 }
 
 impl Side {
-    /// Whether two sides are the same.
+    /// Returns whether two sides are the same.
     pub fn is_same(self, other: Side) -> bool
         ensures { result ≡ side_eq self other }
     {
@@ -26,7 +26,8 @@ impl Side {
     }
 }
 
-/// The side that the action of a name comes from, or `None` where it isn't known. Needs no memory.
+/// Returns the side that sends the action of this name, or `None` if it isn't known. Allocates
+/// nothing.
 pub fn side_of(action: &str) -> Option<Side>
     ensures { result ≡ side_of action.now }
 {

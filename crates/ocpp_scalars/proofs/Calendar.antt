@@ -9,7 +9,7 @@ use Rattle.jiff_core.proofs.DateLemmas.{epoch_day_injective, days_from_civil-day
 use Rattle.jiff_core.proofs.SignedLemmas.{signed_arith}
 use Rattle.ocpp_scalars.specs.CalendarDay.{CalendarDay, first_of_next_month, calendar_day}
 
--- the calendar's day with this number
+-- the day of the calendar with this number
 pub record IsDayNumber (d : CalendarDay) (n : ℕ) : Type 0 where
   pub month_low : 1 ≤ d.month
   pub month_high : d.month ≤ 12

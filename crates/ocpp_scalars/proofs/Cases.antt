@@ -1,4 +1,4 @@
--- Taking apart tests and steps that may fail.
+-- Case analysis of tests and of steps that may fail.
 use Rattle.std.proofs.Common.{◌≡◌, Bool, true, false, if◌then◌else◌, ◌||◌, ◌⊎◌, inl, inr, Option, Some, None, option_map, refl}
 use Rattle.ocpp_scalars.specs.OptionSteps.{◌>>=◌}
 
@@ -9,7 +9,7 @@ pub by_test : {P : Type 0} → (t : Bool) → (t ≡ true → P) → (t ≡ fals
 by_test true held failed = held refl
 by_test false held failed = failed refl
 
--- a step that has a value had one to start from
+-- a step with a value started from a value
 pub step-some : {T U : Type 0} {f : T → Option U} (o : Option T) (y : U) → (o >>= f) ≡ Some y → (x : T) × (o ≡ Some x) × (f x ≡ Some y)
 step-some None y e = absurd (some_is_not_none y e)
 step-some (Some x) y e = (x, refl, e)

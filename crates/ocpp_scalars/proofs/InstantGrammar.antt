@@ -1,4 +1,4 @@
--- An instant's text is read exactly as its grammar has it.
+-- An instant's text is read exactly as its grammar says.
 use Rattle.std.proofs.Common.{◌≡◌, ℕ, ◌+◌, ◌-◌, ◌*◌, ◌/◌, ◌%◌, ◌≤◌, ◌<◌, true, false, ◌&&◌, ◌||◌, ◌==◌, nat_le, nat_lt, inl, inr, List, [], ◌∷◌, ◌++◌, length, ℤ, pos, neg_ℤ, Option, Some, None, option_map, refl, sym, ap, subst, ◌∙◌, arith, le-leb, leb-true, lt-ltb, ltb-true}
 use Rattle.std.specs.Char.{is_ascii_digit}
 use Rattle.std.proofs.lemmas.Int.{ints}
@@ -75,7 +75,7 @@ four_only n rest h =
     let whole : n / 100 * 100 + n % 100 ≡ n = omega arith in
     rw first (rw second (ap (λ (n : ℕ). Some (n, rest)) whole))
 
--- the bytes between
+-- the separators
 
 dash_found : (text rest : List ℕ) → after_dash text ≡ Some rest → text ≡ 45 ∷ rest
 dash_found [] rest e = cc
@@ -240,7 +240,7 @@ fraction_found (b ∷ bs) rest e =
     let same : b ∷ bs ≡ rest = cc in
     ([], no_second_fraction, same))
 
--- what may follow a fraction
+-- the rest of a text after a fraction
 Follows : List ℕ → Type 0
 Follows [] = Unit {0}
 Follows (b ∷ bs) = (is_ascii_digit b ≡ false) × ((b == 46) ≡ false)

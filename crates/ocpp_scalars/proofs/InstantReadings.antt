@@ -1,4 +1,4 @@
--- Instants are read as their grammar has them, and only so; and a printed instant is read as itself.
+-- Instants are read exactly as their grammar says; a printed instant is read back as itself.
 use Rattle.std.proofs.Common.{◌≡◌, ℕ, ◌+◌, ◌/◌, ◌%◌, ◌≤◌, ◌<◌, ◌⊎◌, ◌↔◌, inl, inr, List, [], ◌∷◌, ◌++◌, ℤ, pos, negsuc, ◌<ℤ◌, Option, Some, None, Result, Ok, Err, refl, sym, ap, subst, ◌∙◌, arith}
 use Rattle.std.specs.Prelude.{codes}
 use Rattle.std.proofs.lemmas.Int.{ints}
@@ -61,7 +61,7 @@ pub instant_reading : (text : List ℕ) (r : Result ℕ InstantFault) → (insta
 instant_reading text r =
     (λ e. subst (λ (r : Result ℕ InstantFault). IsInstantReading text r) e (instant_found text), instant_only text r)
 
--- printed numbers are written as they are read
+-- printed numbers have the form that is read
 two_printed : (n : ℕ) → n ≤ 99 → in_digits 2 n ≡ two_digits n
 two_printed n h =
     let tens : n / 10 % 10 ≡ n / 10 = omega arith in

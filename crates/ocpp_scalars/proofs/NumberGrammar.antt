@@ -1,4 +1,4 @@
--- A number's text is cut into its parts exactly as RFC 8259's grammar has it.
+-- A number's text is split into its parts exactly as RFC 8259's grammar says.
 use Rattle.std.proofs.Common.{◌≡◌, ℕ, ◌+◌, ◌-◌, ◌*◌, ◌≤◌, Bool, true, false, not, ◌||◌, ◌==◌, if◌then◌else◌, inl, inr, List, [], ◌∷◌, ◌++◌, length, ℤ, pos, ◌-ℤ◌, Option, Some, None, refl, sym, ap, subst, ◌∙◌, append-nil, length-append, arith}
 use Rattle.std.specs.Char.{is_ascii_digit}
 use Rattle.std.proofs.lemmas.Bool.{cond_both, eqb-true, ne_eqb}
@@ -31,7 +31,7 @@ pub is_empty-nil : (ds : List ℕ) → is_empty ds ≡ true → ds ≡ []
 is_empty-nil [] e = refl
 is_empty-nil (d ∷ ds) e = cc
 
--- what is cut off has the form that the grammar names
+-- each part that is split off has the form of its rule in the grammar
 
 sign_found : (text : List ℕ) → (m : List ℕ) × IsMinus (sign_at text).0 m × (text ≡ m ++ (sign_at text).1)
 sign_found [] = ([], no_minus, refl)
@@ -130,7 +130,7 @@ parts_found text p e =
       is_power = refl;
     })
 
--- the digits that are cut off, and how many there can be
+-- the digits that are split off, and how many there can be
 
 fraction_fits : (ds f : List ℕ) → IsFraction ds f → AreDigits ds × (length ds ≤ length f)
 fraction_fits _ _ no_fraction = (tt, omega arith)
@@ -178,9 +178,9 @@ parts_fit text p e =
       lengths = omega (arith, first, second, third, fits.1, last.1);
     })
 
--- what the grammar has is cut off again
+-- each text of the grammar is split into its parts again
 
--- what may follow digits, and what may follow a whole part without a point
+-- the rest of a text after digits, and after a whole part without a point
 unfoldable pub Stops : List ℕ → Type 0
 Stops [] = Unit {0}
 Stops (b ∷ bs) = is_ascii_digit b ≡ false
@@ -281,7 +281,7 @@ unfolding Stops
 fraction_stops _ _ rest no_fraction stops = stops
 fraction_stops _ _ rest (decimal_point ds digits) stops = refl
 
--- the parts of a text that the grammar has
+-- the parts of a text of the grammar
 pub parts_only : (text : List ℕ) (negative : Bool) (digits : ℕ) (power : ℤ)
     → SpellsNumber text negative digits power
     → (p : Parts) × (parts_of text ≡ Some p) × (p.negative ≡ negative) ×

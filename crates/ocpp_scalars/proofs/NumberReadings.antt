@@ -1,4 +1,4 @@
--- Numbers are read as their grammar has them, and only so.
+-- Numbers are read exactly as their grammar says.
 use Rattle.std.proofs.Common.{◌≡◌, ℕ, zero, suc, ◌*◌, ◌/◌, ◌%◌, ◌^◌, ◌≤◌, ◌<◌, ◌↔◌, ◌==◌, nat_lt, nat_le, Bool, true, false, is_some, List, length, ℤ, pos, negsuc, neg_ℤ, ◌+ℤ◌, ◌≤ℤ◌, Option, Some, None, option_map, ok_or, Result, Ok, Err, refl, sym, ap, subst, ◌∙◌, arith, ltb-true, ltb-false, le-ltb, leb-true, le-leb, div-add-mod', add-one}
 use Rattle.std.proofs.lemmas.Int.{ints}
 use Rattle.std.proofs.lemmas.Bool.{eqb-true}
@@ -76,7 +76,7 @@ number_text-only text (negative, digits, power, spells) =
     let h = parts_only text negative digits power spells in
     rw h.1 refl
 
--- what a text that is short enough gives before its bounds are looked at
+-- the reading of a text that is short enough, before its bounds are checked
 NumberFacts : List ℕ → Result Number NumberFault → Type 0
 NumberFacts text (Ok n) = IsShort text × SpellsNumber text n.negative n.digits n.power
 NumberFacts text (Err TooLong) = max_number_bytes < length text
@@ -174,7 +174,7 @@ pub tenths_reading : (text : List ℕ) (r : Result ℕ NumberFault) → (tenths_
 tenths_reading text r =
     (λ e. subst (λ (r : Result ℕ NumberFault). IsTenthsReading text r) e (tenths_found text), λ h. tenths_once text r (tenths_of text) refl h (tenths_found text))
 
--- a text spells one number of tenths at most
+-- a text spells at most one number of tenths
 pub tenths_alone : (text : List ℕ) (n m : ℕ) → SpellsTenths text n → SpellsTenths text m → m ≡ n
 tenths_alone text n m (negative, digits, power, spells, scale, sign) (negative', digits', power', spells', scale', sign') =
     let (p, is, _, value, exponent) = parts_only text negative digits power spells in

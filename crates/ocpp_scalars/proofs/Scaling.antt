@@ -12,7 +12,7 @@ ten_pow_pos k = one-le-pow k 10 (omega arith)
 pub ten_pow_mono : (i j : ℕ) → i ≤ j → 10 ^ i ≤ 10 ^ j
 ten_pow_mono i j h = pow-le-pow_right (omega arith) h
 
--- nothing times any power of ten is nothing
+-- zero times any power of ten is zero
 pub scaled-zero : (power : ℤ) → times_power 0 power ≡ Some 0
 unfolding times_power
 scaled-zero (pos k) = rw zero-mul refl
@@ -25,7 +25,7 @@ scaled-raised digits count value e = rw (← e) refl
 pub at_most-over : (most value : ℕ) → most < value → at_most most (Some value) ≡ None
 at_most-over most value h = grind arith
 
--- once past the bound, further zeros lead no way back
+-- past the bound, further zeros don't lead back below it
 pub scaled-over : (most digits zeros counter value : ℕ) → value ≡ digits * 10 ^ counter → most < value → counter ≤ zeros → at_most most (times_power digits (pos zeros)) ≡ None
 unfolding times_power
 scaled-over most digits zeros counter value e over h =
@@ -39,7 +39,7 @@ scaled-lowered digits (suc k) value h e =
     let quotient : digits / 10 ^ suc k ≡ value = div-eq_of_eq-mul_left (ten_pow_pos (suc k)) (sym e) in
     rw (exact, quotient) refl
 
--- a last digit other than zero isn't ten times anything
+-- a number whose last digit isn't zero isn't a multiple of ten
 odd_digit : (digits zeros counter value n : ℕ) → value * 10 ^ counter ≡ digits → counter < zeros → n * 10 ^ zeros ≡ digits → value % 10 ≡ 0
 odd_digit digits zeros counter value n e h whole =
     let rest = zeros - counter - 1 in
@@ -65,7 +65,7 @@ pub pos_of_abs : (z : ℤ) → pos 0 ≤ℤ z → pos (unsigned_abs z) ≡ z
 pos_of_abs (pos n) h = refl
 pos_of_abs (negsuc n) h = absurd (omega (arith, ints))
 
--- one zero taken off, and one put behind
+-- one zero removed, and one appended
 pub lowered_step : (digits counter value : ℕ) → value * 10 ^ counter ≡ digits → value % 10 ≡ 0 → 0 < value → (value / 10 * 10 ^ (counter + 1) ≡ digits) × (0 < value / 10)
 lowered_step digits counter value e exact h =
     let tenth = value / 10 in
@@ -76,7 +76,7 @@ lowered_step digits counter value e exact h =
 pub raised_step : (digits counter value : ℕ) → value ≡ digits * 10 ^ counter → 0 < value → (value * 10 ≡ digits * 10 ^ (counter + 1)) × (0 < value * 10)
 raised_step digits counter value e h = (rw (pow_more 10 counter) (omega arith), omega arith)
 
--- where there is room for the digits to come, there is for the next
+-- if there is room for the remaining digits, there is room for the next one
 pub room_now : (value : ℕ) (ds : List ℕ) (i bound : ℕ) → i < length ds → (value + 1) * 10 ^ length (drop i ds) ≤ bound → value * 10 + 10 ≤ bound
 room_now value ds i bound h room =
     let more : length (drop i ds) ≡ length (drop (i + 1) ds) + 1 = omega (arith, length-drop i ds, length-drop (i + 1) ds) in

@@ -1,4 +1,4 @@
--- Printed tenths spell their own value and no other, and are read as it.
+-- Printed tenths spell their own value and no other, and are read back as it.
 use Rattle.std.proofs.Common.{◌≡◌, ℕ, ◌+◌, ◌/◌, ◌%◌, ◌≤◌, ◌<◌, false, List, [], ◌∷◌, ◌++◌, length, ◌^◌, inl, inr, pos, negsuc, ◌-ℤ◌, decimal, Ok, append-nil, eq-zero-or-pos, sym, ap, ◌∙◌, arith, length-append}
 use Rattle.std.proofs.lemmas.Fmt.{decimal_by_steps_wide, decimal_digit, length-decimal-le}
 use Rattle.ocpp_scalars.specs.Digits.{AreDigits, value_after, decimal_value}

@@ -20,7 +20,7 @@ digits_of-end bs i h digit = rw (drop-cons bs i 0) (rw digit refl)
 pub after_digits-end : (bs : List ℕ) (i : ℕ) → i < length bs → is_ascii_digit (get_or bs i 0) ≡ false → after_digits (drop i bs) ≡ drop i bs
 after_digits-end bs i h digit = rw (drop-cons bs i 0) (rw digit refl)
 
--- the next of the digits left
+-- the next of the remaining digits
 pub AreDigits-next : (ds : List ℕ) (i : ℕ) → i < length ds → AreDigits (drop i ds) → IsDigit (get_or ds i 0) × AreDigits (drop (i + 1) ds)
 AreDigits-next ds i h digits = rw add-one (rw (drop-cons ds i 0) at digits)
 

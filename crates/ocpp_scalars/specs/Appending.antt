@@ -1,11 +1,11 @@
--- What an append to a text does, and what it leaves where it is refused.
+-- The effect of an append to a text, and the text that a failed append leaves.
 use Rattle.std.specs.Prelude.{◌≡◌, ℕ, List, ◌++◌, Result, MatchResult}
 
--- the text begins with what stood there before, and anything may stand behind it
+-- the text begins with `before`, and may continue in any way
 pub record BeginsWith (text before : List ℕ) : Type 0 where
   pub behind : List ℕ
   pub is : text ≡ before ++ behind
 
--- a text is appended; where that is refused, what stood there before still stands at the beginning
+-- a text is appended; if the append fails, the new text still begins with the old one
 abbrev pub Appends : {A E : Type 0} → Result A E → List ℕ → List ℕ → List ℕ → Type 0
 Appends result old new text = MatchResult result (λ _. new ≡ old ++ text) (λ _. BeginsWith new old)

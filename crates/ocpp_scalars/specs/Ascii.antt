@@ -1,4 +1,4 @@
--- The bytes of ASCII (RFC 20, section 2) that texts have by name.
+-- The bytes of ASCII (RFC 20, section 2) that definitions name.
 use Rattle.std.specs.Prelude.{ℕ}
 
 abbrev pub line_feed : ℕ

@@ -18,7 +18,7 @@ next_day d =
     then record { year = d.year; month = d.month; day = d.day + 1 }
     else first_of_next_month d
 
--- the day that comes a number of days after 1 January 1970
+-- the day that is a number of days after 1 January 1970
 unfoldable pub calendar_day : ℕ → CalendarDay
 calendar_day zero = record { year = 1970; month = 1; day = 1 }
 calendar_day (suc n) = next_day (calendar_day n)

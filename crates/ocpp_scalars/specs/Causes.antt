@@ -1,8 +1,8 @@
--- Why something is refused: the first cause that holds, in the order in which they are checked.
+-- The reason for a refusal: the first cause that holds, in the order in which causes are checked.
 use Rattle.std.specs.Prelude.{◌≡◌, ◌⊎◌, List, [], ◌∷◌, Option, Some, None}
 use Rattle.ocpp_scalars.specs.declared.refusal.Refusal.{Refusal}
 
--- a refusal, and what has to hold for it
+-- a refusal, and the condition for it
 pub record Cause : Type 1 where
   pub refusal : Refusal
   pub holds : Type 0
@@ -11,8 +11,7 @@ infix 0 ◌because◌
 abbrev pub ◌because◌ : Refusal → Type 0 → Cause
 refusal because holds = record { refusal = refusal; holds = holds }
 
--- The refusal is that of a cause that holds, where none before it does; and there is none exactly
--- where no cause holds.
+-- The refusal is that of the first cause that holds; there is no refusal exactly if no cause holds.
 abbrev pub IsFirstCause : List Cause → Option Refusal → Type 0
 IsFirstCause [] refusal = refusal ≡ None
 IsFirstCause (cause ∷ later) refusal =

@@ -1,4 +1,4 @@
--- Decimal digits in ASCII (DIGIT of RFC 5234, appendix B.1), and the numbers that they write.
+-- Decimal digits in ASCII (DIGIT of RFC 5234, appendix B.1), and the numbers that they spell.
 use Rattle.std.specs.Prelude.{ℕ, ◌+◌, ◌-◌, ◌*◌, ◌/◌, ◌%◌, ◌≤◌, ◌++◌, List, [], ◌∷◌}
 use Rattle.ocpp_scalars.specs.Ascii.{digit_zero, digit_nine}
 
@@ -11,13 +11,13 @@ abbrev pub AreDigits : List ℕ → Type 0
 AreDigits [] = Unit {0}
 AreDigits (b ∷ bs) = IsDigit b × AreDigits bs
 
--- the number that digits write after others of this value: each digit makes those before it worth
--- ten times as much
+-- the value of digits that follow digits of a given value: each digit multiplies the value before
+-- it by ten
 abbrev pub value_after : ℕ → List ℕ → ℕ
 value_after n [] = n
 value_after n (b ∷ bs) = value_after (n * 10 + (b - digit_zero)) bs
 
--- the number that digits write in decimal
+-- the number that digits spell in decimal
 abbrev pub decimal_value : List ℕ → ℕ
 decimal_value bs = value_after 0 bs
 

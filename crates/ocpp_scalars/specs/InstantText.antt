@@ -51,9 +51,9 @@ pub data IsOffset : ℤ → List ℕ → Type 0 where
       (hour minute : ℕ) → IsClock hour minute
       → IsOffset (neg_ℤ (pos (clock_seconds hour minute))) (minus ∷ clock_text hour minute)
 
--- the text is a date and a time of day, a number of seconds after 1970-01-01T00:00:00Z (or before it):
--- the seconds of the calendar's day and of the time, less the offset. A fraction of a second counts
--- for nothing
+-- the text is a date and a time of day, a number of seconds after 1970-01-01T00:00:00Z (or before
+-- it): the seconds of the calendar's day and of the time, less the offset. A fraction of a second
+-- is dropped
 pub record SpellsInstant (text : List ℕ) (seconds : ℤ) : Type 0 where
   pub year : ℕ
   pub month : ℕ
@@ -85,8 +85,8 @@ abbrev pub SpellsOnlyInstant : List ℕ → ℕ → Type 0
 SpellsOnlyInstant text instant =
     SpellsInstant text (pos instant) × ((seconds : ℤ) → SpellsInstant text seconds → seconds ≡ pos instant)
 
--- what reading a text returns: the instant is the one that the text spells; a text that spells none
--- breaks the form, and one before 1970 or after the year 9999 is out of range
+-- the result of reading a text: the instant is the one that the text spells; a text that spells
+-- none breaks the form, and one before 1970 or after the year 9999 is out of range
 abbrev pub IsInstantReading : List ℕ → Result ℕ InstantFault → Type 0
 IsInstantReading text (Ok instant) = SpellsInstant text (pos instant) × (instant ≤ last_second)
 IsInstantReading text (Err Form) = (seconds : ℤ) → SpellsInstant text seconds → ⊥

@@ -1,11 +1,11 @@
--- What a number's text is worth, in tenths and as a whole number, and what reading it returns.
+-- The value of a number's text, in tenths and as a whole number, and the result of reading it.
 use Rattle.std.specs.Prelude.{◌≡◌, ℕ, suc, ◌*◌, ◌^◌, ◌≤◌, ◌<◌, Bool, true, false, List, length, ℤ, pos, negsuc, neg_ℤ, ◌≤ℤ◌, Result, Ok, Err}
 use Rattle.ocpp_scalars.specs.declared.number.NumberFault.{NumberFault}
 use Rattle.ocpp_scalars.specs.declared.number.NumberFault.TheVariants.{Form, TooLong, Range}
 use Rattle.ocpp_scalars.specs.Limits.{max_number_bytes, max_tenths, max_whole, max_negative_whole}
 use Rattle.ocpp_scalars.specs.NumberText.{SpellsNumber, IsNumber}
 
--- n is m times the power of ten, where a negative power stands on the other side
+-- n is m times the power of ten; for a negative power, n times its inverse is m
 abbrev pub IsScaled : ℕ → ℤ → ℕ → Type 0
 IsScaled m (pos power) n = n ≡ m * 10 ^ power
 IsScaled m (negsuc power) n = n * 10 ^ suc power ≡ m
@@ -35,12 +35,12 @@ SpellsWhole text whole =
 abbrev pub IsShort : List ℕ → Type 0
 IsShort text = length text ≤ max_number_bytes
 
--- the text spells these tenths, and they are none too many
+-- the text spells these tenths, and they are at most the maximum
 abbrev pub IsTenths : List ℕ → ℕ → Type 0
 IsTenths text tenths = SpellsTenths text tenths × (tenths ≤ max_tenths)
 
--- the tenths are those that the text spells; a long text is too long, another that is no number's breaks the
--- form, and a number that is no whole number of tenths in range is out of range
+-- the tenths are those that the text spells; a long text is too long, another that isn't a number
+-- breaks the form, and any other value that isn't a whole number of tenths in range is out of range
 abbrev pub IsTenthsReading : List ℕ → Result ℕ NumberFault → Type 0
 IsTenthsReading text (Ok tenths) = IsShort text × IsTenths text tenths
 IsTenthsReading text (Err TooLong) = max_number_bytes < length text

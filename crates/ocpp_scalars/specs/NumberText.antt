@@ -37,8 +37,8 @@ pub data IsExponent : ℤ → List ℕ → Type 0 where
       (e : ℕ) (ds : List ℕ) → IsE e → AreSomeDigits ds
       → IsExponent (neg_ℤ (pos (decimal_value ds))) (e ∷ (minus ∷ ds))
 
--- `number = [ minus ] int [ frac ] [ exp ]`: a sign, the digits before and after the point as one whole
--- number, and the power of ten that they are multiplied by
+-- `number = [ minus ] int [ frac ] [ exp ]`: a sign, the digits before and after the point as one
+-- whole number, and the power of ten that scales it
 pub record SpellsNumber (text : List ℕ) (negative : Bool) (digits : ℕ) (power : ℤ) : Type 0 where
   pub sign : List ℕ
   pub whole : List ℕ
@@ -54,6 +54,6 @@ pub record SpellsNumber (text : List ℕ) (negative : Bool) (digits : ℕ) (powe
   pub is_digits : digits ≡ decimal_value (whole ++ fraction_digits)
   pub is_power : power ≡ exponent_power -ℤ pos (length fraction_digits)
 
--- the text is a number's
+-- the text has the form of a number
 abbrev pub IsNumber : List ℕ → Type 0
 IsNumber text = (negative : Bool) × (digits : ℕ) × (power : ℤ) × SpellsNumber text negative digits power

@@ -24,7 +24,7 @@ refusal_name TooManyOpen = codes "TooManyOpen"
 refusal_name ResultTooLong = codes "ResultTooLong"
 refusal_name VersionsExhausted = codes "VersionsExhausted"
 refusal_name TransactionsExhausted = codes "TransactionsExhausted"
--- the two versions that it tells aren't printed
+-- its two versions aren't printed
 refusal_name (Behind seen found) = codes "Behind"
 refusal_name Stopped = codes "Stopped"
 refusal_name OutOfMemory = codes "OutOfMemory"

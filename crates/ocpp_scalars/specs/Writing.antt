@@ -1,5 +1,5 @@
--- The texts of instants and of tenths, as they are printed, in words by which no text is read. By
--- the laws `instant_texts` and `number_texts` each spells its own value alone.
+-- The printed texts of instants and of tenths, by definitions that no reader uses. By the laws
+-- `instant_texts` and `number_texts` each spells only its own value.
 use Rattle.std.specs.Prelude.{ℕ, zero, suc, ◌+◌, ◌/◌, ◌%◌, List, [], ◌∷◌, ◌++◌, codes, decimal}
 use Rattle.ocpp_scalars.specs.CalendarDay.{CalendarDay, calendar_day}
 

@@ -25,7 +25,7 @@ impl<const MAX: usize> Model for BoundedText<MAX> {
 }
 
 impl<const MAX: usize> BoundedText<MAX> {
-    /// The bounded text, or the text again where it has more than `MAX` characters. Allocates
+    /// Wraps a text, or returns it as the error if it has more than `MAX` characters. Allocates
     /// nothing.
     pub fn try_new(text: String) -> Result<BoundedText<MAX>, String>
         ensures valid { IsOk result ↔ (length (chars (string_bytes text)) ≤ MAX) }
@@ -38,12 +38,13 @@ impl<const MAX: usize> BoundedText<MAX> {
         Ok(BoundedText { text })
     }
 
-    /// A copy of the text, or `None` where it has more than `MAX` characters, of which nothing is copied.
+    /// Copies a text, or returns `None` without a copy if it has more than `MAX` characters.
     pub fn try_copy(alloc: Global, text: &str) -> Result<Option<BoundedText<MAX>>, AllocError>
         ensures copy { IfOk result (λ copy. copy
             ≡ (if nat_le (length (chars text.now)) MAX then Some text.now else None)) }
         ensures certain { MAX < length (chars text.now) → IsOk result }
     {
+        // Counted first, so that a text that is too long is refused even if no memory is left.
         if character_count(text) > MAX {
             return Ok(None);
         }
@@ -52,7 +53,7 @@ impl<const MAX: usize> BoundedText<MAX> {
         }))
     }
 
-    /// The text.
+    /// Returns the text.
     pub fn as_str(&self) -> &str
         ensures text { result.now ≡ self.now }
         ensures short { length (chars self.now) ≤ MAX }
@@ -60,7 +61,7 @@ impl<const MAX: usize> BoundedText<MAX> {
         self.text.as_str()
     }
 
-    /// A copy.
+    /// Returns a copy.
     pub fn copy(&self, alloc: Global) -> Result<BoundedText<MAX>, AllocError>
         ensures { IfOk result (λ copy. copy ≡ self.now) }
     {
@@ -69,7 +70,7 @@ impl<const MAX: usize> BoundedText<MAX> {
         })
     }
 
-    /// The text, given back.
+    /// Returns the text itself.
     pub fn into_string(self) -> String
         ensures { string_bytes result ≡ self.entry }
     {

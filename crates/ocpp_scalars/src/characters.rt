@@ -1,8 +1,8 @@
-//! Characters, counted.
+//! Counting of characters.
 ghost use Rattle.std.specs.Prelude.{◌≡◌, length};
 ghost use Rattle.std.specs.Str.{chars};
 
-/// How many characters a text has, as Unicode scalar values.
+/// Counts the characters of a text, as Unicode scalar values.
 pub fn character_count(text: &str) -> usize
     ensures { result ≡ length (chars text.now) }
 {

@@ -1,4 +1,4 @@
-//! Moments, in whole seconds.
+//! Instants, in whole seconds.
 ghost use Rattle.std.specs.Prelude.{◌≡◌, ℕ, ◌+◌, ◌≤◌, ◌↔◌, IsSome, IfSome};
 ghost use Rattle.ocpp_scalars.specs.Limits.{last_second};
 
@@ -25,7 +25,7 @@ impl Model for Instant {
 }
 
 impl Instant {
-    /// The instant of a number of seconds, or `None` past the last one.
+    /// Returns the instant of a number of seconds, or `None` past `LAST_SECOND`.
     pub fn try_new(seconds: u64) -> Option<Instant>
         ensures valid { IsSome result ↔ (seconds ≤ last_second) }
         ensures value { IfSome result (λ i. i ≡ seconds) }
@@ -37,7 +37,7 @@ impl Instant {
         }
     }
 
-    /// Seconds since 1970-01-01T00:00:00Z.
+    /// Returns the seconds since 1970-01-01T00:00:00Z.
     pub fn seconds(self) -> u64
         ensures value { result ≡ self }
         ensures last { self ≤ last_second }
@@ -45,7 +45,7 @@ impl Instant {
         self.seconds
     }
 
-    /// The instant a number of seconds later.
+    /// Returns the instant that is `seconds` later.
     pub fn plus(self, seconds: u64) -> Instant
         requires { self + seconds ≤ last_second }
         ensures { result ≡ self + seconds }

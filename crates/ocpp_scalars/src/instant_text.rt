@@ -1,4 +1,4 @@
-//! Instants, read from their texts.
+//! Reading of instants.
 ghost use Rattle.std.specs.Prelude.{◌≡◌, ℕ, ◌+◌, ◌*◌, ◌≤◌, ◌<◌, pos, neg_ℤ, ◌+ℤ◌, ◌-ℤ◌, ◌*ℤ◌, ◌≤ℤ◌, Some, None, option_map, IfSome, if◌then◌else◌};
 ghost use Rattle.jiff_core.specs.Calendar.{IsEpochDay, days_from_civil};
 ghost use Rattle.ocpp_scalars.specs.ByCases.Bounds.{IsWithin};
@@ -10,9 +10,10 @@ use jiff::civil::Date;
 use thiserror::Error;
 
 /// The most digits of a fraction of a second: nanoseconds.
+// RFC 3339 sets no bound, so this one is our choice.
 const MAX_FRACTION_DIGITS: usize = 9;
 
-/// Why a text isn't read as an instant.
+/// The reason for which a text isn't read as an instant.
 #[derive(Clone, Copy, Debug, PartialEq, Eq, Error)]
 pub enum InstantFault {
     /// The text isn't a date and time of day (RFC 3339, section 5.6).
@@ -23,9 +24,9 @@ pub enum InstantFault {
     Range,
 }
 
-/// The instant that a text is worth: `YYYY-MM-DD`, `T`, `t` or a space, `hh:mm:ss`, an optional
-/// fraction of 1 to 9 digits, which is dropped, and `Z`, `z`, `+hh:mm`, `-hh:mm` or nothing, which is
-/// UTC. Another text is `Form`, and a moment before 1970 or after the year 9999 is `Range`.
+/// Reads an instant: `YYYY-MM-DD`, `T`, `t` or a space, `hh:mm:ss`, an optional fraction of 1 to 9
+/// digits, which is dropped, and an offset: `Z`, `z`, `+hh:mm`, `-hh:mm` or nothing (UTC). Any
+/// other text is `Form`. A moment before 1970 or after the year 9999 is `Range`.
 #[tactic(auto, unfolding(crate::specs::ByCases::InstantText::instant_of))]
 pub fn read_instant(text: &str) -> Result<Instant, InstantFault>
     ensures { result ≡ instant_of text.now }
@@ -48,7 +49,7 @@ fn in_range(seconds: i64) -> Result<Instant, InstantFault>
     }
 }
 
-/// The seconds since 1970-01-01T00:00:00Z of a whole text.
+/// Reads a whole text as seconds since 1970-01-01T00:00:00Z, negative before it.
 #[tactic(auto, unfolding(crate::specs::ByCases::InstantText::seconds_of))]
 fn seconds(text: &[u8]) -> Option<i64>
     ensures { result ≡ seconds_of text.now }
@@ -61,6 +62,7 @@ fn seconds(text: &[u8]) -> Option<i64>
     Some(total_seconds(date, time, offset))
 }
 
+// A function of its own: after the `?`s of `seconds` the prover leaves goals about this sum open.
 fn total_seconds(date: i64, time: u32, offset: i64) -> i64
     requires date { IsEpochDay date }
     requires time { time < 86_400 }
@@ -70,7 +72,7 @@ fn total_seconds(date: i64, time: u32, offset: i64) -> i64
     date * 86_400 + time as i64 - offset
 }
 
-/// The number of the day of a date, 0 for 1 January 1970, and what follows the date.
+/// Splits a date off. Returns its days since 1 January 1970 and the rest of the text.
 #[tactic(auto, unfolding(crate::specs::ByCases::InstantText::date_at))]
 fn split_date(text: &[u8]) -> Option<(i64, &[u8])>
     ensures value { option_map (λ x. (x.0, x.1.now)) result ≡ date_at text.now }
@@ -99,7 +101,7 @@ fn day_number(year: u16, month: u8, day: u8) -> Option<i64>
     }
 }
 
-/// The seconds since midnight, and what follows the time of day.
+/// Splits a time of day off. Returns its seconds since midnight and the rest of the text.
 #[tactic(auto, unfolding(crate::specs::ByCases::InstantText::time_at))]
 fn split_time(text: &[u8]) -> Option<(u32, &[u8])>
     ensures value { option_map (λ x. (x.0, x.1.now)) result ≡ time_at text.now }
@@ -108,6 +110,7 @@ fn split_time(text: &[u8]) -> Option<(u32, &[u8])>
     let (minutes, text) = split_minutes(text)?;
     let text = skip_colon(text)?;
     let (second, text) = split_two(text)?;
+    // The second 60 of a leap second is refused: an `Instant` has no leap seconds.
     if second < 60 {
         Some((minutes * 60 + second as u32, text))
     } else {
@@ -115,7 +118,7 @@ fn split_time(text: &[u8]) -> Option<(u32, &[u8])>
     }
 }
 
-/// The minutes since midnight of an hour and a minute, and what follows them.
+/// Splits `hh:mm` off. Returns its minutes since midnight and the rest of the text.
 #[tactic(auto, unfolding(crate::specs::ByCases::InstantText::minutes_at))]
 fn split_minutes(text: &[u8]) -> Option<(u32, &[u8])>
     ensures value { option_map (λ x. (x.0, x.1.now)) result ≡ minutes_at text.now }
@@ -145,7 +148,7 @@ fn skip_fraction(text: &[u8]) -> Option<&[u8]>
     }
 }
 
-/// The offset from UTC in seconds, to the end of the text.
+/// Reads an offset from UTC that ends the text, in seconds.
 fn offset(text: &[u8]) -> Option<i64>
     ensures value { result ≡ offset_in text.now }
     ensures bound { IfSome result (IsWithin 86_400) }
@@ -182,7 +185,7 @@ fn behind_utc(text: &[u8]) -> Option<i64>
     Some(-(seconds as i64))
 }
 
-/// An hour and a minute in seconds, to the end of the text.
+/// Reads `hh:mm` that ends the text, in seconds.
 fn clock(text: &[u8]) -> Option<u32>
     ensures value { result ≡ clock_in text.now }
     ensures bound { IfSome result (λ n. n < 86_400) }

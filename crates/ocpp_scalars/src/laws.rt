@@ -1,4 +1,4 @@
-//! Laws of definitions alone. Each function does nothing.
+//! Laws about definitions only. Each function has an empty body.
 ghost use Rattle.std.specs.Prelude.{◌≡◌, ℕ, ℤ, ◌≤◌, ◌<◌, ◌^◌, ◌↔◌, List, IsTrue, Result, Ok};
 ghost use Rattle.ocpp_scalars.specs.declared.instant_text.InstantFault.{InstantFault};
 ghost use Rattle.ocpp_scalars.specs.declared.number.NumberFault.{NumberFault};
@@ -12,8 +12,8 @@ ghost use Rattle.ocpp_scalars.specs.ByCases.InstantText.{instant_of};
 ghost use Rattle.ocpp_scalars.specs.ByCases.NumberText.{is_number_text};
 ghost use Rattle.ocpp_scalars.specs.ByCases.Number.{tenths_of, whole_of};
 
-/// What the readers of numbers return is what RFC 8259's grammar has, in both directions. Printed
-/// tenths spell their own value and no other, and are read as it. (`decimal` prints 64 digits.)
+/// The readers of numbers return exactly the readings that RFC 8259's grammar gives. Printed tenths
+/// spell their own value and no other, and are read back as it. (`decimal` prints 64 digits.)
 pub fn number_texts()
     ensures form { (text : List ℕ) → IsTrue (is_number_text text) ↔ IsNumber text }
     ensures tenths { (text : List ℕ) (reading : Result ℕ NumberFault) →
@@ -26,8 +26,8 @@ pub fn number_texts()
         tenths_of (tenths_text tenths) ≡ Ok tenths }
 {}
 
-/// What the reader of instants returns is what the grammar of dates and times has, in both
-/// directions. A printed instant spells itself and no other, and is read as itself.
+/// The reader of instants returns exactly the readings that the grammar of dates and times gives. A
+/// printed instant spells itself and no other, and is read back as itself.
 pub fn instant_texts()
     ensures reading { (text : List ℕ) (reading : Result ℕ InstantFault) →
         (instant_of text ≡ reading) ↔ IsInstantReading text reading }

@@ -1,5 +1,5 @@
-//! The scalars of OCPP 1.6: instants, limits in tenths and whole numbers, read from their texts and
-//! written, with what every crate above shares: the refusals by name and the source of moments.
+//! The scalars of OCPP 1.6: instants, limits in tenths and whole numbers, with their readers and
+//! writers. Also what every crate above shares: the named refusals and the trait of the clock.
 #![tactic(auto)]
 
 mod bounded_text;
@@ -20,7 +20,7 @@ pub use id_tag::{IdTag, MAX_ID_TAG_CHARACTERS};
 pub use instant::{Instant, LAST_SECOND};
 pub use instant_text::{InstantFault, read_instant};
 pub use laws::{id_tags, instant_texts, number_texts};
-pub use moments::Moments;
+pub use moments::{Moments, SystemClock};
 pub use number::{NumberFault, read_tenths, read_whole};
 pub use number_text::is_number_text;
 pub use refusal::Refusal;

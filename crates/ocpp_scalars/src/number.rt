@@ -1,4 +1,4 @@
-//! Numbers, read as tenths and as whole numbers.
+//! Reading of numbers as tenths and as whole numbers.
 ghost use Rattle.std.specs.Prelude.{Some, ◌≡◌, ◌≢◌, ℕ, ◌+◌, ◌*◌, ◌^◌, ◌≤◌, ◌<◌, length, pos, neg_ℤ, ◌-ℤ◌, ◌≤ℤ◌, IfOk, IfSome, IfNone};
 ghost use Rattle.ocpp_scalars.specs.Digits.{AreDigits, value_after};
 ghost use Rattle.ocpp_scalars.specs.ByCases.Bounds.{IsWithin};
@@ -11,19 +11,20 @@ use thiserror::Error;
 /// The most bytes of a number's text.
 const MAX_NUMBER_BYTES: usize = 32;
 
-/// The most tenths that are read.
+/// The most tenths that `read_tenths` returns.
 const MAX_TENTHS: u32 = 1_000_000_000;
 
-/// The largest whole number that is read.
+/// The largest whole number that `read_whole` returns.
 const MAX_WHOLE: u32 = 2_147_483_647;
 
-/// The size of the least whole number that is read.
+/// The absolute value of the smallest whole number that `read_whole` returns.
+// OCPP's integers have 32 bits in two's complement, which has one number more below zero.
 const MAX_NEGATIVE_WHOLE: u32 = 2_147_483_648;
 
-/// Why a text isn't read as tenths or as a whole number.
+/// The reason for which a text isn't read as tenths or as a whole number.
 #[derive(Clone, Copy, Debug, PartialEq, Eq, Error)]
 pub enum NumberFault {
-    /// The text isn't a number's (RFC 8259, section 6).
+    /// The text doesn't have the form of a number (RFC 8259, section 6).
     #[error("not a number")]
     Form,
     /// The text has more bytes than the limit.
@@ -34,7 +35,8 @@ pub enum NumberFault {
     Range,
 }
 
-/// A number's sign, its digits as a whole number, and the power of ten that they are multiplied by.
+/// A number as its sign, its digits as a whole number, and the power of ten that scales these.
+// With 128 bits nothing saturates: digits and exponent of 32 bytes are below 10^32.
 #[derive(Clone, Copy)]
 pub(crate) struct Number {
     pub(crate) negative: bool,
@@ -42,13 +44,14 @@ pub(crate) struct Number {
     pub(crate) power: i128,
 }
 
-/// The tenths that a number's text is worth, from 0 to 1,000,000,000. A text of more than 32 bytes
-/// is `TooLong`, another that isn't a number's is `Form`, and any other value is `Range`.
+/// Reads a number as tenths, from 0 to 1,000,000,000. A text of more than 32 bytes is `TooLong`,
+/// another without the form of a number is `Form`, and any other value is `Range`.
 #[tactic(auto, unfolding(crate::specs::ByCases::Number::tenths_of))]
 pub fn read_tenths(text: &str) -> Result<u32, NumberFault>
     ensures { result ≡ tenths_of text.now }
 {
     let number = read_number(text)?;
+    // A minus is fine before a zero: `-0` is 0.
     let most = if number.negative { 0 } else { MAX_TENTHS };
     match times_power_at_most(most, number.digits, number.power + 1) {
         Some(tenths) => Ok(tenths),
@@ -56,8 +59,8 @@ pub fn read_tenths(text: &str) -> Result<u32, NumberFault>
     }
 }
 
-/// The whole number of 32 bits that a number's text is worth. A text of more than 32 bytes is
-/// `TooLong`, another that isn't a number's is `Form`, and any other value is `Range`.
+/// Reads a whole number of 32 bits. A text of more than 32 bytes is `TooLong`, another without the
+/// form of a number is `Form`, and any other value is `Range`.
 #[tactic(auto, unfolding(crate::specs::ByCases::Number::whole_of))]
 pub fn read_whole(text: &str) -> Result<i32, NumberFault>
     ensures { result ≡ whole_of text.now }
@@ -69,6 +72,7 @@ pub fn read_whole(text: &str) -> Result<i32, NumberFault>
         MAX_WHOLE
     };
     match times_power_at_most(most, number.digits, number.power) {
+        // Negated in 64 bits, since 2,147,483,648 isn't an `i32`.
         Some(value) if number.negative => Ok((-(value as i64)) as i32),
         Some(value) => Ok(value as i32),
         None => Err(NumberFault::Range),
@@ -97,7 +101,7 @@ fn read_number(text: &str) -> Result<Number, NumberFault>
     })
 }
 
-/// The number that digits write after others of the value `start`.
+/// Returns the value of `digits` appended to digits of the value `start`.
 fn read_digits(start: u128, digits: &[u8]) -> u128
     requires digits { AreDigits digits.now }
     requires room { (start + 1) * 10 ^ length digits.now ≤ 10 ^ 32 }
@@ -111,7 +115,7 @@ fn read_digits(start: u128, digits: &[u8]) -> u128
     value
 }
 
-/// The power of ten of digits with a number of places after the point.
+/// Returns the power of ten that scales digits of which `places` are after the point.
 fn power(negative: bool, exponent: u128, places: usize) -> i128
     requires exponent { exponent < 10 ^ 32 }
     requires places { places ≤ 32 }
@@ -125,12 +129,14 @@ fn power(negative: bool, exponent: u128, places: usize) -> i128
     }
 }
 
-/// The digits times the power of ten, where that is whole and at most `most`.
+/// Returns the digits times the power of ten, if that is whole and at most `most`.
 #[tactic(auto, using(crate::proofs::Scaling::scaling))]
 fn times_power_at_most(most: u32, digits: u128, power: i128) -> Option<u32>
     requires { IsWithin (10 ^ 34) power }
     ensures { result ≡ at_most most (times_power digits power) }
 {
+    // Zero neither exceeds `most` nor ends in another digit: a loop below would run through the
+    // whole exponent, up to 10^30 steps.
     if digits == 0 {
         return Some(0);
     }
@@ -142,7 +148,7 @@ fn times_power_at_most(most: u32, digits: u128, power: i128) -> Option<u32>
     }
 }
 
-/// The value, where it is at most `most`.
+/// Returns the value, if it is at most `most`.
 fn value_at_most(most: u32, value: u128) -> Option<u32>
     ensures { result ≡ at_most most (Some value) }
 {
@@ -153,7 +159,7 @@ fn value_at_most(most: u32, value: u128) -> Option<u32>
     }
 }
 
-/// The digits with a number of zeros added, or `None` where that is past `most`.
+/// Returns the digits with `zeros` zeros appended. `None` means that this exceeds `most`.
 #[tactic(auto, using(crate::proofs::Scaling::scaling))]
 fn with_zeros(most: u32, digits: u128, zeros: u128) -> Option<u128>
     requires { 0 < digits }
@@ -170,7 +176,7 @@ fn with_zeros(most: u32, digits: u128, zeros: u128) -> Option<u128>
     Some(value)
 }
 
-/// The digits with a number of zeros taken off, or `None` where they have fewer.
+/// Returns the digits without `zeros` zeros at their end, or `None` if they end in fewer.
 #[tactic(auto, using(crate::proofs::Scaling::scaling))]
 fn without_zeros(digits: u128, zeros: u128) -> Option<u128>
     requires digits { 0 < digits }

@@ -1,4 +1,4 @@
-//! The texts of numbers, cut into their parts.
+//! Splitting of a number's text into its parts.
 ghost use Rattle.std.specs.Prelude.{◌≡◌, IfSome, length, option_map};
 ghost use Rattle.ocpp_scalars.specs.ByCases.Digits.{digits_of, after_digits};
 ghost use Rattle.ocpp_scalars.specs.ByCases.NumberText.{FitIn, parts_seen, sign_at, whole_at, digits_at, fraction_at, exponent_sign_at, exponent_in, parts_of, is_number_text};
@@ -6,19 +6,19 @@ ghost use Rattle.ocpp_scalars.specs.ByCases.NumberText.{FitIn, parts_seen, sign_
 /// The parts of a number's text (RFC 8259, section 6).
 #[derive(Clone, Copy)]
 pub(crate) struct NumberParts<'a> {
-    /// A minus stands in front.
+    /// The number has a minus.
     pub(crate) negative: bool,
     /// The digits before the point.
     pub(crate) whole: &'a [u8],
-    /// The digits after the point, none where there is no point.
+    /// The digits after the point; empty without a point.
     pub(crate) fraction: &'a [u8],
     /// The exponent has a minus.
     pub(crate) negative_exponent: bool,
-    /// The digits of the exponent, none where there is no exponent.
+    /// The digits of the exponent; empty without an exponent.
     pub(crate) exponent: &'a [u8],
 }
 
-/// Whether a text is a number's (RFC 8259, section 6), of any length.
+/// Returns whether a text of any length has the form of a number (RFC 8259, section 6).
 #[tactic(auto, unfolding(crate::specs::ByCases::NumberText::is_number_text))]
 pub fn is_number_text(text: &str) -> bool
     ensures { result ≡ is_number_text text.now }
@@ -26,7 +26,7 @@ pub fn is_number_text(text: &str) -> bool
     number_parts(text.as_bytes()).is_some()
 }
 
-/// The parts of a number's text, or `None` where the text is none.
+/// Splits a number's text into its parts, or returns `None` if the text isn't a number.
 #[tactic(auto, unfolding(crate::specs::ByCases::NumberText::parts_of))]
 pub(crate) fn number_parts(text: &[u8]) -> Option<NumberParts<'_>>
     ensures parts { option_map parts_seen result ≡ parts_of text.now }
@@ -60,6 +60,7 @@ fn split_whole(text: &[u8]) -> Option<(&[u8], &[u8])>
     let (digits, rest) = split_digits(text);
     match digits {
         [] => None,
+        // RFC 8259 allows no leading zeros.
         [b'0', _, ..] => None,
         _ => Some((digits, rest)),
     }
@@ -113,7 +114,7 @@ fn split_some_digits(text: &[u8]) -> Option<(&[u8], &[u8])>
     }
 }
 
-/// The digits that a text begins with, and what follows them.
+/// Splits a text behind the digits at its beginning. Returns these and the rest.
 #[tactic(auto, using(crate::proofs::Texts::digit_steps))]
 pub(crate) fn split_digits(text: &[u8]) -> (&[u8], &[u8])
     ensures digits { result.0.now ≡ digits_of text.now }

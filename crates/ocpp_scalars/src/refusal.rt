@@ -1,4 +1,4 @@
-//! Why the central system refuses what it was asked.
+//! The reasons for which the central system refuses a request.
 ghost use Rattle.std.specs.Prelude.{◌≡◌, Some};
 ghost use Rattle.ocpp_scalars.specs.Refusal.{refusal_name};
 
@@ -6,17 +6,17 @@ use std::alloc::{AllocError, AllocFailed};
 use std::error::Error;
 use std::fmt;
 
-/// Why the central system refuses what it was asked, by name. Each function's contract says what a
-/// refusal leaves.
+/// A reason for which the central system refuses a request, by name. Each function's contract says
+/// which state a refusal leaves.
 #[derive(Clone, Copy, Debug, PartialEq, Eq)]
 pub enum Refusal {
     /// The site has no point of this identity.
     UnknownPoint,
     /// The point has no connector of this number.
     UnknownConnector,
-    /// A ChargePointMaxProfile stands at connector 0 alone.
+    /// A ChargePointMaxProfile is only for connector 0.
     MaxNotAtZero,
-    /// A TxProfile stands at a connector above 0.
+    /// A TxProfile is only for a connector above 0.
     TxAtZero,
     /// The schedule's unit isn't the site's.
     WrongUnit,
@@ -34,19 +34,19 @@ pub enum Refusal {
     OtherTransaction,
     /// The point would have more profiles than the limit.
     TooManyProfiles,
-    /// The calls that wait for the point, or are in flight to it, are as many as the limit.
+    /// The number of calls queued for the point or in flight to it has reached the limit.
     OutboxFull,
-    /// The duration asked is 0 or above the limit.
+    /// The requested duration is 0 or above the limit.
     BadDuration,
-    /// The schedule asked would run past the last instant.
+    /// The requested schedule would run past the last instant.
     PastCalendar,
-    /// The requests for schedules that are kept are as many as the limit.
+    /// The number of kept requests for schedules has reached the limit.
     TooManyOpen,
     /// The composite schedule has more periods than the limit.
     ResultTooLong,
-    /// The version, request, link or call number that comes next is above the limit.
+    /// The next number of a version, request, link or call is above the limit.
     VersionsExhausted,
-    /// Every transaction number was given away.
+    /// No transaction number is left.
     TransactionsExhausted,
     /// The caller has seen a newer version than the one found.
     Behind { seen: u64, found: u64 },
@@ -56,14 +56,14 @@ pub enum Refusal {
     OutOfMemory,
     /// No request of this number is kept.
     UnknownRequest,
-    /// The request has its answer.
+    /// The request already has its answer.
     AlreadyAnswered,
-    /// The link isn't the point's present one.
+    /// The link isn't the point's current one.
     Superseded,
     /// No call of this number is in flight to the point.
     NothingInFlight,
-    /// An answer posted from outside is for another book than its request has, or asks for
-    /// something else.
+    /// An answer posted from outside is for another book than that of its request, or for another
+    /// question.
     StrangerInput,
     /// The call of the point's last audit isn't confirmed yet.
     AuditOpen,
@@ -72,7 +72,7 @@ pub enum Refusal {
 }
 
 impl Refusal {
-    /// The refusal's name, as answers print it.
+    /// Returns the refusal's name, as answers print it.
     pub fn name(self) -> &'static str
         ensures { result.now ≡ refusal_name self }
     {

@@ -1,4 +1,4 @@
-//! Instants and tenths, written.
+//! Writing of instants and tenths.
 ghost use Rattle.std.specs.Prelude.{◌≡◌, ℕ, ◌+◌, ◌*◌, ◌/◌, ◌%◌, ◌≤◌, ◌<◌, pos, Ok, IfOk, IsErrOf, IsOkUnless, string_bytes};
 ghost use Rattle.jiff_core.specs.Date.{epoch_day};
 ghost use Rattle.ocpp_scalars.specs.Appending.{Appends};
@@ -12,7 +12,7 @@ use itoa::Integer;
 use jiff_core::civil::Date;
 use std::alloc::{AllocError, Global};
 
-/// The text of an instant, `YYYY-MM-DDThh:mm:ssZ`, or `OutOfMemory`.
+/// Formats an instant as `YYYY-MM-DDThh:mm:ssZ`, or fails with `OutOfMemory`.
 pub fn write_instant(alloc: Global, instant: Instant) -> Result<String, Refusal>
     ensures text { IfOk result (λ s. string_bytes s ≡ instant_text instant) }
     ensures memory { IsOkUnless result Refusal.OutOfMemory }
@@ -22,14 +22,14 @@ pub fn write_instant(alloc: Global, instant: Instant) -> Result<String, Refusal>
     Ok(out)
 }
 
-/// Appends the text of an instant, `YYYY-MM-DDThh:mm:ssZ`.
+/// Appends an instant as `YYYY-MM-DDThh:mm:ssZ`.
 pub fn push_instant(out: &mut String, instant: Instant) -> Result<(), AllocError>
     ensures { Appends result (string_bytes out.old) (string_bytes out.new) (instant_text instant) }
 {
     push_seconds(out, instant.seconds())
 }
 
-/// Appends the text of the instant a number of seconds after 1970-01-01T00:00:00Z.
+/// Appends the instant that is `seconds` after 1970-01-01T00:00:00Z.
 #[tactic(auto, unfolding(crate::specs::Writing::instant_text))]
 fn push_seconds(out: &mut String, seconds: u64) -> Result<(), AllocError>
     requires { seconds ≤ last_second }
@@ -42,7 +42,7 @@ fn push_seconds(out: &mut String, seconds: u64) -> Result<(), AllocError>
     Ok(())
 }
 
-/// Appends the date of the day that comes a number of days after 1 January 1970.
+/// Appends the date, `YYYY-MM-DD`, that is `day` days after 1 January 1970.
 #[tactic(auto, unfolding(crate::specs::Writing::day_text))]
 fn push_day(out: &mut String, day: u64) -> Result<(), AllocError>
     requires { day ≤ last_day }
@@ -58,7 +58,7 @@ fn push_day(out: &mut String, day: u64) -> Result<(), AllocError>
     push_two(out, day)
 }
 
-/// Year, month and day of the day that comes a number of days after 1 January 1970.
+/// Returns year, month and day of the date that is `day` days after 1 January 1970.
 fn civil_date(day: u64) -> (u16, u8, u8)
     requires { day ≤ last_day }
     ensures year { result.0 ≡ (calendar_day day).year }
@@ -66,6 +66,7 @@ fn civil_date(day: u64) -> (u16, u8, u8)
     ensures day { result.2 ≡ (calendar_day day).day }
     ensures bounds { (result.0 ≤ 9999) × (result.1 ≤ 12) × (result.2 ≤ 31) }
 {
+    // Only dates come from `jiff`: its `Timestamp` ends 26 hours before the last instant.
     let date = Date::from_unix_epoch_day(day as i64).unwrap();
     (date.year as u16, date.month, date.day)
 }
@@ -94,7 +95,7 @@ fn push_two(out: &mut String, number: u8) -> Result<(), AllocError>
     Ok(())
 }
 
-/// The text of tenths: the whole part, a point and one digit, or `OutOfMemory`.
+/// Formats tenths as a whole part, a point and one digit, or fails with `OutOfMemory`.
 pub fn write_tenths(alloc: Global, tenths: u32) -> Result<String, Refusal>
     ensures text { IfOk result (λ s. string_bytes s ≡ tenths_text tenths) }
     ensures memory { IsOkUnless result Refusal.OutOfMemory }
@@ -104,7 +105,7 @@ pub fn write_tenths(alloc: Global, tenths: u32) -> Result<String, Refusal>
     Ok(out)
 }
 
-/// Appends the text of tenths.
+/// Appends tenths as a whole part, a point and one digit.
 #[tactic(auto, unfolding(crate::specs::Writing::tenths_text))]
 pub fn push_tenths(out: &mut String, tenths: u32) -> Result<(), AllocError>
     ensures { Appends result (string_bytes out.old) (string_bytes out.new) (tenths_text tenths) }
@@ -114,10 +115,11 @@ pub fn push_tenths(out: &mut String, tenths: u32) -> Result<(), AllocError>
     push_integer(out, tenths % 10)
 }
 
-/// Appends an integer in decimal. (`write!` says nothing of the text where memory runs out.)
+/// Appends an integer in decimal.
 pub fn push_integer<I: Integer>(out: &mut String, integer: I) -> Result<(), AllocError>
     ensures { Appends result (string_bytes out.old) (string_bytes out.new) (I.text integer) }
 {
+    // `write!` doesn't state the contents of the text after a failed allocation.
     let mut digits = itoa::Buffer::new();
     out.push_str(digits.format(integer))
 }

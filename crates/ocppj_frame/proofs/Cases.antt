@@ -1,4 +1,4 @@
--- Taking apart a test.
+-- A proof by the two results of a test.
 use Rattle.std.proofs.Common.{◌≡◌, Bool, true, false, refl}
 
 pub by_test : {P : Type 0} → (t : Bool) → (t ≡ true → P) → (t ≡ false → P) → P

@@ -18,7 +18,7 @@ high_head b bs h = h 0 (omega arith)
 high_tail : (b : ℕ) (bs : List ℕ) → IsHigh (b ∷ bs) → IsHigh bs
 high_tail b bs h k l = h (suc k) (omega arith)
 
--- such a byte is copied, wherever it stands
+-- such a byte is copied at each place
 outside_high : (b : ℕ) (bs : List ℕ) → 128 ≤ b → marked_from outside (b ∷ bs) ≡ b ∷ marked_from outside bs
 outside_high b bs h = grind (arith, nat_tests)
 
@@ -83,7 +83,7 @@ end_utf8 inside = IsUtf8-nil
 end_utf8 escaped = IsUtf8-nil
 end_utf8 in_number = utf8_one 34 (omega arith)
 
--- past a character from 128 on
+-- a marked text after a character from 128 on
 utf8_past : (place : Place) (bs rest : List ℕ) → 0 < length bs → IsHigh bs → IsUtf8 bs → ((p : Place) → IsUtf8 (marked_from p rest)) → IsUtf8 (marked_from place (bs ++ rest))
 utf8_past outside bs rest l h u more = subst IsUtf8 (sym (outside_copied bs rest h)) (IsUtf8-append bs _ u (more outside))
 utf8_past inside bs rest l h u more = subst IsUtf8 (sym (inside_copied bs rest h)) (IsUtf8-append bs _ u (more inside))

@@ -1,4 +1,4 @@
--- The definition byte by byte gives what the rules of marking have, and nothing else.
+-- The definition byte by byte gives the marked text of the rules of marking, and no other.
 use Rattle.std.proofs.Common.{◌≡◌, ℕ, ◌==◌, true, false, List, [], ◌∷◌, ◌++◌, refl, sym, ap, ◌∙◌, subst, arith}
 use Rattle.std.specs.Prelude.{◌≢◌, ◌↔◌}
 use Rattle.std.proofs.lemmas.Bool.{eqb-true, ne_eqb, eqb-false}
@@ -7,7 +7,7 @@ use Rattle.ocppj_frame.specs.ByCases.Mark.{outside, inside, in_number, marked_fr
 use Rattle.ocppj_frame.specs.Mark.{begins_number, continues_number, IsContent, no_content, content_byte, content_pair, IsUnclosed, no_byte, last_backslash, unclosed_byte, unclosed_pair, AreNumberBytes, EndsNumber, IsMarked, no_text, string, unclosed_string, number, other_byte}
 use Rattle.ocppj_frame.proofs.Cases.{by_test}
 
--- what the rules have is what the definition gives
+-- the definition gives the marked text of the rules
 
 content_marked : (content rest : List ℕ) → IsContent content → marked_from inside (content ++ (34 ∷ rest)) ≡ content ++ (34 ∷ marked_from outside rest)
 content_marked _ rest no_content = refl
@@ -40,17 +40,17 @@ only_marked _ _ (number b bs rest out begins are ends h) =
 only_marked _ _ (other_byte b rest out quote begins h) =
     rw (ne_eqb b 34 quote, begins) (ap (λ (r : List ℕ). b ∷ r) (only_marked rest out h))
 
--- what the definition gives the rules have
+-- the rules give the marked text of the definition
 
 abbrev IsDone : List ℕ → Type 0
 IsDone text = IsMarked text (marked_from outside text)
 
--- what follows an opening quote
+-- the text after an opening quote
 data AfterQuote : List ℕ → Type 0 where
   closed : (content rest : List ℕ) → IsContent content → IsDone rest → AfterQuote (content ++ (34 ∷ rest))
   unclosed : (content : List ℕ) → IsUnclosed content → AfterQuote content
 
--- what follows a number's first byte
+-- the text after a number's first byte
 data AfterDigit : List ℕ → Type 0 where
   run : (bs rest : List ℕ) → AreNumberBytes bs → EndsNumber rest → IsDone rest → AfterDigit (bs ++ rest)
 

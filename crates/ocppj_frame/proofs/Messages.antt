@@ -1,4 +1,4 @@
--- The message element by element is the one of the table's row, and no other; that of a text is its tree's.
+-- The message element by element is that of the table's row, and no other; that of a text is its tree's.
 use Rattle.std.proofs.Common.{◌≡◌, ◌≤◌, ℕ, ◌==◌, ℤ, pos, negsuc, nat_le, length, nat_lt, true, false, List, [], ◌∷◌, slice_get, Option, Some, None, option_map, option_and_then, unwrap_or, Result, Ok, Err, refl, ap, ◌∙◌, subst, inl, inr, arith, ltb-true, ltb-false, lt-ltb, le-ltb}
 use Rattle.std.specs.Prelude.{◌≢◌, ◌↔◌}
 use Rattle.std.specs.Str.{chars}
@@ -19,7 +19,7 @@ use Rattle.ocppj_frame.specs.declared.message.MessageType.{MessageType}
 use Rattle.ocppj_frame.specs.declared.message.MessageType.TheVariants as types
 use Rattle.ocppj_frame.proofs.Cases.{by_test}
 
--- ---- what the table has is what the function gives
+-- ---- the function gives the result of the table
 
 type_is : (digits : List ℕ) (n : ℤ) → whole_of digits ≡ Ok n → message_type (Some (number digits)) ≡ Some (type_of_number n)
 type_is digits n e = ap (λ (r : Result ℤ NumberFault). option_map type_of_number (result_ok r)) e
@@ -111,9 +111,9 @@ only_message _ _ (no_list (number digits) e) = refl
 only_message _ _ (no_list (list ts) e) = cc (e)
 only_message _ _ (no_list (object fs) e) = refl
 
--- ---- what the function gives the table has
+-- ---- the table has the result of the function
 
--- what stands first, and what the function gives for it
+-- the first element, and the function's result for it
 data First : List Tree → Option (List ℕ) → Type 0 where
   has_id : (id : List ℕ) (others : List Tree) → IsId id → First (text id ∷ others) (Some id)
   lacks_id : (others : List Tree) → HasNoId others → First others None
@@ -135,7 +135,7 @@ first_of (number digits ∷ others) = lacks_id _ (λ id e. cc)
 first_of (list ts ∷ others) = lacks_id _ (λ id e. cc)
 first_of (object fs ∷ others) = lacks_id _ (λ id e. cc)
 
--- a CALL by its action and its payload
+-- a CALL, by its action and its payload
 call_found : (two id : List ℕ) (others : List Tree) → whole_of two ≡ Ok (pos 2) → IsId id
     → IsFrame (number two ∷ (text id ∷ others)) (call_of id (option_and_then as_text (slice_get others 0)) (payload_of (slice_get others 1)))
 call_found two id [] k short = malformed_action two id [] k short tt
@@ -152,7 +152,7 @@ call_found two id (number digits ∷ others) k short = malformed_action two id _
 call_found two id (list ts ∷ others) k short = malformed_action two id _ k short refl
 call_found two id (object fs ∷ others) k short = malformed_action two id _ k short refl
 
--- a CALLRESULT by its payload
+-- a CALLRESULT, by its payload
 result_found : (three id : List ℕ) (others : List Tree) → whole_of three ≡ Ok (pos 3) → IsId id
     → IsFrame (number three ∷ (text id ∷ others)) (Ok (call_result id (unwrap_or (payload_of (slice_get others 0)) empty_object)))
 result_found three id [] k short = result_row three id [] _ k short absent_payload

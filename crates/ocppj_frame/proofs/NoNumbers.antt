@@ -18,12 +18,12 @@ use Rattle.ocppj_frame.specs.ByCases.Mark.{outside, inside, escaped, in_number, 
 use Rattle.ocppj_frame.specs.ByCases.Tokens.{HaveNoNumber}
 use Rattle.ocppj_frame.proofs.Cases.{by_test}
 
--- what holds of both holds of the one that a test takes
+-- a property of both alternatives holds of the one that a test chooses
 chosen : {A : Type 0} (P : A → Type 0) (t : Bool) (x y : A) → P x → P y → P (cond t x y)
 chosen P true x y p q = p
 chosen P false x y p q = q
 
--- no number stands before the first bad token
+-- there is no number before the first bad token
 abbrev Clean : List Lexeme → Type 0
 Clean [] = ⊤
 Clean (comma ∷ ls) = Clean ls
@@ -100,7 +100,7 @@ ending_class true s Rest h = tt
 ending_class false true Rest h = tt
 ending_class false false Rest h = absurd (false≢true h)
 
--- what stands where a word has ended
+-- the text after the end of a word
 plain_end : (t : List ℕ) → ends_word t ≡ true → PlainWord t
 plain_end [] h = tt
 plain_end (x ∷ xs) h =
@@ -144,7 +144,7 @@ clean_word x xs ls h more =
     (chosen P (x == 102) _ _ (clean_literal ascii.false_text (boolean false) (x ∷ xs) ls (λ rest same. same) more)
     (chosen P (x == 110) _ _ (clean_literal ascii.null_text null (x ∷ xs) ls (λ rest same. same) more) tt)))
 
--- from byte to byte
+-- one byte after another
 
 string_clean : (o : Option (List ℕ)) (ls : List Lexeme) → Clean ls → Clean (token (string_token o) ∷ ls)
 string_clean None ls h = tt
@@ -156,7 +156,7 @@ operator_clean x ls h =
     chosen P (x == 123) _ _ h (chosen P (x == 125) _ _ h
     (chosen P (x == 91) _ _ h (chosen P (x == 93) _ _ h (chosen P (x == 44) _ _ h h))))
 
--- the classes of a byte that is no quote
+-- the classes of a byte that isn't a quote
 class_cases : (P : Class → Type 0) (b : ℕ) → (b == 34) ≡ false
     → P backslash → P operator → P space → P other → P (class b)
 class_cases P b no_quote slash op blank word =
@@ -171,11 +171,11 @@ word_byte operator x xs k is_plain apart within = operator_clean x (k between) a
 word_byte space x xs k is_plain apart within = apart
 word_byte other x xs k is_plain apart within = within is_plain
 
--- what the lexer reads in a mode is clean
+-- the lexemes read in a mode are clean
 abbrev IsClean : Mode → List ℕ → Type 0
 IsClean mode text = Clean (lex mode text)
 
--- the same outside strings, where the text may begin within a word
+-- the same outside strings, where the text may begin inside a word
 abbrev IsCleanOutside : List ℕ → Type 0
 IsCleanOutside text = IsClean between text × (PlainWord text → IsClean in_word text)
 
@@ -195,7 +195,7 @@ quote_outside : (text : List ℕ) → IsClean in_string text → IsCleanOutside 
 unfolding lex
 quote_outside text h = (string_clean (content plain text) (lex in_string text) h, λ word. absurd word)
 
--- a string goes on after each other byte
+-- a string continues after each other byte
 inside_string : (b : ℕ) (text : List ℕ) → (b == 34) ≡ false → (b == 92) ≡ false
     → IsClean in_string text → IsClean in_string (b ∷ text)
 unfolding lex
@@ -222,7 +222,7 @@ end_clean mode = tt
 number_byte : (b : ℕ) → continues_number b ≡ true → ((b == 34) ≡ false) × ((b == 92) ≡ false)
 number_byte b h = (grind (arith, nat_tests), grind (arith, nat_tests))
 
--- the marked text from each place on
+-- the marked text from each place
 record AllClean (bs : List ℕ) : Type 0 where
   at_outside : IsCleanOutside (marked_from outside bs)
   at_inside : IsClean in_string (marked_from inside bs)

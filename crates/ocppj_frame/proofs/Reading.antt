@@ -1,4 +1,4 @@
--- What `serde_json` makes of an array or an object, from one value to the next.
+-- The reading of an array or an object by `serde_json`, from one value to the next.
 use Rattle.std.proofs.Common.{◌≡◌, ℕ, zero, suc, ◌-◌, ◌<◌, ◌≤◌, List, [], ◌∷◌, ◌++◌, length, Option, Some, None, option_map, option_and_then, unwrap_or, refl, ap, ◌∙◌}
 use Rattle.json.specs.Json as json
 use Rattle.json.specs.Json.{Parse, parse_map, after_end_array, read_key, items_step, items, members, value}
@@ -26,7 +26,7 @@ pub pair_mapped : {A B : Type 0} (f : A → B) (x : Option A) (r : List Token)
 pair_mapped f None r = refl
 pair_mapped f (Some a) r = refl
 
--- what is converted was parsed
+-- a converted value was parsed
 pub was_parsed : {A B : Type 0} (f : A → Option B) (o : Option (A × List Token)) (b : B) (r : List Token)
     → converted f o ≡ Some (b, r) → (a : A) × (o ≡ Some (a, r)) × (f a ≡ Some b)
 was_parsed f None b r e = absurd (cc)
@@ -68,7 +68,7 @@ first_member : (k : List ℕ) (j : json.Json) (d : Data) (found : Members) → o
 first_member k j d found e None = refl
 first_member k j d found e (Some p) = rw e
 
--- a value that has no data refuses what it stands in
+-- a value without data makes its array or object refused
 
 bad_item : (more : Parse json.Items) (o : Option (json.Json × List Token)) → converted of_json o ≡ None
     → converted of_items (option_and_then (λ q. parse_map (json.item q.0) (more q.1)) o) ≡ None
@@ -88,7 +88,7 @@ bad_member k found more (Some q) e = by_rest (more q.1)
     by_rest None = refl
     by_rest (Some p) = rw (no_pair (of_json q.0) q.1 e)
 
--- the turns of the two loops; n bounds them, p reads a value
+-- the iterations of the two loops; n bounds them, p reads a value
 module _ (p : Parse json.Json) (n : ℕ) where
   pub one_item : (ts r : List Token) (d : Data) → 0 < n → after_end_array ts ≡ None → converted of_json (p ts) ≡ Some (d, r)
       → converted of_items (items p n ts) ≡ parse_map (item d) (converted of_items (items p (n - 1) r))
@@ -123,7 +123,7 @@ unfolding members
 member_refused p zero found k ts s key e = refl
 member_refused p (suc n) found k ts s key e = rw key (bad_member k found (members p n) (p s) e)
 
--- the items read so far, before those to come
+-- the items read so far, before the remaining ones
 
 abbrev pub items_before : List MarkedValue → Items → Items
 items_before [] rest = rest

@@ -80,7 +80,7 @@ others_stand (Some n) None others h = cc
 others_stand (Some n) (Some t) None h = h
 others_stand (Some n) (Some t) (Some fs) h = refl
 
--- the field of a name in what may be no fields
+-- the field of a name, if there are fields
 abbrev found_in : List ℕ → Option Fields → Option Tree
 found_in name fields = option_and_then (field_at name) fields
 
@@ -126,7 +126,7 @@ are_trees (Some ts) h = refl
 pub member-field_of : (name : List ℕ) (ms : json.Members) → is_some (tree_of (json.object ms)) ≡ true → option_map data_tree (member_named name ms) ≡ field_of name (data_tree (json.object ms))
 member-field_of name ms h = member_field name ms (are_fields (fields_of ms) h) ∙ fields_within name (fields_of ms) h
 
--- the same of a value
+-- the same for a value
 seen_object : (value : MarkedValue) (m : BTreeMap (Bor (List ℕ)) MarkedValue) → value ≡ Object m → view value ≡ json.object (members_view m.entries)
 seen_object value m same = ap view same ∙ view-Object m
 

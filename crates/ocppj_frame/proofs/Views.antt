@@ -1,4 +1,4 @@
--- A value, level by level, and a `BTreeMap` with the members that it stands for.
+-- A value, level by level, and a `BTreeMap` with the members that it represents.
 use Rattle.std.proofs.Common.{◌≡◌, ℕ, List, [], ◌∷◌, Vec, BTreeMap, Global, Bor, Ordering, Less, Equal, Greater, nat_cmp, refl, ◌∙◌, rules}
 use Rattle.std.specs.BTreeMap.{insert_entry}
 use Rattle.std.specs.contracts.impls.GlobalAllocator.TheImpl.{ghosts}
@@ -9,7 +9,7 @@ use Rattle.serde_json.specs.Data.{array, object, put}
 use Rattle.ocppj_frame.specs.View.{view, items_view, members_view}
 use Rattle.ocppj_frame.specs.declared.marked_value.MarkedValue.{MarkedValue, Array, Object, the_lemmas}
 
--- an array's values, an object's members: both stand in an arena
+-- an array's values, an object's members: both are in an arena
 abbrev pub Values : Type 0
 Values = Vec MarkedValue (Bor (Bump Global ghosts))
 
@@ -27,7 +27,7 @@ members_view-match_ordering Less a b c = refl
 members_view-match_ordering Equal a b c = refl
 members_view-match_ordering Greater a b c = refl
 
--- an entry goes in where `serde_json` puts the member
+-- an entry is inserted where `serde_json` puts the member
 pub members_view-insert_entry : (es : List Entry) (k : Bor (List ℕ)) (v : MarkedValue)
     → members_view (insert_entry (λ x y. slice_cmp nat_cmp x.now y.now) es k v) ≡ put k.now (view v) (members_view es)
 members_view-insert_entry [] k v = refl

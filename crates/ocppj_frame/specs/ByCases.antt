@@ -1,4 +1,4 @@
--- Forms by cases, with which proofs compute.
+-- Definitions by cases, with which proofs compute.
 pub mod Mark
 pub mod Member
 pub mod Message

@@ -13,7 +13,7 @@ field_map f WrongKind = WrongKind
 field_map f WrongValue = WrongValue
 field_map f (Value a) = Value (f a)
 
--- the field, where it is there and not null
+-- the field, if it is present and not null
 abbrev pub unless_null : Tree → Option Tree
 unless_null tree = if is_null tree then None else Some tree
 
@@ -25,7 +25,7 @@ abbrev pub of_kind : {A : Type 0} → (Tree → Option A) → Option Tree → Fi
 of_kind kind None = Absent
 of_kind kind (Some tree) = option_map_or Value (kind tree) WrongKind
 
--- a scalar's reading
+-- the result of reading a scalar
 abbrev pub value_or_fault : {A E : Type 0} → Result A E → Field A
 value_or_fault (Ok a) = Value a
 value_or_fault (Err e) = WrongValue

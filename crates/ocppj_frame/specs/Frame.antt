@@ -12,7 +12,7 @@ message_in (Reply id payload) = call_result id (tree_in payload)
 message_in (Fault id) = call_error id
 message_in Other = other
 
--- where a frame has a payload, that is an object
+-- the payload of a frame, if it has one, is an object
 abbrev pub HasObject : Frame → Type 0
 HasObject (Call id action payload) = is_object (tree_in payload) ≡ true
 HasObject (Reply id payload) = is_object (tree_in payload) ≡ true

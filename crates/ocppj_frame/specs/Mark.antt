@@ -23,14 +23,14 @@ abbrev pub continues_number : ℕ → Bool
 continues_number b =
     begins_number b || (b == plus) || (b == dot) || (b == lower_e) || (b == upper_e)
 
--- what stands before a string's closing quote: a backslash takes the next byte along
+-- the bytes before a string's closing quote: a backslash escapes the next byte
 pub data IsContent : List ℕ → Type 0 where
   no_content : IsContent []
   content_byte :
       (b : ℕ) (bs : List ℕ) → b ≢ quote → b ≢ backslash → IsContent bs → IsContent (b ∷ bs)
   content_pair : (b : ℕ) (bs : List ℕ) → IsContent bs → IsContent (backslash ∷ (b ∷ bs))
 
--- what follows the opening quote of a string that the text doesn't close
+-- the bytes after the opening quote of a string that the text doesn't close
 pub data IsUnclosed : List ℕ → Type 0 where
   no_byte : IsUnclosed []
   last_backslash : IsUnclosed (backslash ∷ [])
@@ -38,12 +38,12 @@ pub data IsUnclosed : List ℕ → Type 0 where
       (b : ℕ) (bs : List ℕ) → b ≢ quote → b ≢ backslash → IsUnclosed bs → IsUnclosed (b ∷ bs)
   unclosed_pair : (b : ℕ) (bs : List ℕ) → IsUnclosed bs → IsUnclosed (backslash ∷ (b ∷ bs))
 
--- each byte may stand in a number
+-- each byte may be part of a number
 abbrev pub AreNumberBytes : List ℕ → Type 0
 AreNumberBytes [] = Unit {0}
 AreNumberBytes (b ∷ bs) = (continues_number b ≡ true) × AreNumberBytes bs
 
--- no byte that may stand in a number comes next
+-- the next byte, if there is one, isn't part of a number
 abbrev pub EndsNumber : List ℕ → Type 0
 EndsNumber [] = Unit {0}
 EndsNumber (b ∷ bs) = continues_number b ≡ false
@@ -63,7 +63,7 @@ pub data IsMarked : List ℕ → List ℕ → Type 0 where
   other_byte : (b : ℕ) (rest out : List ℕ) → b ≢ quote → begins_number b ≡ false → IsMarked rest out
       → IsMarked (b ∷ rest) (b ∷ out)
 
--- what follows a mark
+-- the rest of a string after a mark
 abbrev pub after_mark : ℕ → List ℕ → Option (List ℕ)
 after_mark mark [] = None
 after_mark mark (b ∷ bs) = if b == mark then Some bs else None

@@ -1,11 +1,11 @@
--- What a text is as a message (OCPP-J 1.6, section 4.2): the table of frames, a constructor for each row.
+-- A text as a message (OCPP-J 1.6, section 4.2): the table of frames, a constructor for each row.
 --
 --   [2, id, action, payload]                  a CALL
 --   [3, id, payload]                          a CALLRESULT
 --   [4, id, code, description, details]       a CALLERROR
 --   [another whole number, ..]                ignored
 --
--- Elements past those are ignored, and so is all of a CALLERROR after its id.
+-- Further elements are ignored, and so is everything after the id of a CALLERROR.
 use Rattle.std.specs.Prelude.{◌≡◌, ◌≢◌, ◌<◌, ◌≤◌, ◌⊎◌, ℕ, ℤ, pos, length, List, [], ◌∷◌, false, None, Some, Result, Ok, Err}
 use Rattle.std.specs.Str.{chars}
 use Rattle.ocpp_scalars.specs.ByCases.Number.{whole_of}
@@ -25,7 +25,7 @@ pub data Message : Type 0 where
   -- a message of another type
   other : Message
 
--- a text that an id may be (section 4.1.4)
+-- the text may be an id (section 4.1.4)
 abbrev pub IsId : List ℕ → Type 0
 IsId id = length (chars id) ≤ max_id_characters
 
@@ -39,7 +39,7 @@ IsOtherType n = (n ≢ pos 2) × (n ≢ pos 3) × (n ≢ pos 4)
 abbrev pub empty_object : Tree
 empty_object = object no_fields
 
--- the payload that stands first: an object, and where it is absent or null the empty one
+-- the payload in the first element: an object; if it is absent or null, the empty one
 pub data IsPayload : List Tree → Tree → Type 0 where
   absent_payload : IsPayload [] empty_object
   null_payload : (others : List Tree) → IsPayload (null ∷ others) empty_object
@@ -49,18 +49,18 @@ pub data IsPayload : List Tree → Tree → Type 0 where
 abbrev pub IsNoPayload : Tree → Type 0
 IsNoPayload tree = (is_null tree ≡ false) × (is_object tree ≡ false)
 
--- no whole number stands first
+-- the first element, if there is one, isn't a whole number
 abbrev pub HasNoType : List Tree → Type 0
 HasNoType [] = Unit {0}
 HasNoType (first ∷ others) =
     (digits : List ℕ) (n : ℤ) → first ≡ number digits → whole_of digits ≢ Ok n
 
--- no id stands first
+-- the first element, if there is one, isn't an id
 abbrev pub HasNoId : List Tree → Type 0
 HasNoId [] = Unit {0}
 HasNoId (first ∷ others) = (id : List ℕ) → first ≡ text id → ¬ IsId id
 
--- no text stands first
+-- the first element, if there is one, isn't a text
 abbrev pub HasNoText : List Tree → Type 0
 HasNoText [] = Unit {0}
 HasNoText (first ∷ others) = as_text first ≡ None

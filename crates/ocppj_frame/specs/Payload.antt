@@ -1,4 +1,4 @@
--- The trees that a payload and its nodes stand for.
+-- The trees that a payload and its nodes represent.
 use Rattle.std.specs.Prelude.{List, map, unwrap_or}
 use Rattle.std.specs.Vec.Iter.{into_iter_items}
 use Rattle.ocppj_frame.specs.Tree.{Tree, null}
@@ -24,7 +24,7 @@ tree_at node = value_tree node.value.now
 abbrev pub entries_in : Entries → List Tree
 entries_in entries = map value_tree entries.values.now
 
--- the entries that are still to come
+-- the remaining entries
 abbrev pub entries_left : EntriesIter → List Tree
 entries_left iter = entries_in iter.left
 

@@ -1,6 +1,6 @@
--- The tree of a text: `serde_json`'s reading of the marked text, with the marks removed. Of members
--- with one name it keeps the last, so that a value before that one is never looked at: only what is
--- kept has to be a tree.
+-- The tree of a text: the marked text as `serde_json` reads it, with the marks removed. Of members
+-- with one name `serde_json` keeps the last. Earlier values are never checked: only those kept have
+-- to be trees.
 use Rattle.std.specs.Prelude.{ℕ, List, Option, Some, None, option_map, if◌then◌else◌}
 use Rattle.ocpp_scalars.specs.ByCases.NumberText.{is_number_text}
 use Rattle.ocpp_scalars.specs.OptionSteps.{◌>>=◌}
@@ -10,7 +10,8 @@ use Rattle.ocppj_frame.specs.Mark.{after_mark, text_mark, number_mark}
 use Rattle.ocppj_frame.specs.ByCases.Mark.{marked_text}
 use Rattle.ocppj_frame.specs.Tree.{Tree, null, boolean, text, number, list, object, Trees, no_entries, entry, Fields, no_fields, field}
 
--- a string with the mark `s` is a text, and one with the mark `n` a number where it has RFC 8259's grammar
+-- a string with the mark `s` is a text; one with the mark `n` is a number if it has RFC 8259's
+-- grammar
 abbrev pub tree_of_marked : Option (List ℕ) → Option (List ℕ) → Option Tree
 tree_of_marked (Some bytes) as_number = Some (text bytes)
 tree_of_marked None (Some bytes) = if is_number_text bytes then Some (number bytes) else None
@@ -48,7 +49,7 @@ abbrev mutual
     others ← fields_of ms
     Some (field name value others)
 
--- the tree of a text, or `None` where the text is refused
+-- the tree of a text, or `None` if the text is refused
 abbrev pub tree_of_text : List ℕ → Option Tree
 tree_of_text bytes = do
   value ← read (marked_text bytes)

@@ -15,7 +15,7 @@ mutual
     no_entries : Trees
     entry : Tree → Trees → Trees
 
-  -- each name stands once
+  -- each name occurs once
   pub data Fields : Type 0 where
     no_fields : Fields
     field : List ℕ → Tree → Fields → Fields

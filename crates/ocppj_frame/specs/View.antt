@@ -1,4 +1,4 @@
--- The value that a `MarkedValue` stands for, in the words of `serde_json`.
+-- The value that a `MarkedValue` represents, as data of `serde_json`.
 use Rattle.std.specs.Prelude.{ℕ, false, true, List, [], ◌∷◌, map}
 use Rattle.std.specs.Borrow.{Bor}
 use Rattle.serde_json.specs.Data.{Data, null, boolean, string, array, object, Items, Members, no_members, member}
@@ -10,7 +10,7 @@ abbrev pub members_of : List (Bor (List ℕ) × Data) → Members
 members_of [] = no_members
 members_of (m ∷ ms) = member m.0.now m.1 (members_of ms)
 
--- one level, with each value inside already seen as its data
+-- one level; each value inside is already converted to its data
 abbrev pub view_step : MarkedValue-F Data → Data
 view_step MarkedValue-F.Null = null
 view_step MarkedValue-F.False = boolean false

@@ -1,17 +1,17 @@
--- The texts of written messages (OCPP-J 1.6, section 4.2), without blanks. A payload comes as its
--- text, between a head and an end.
+-- The texts of written messages (OCPP-J 1.6, section 4.2), without blanks. A payload is given as
+-- its text, between a head and an end.
 use Rattle.std.specs.Prelude.{ℕ, List, ◌++◌, codes}
 use Rattle.json.specs.Print.{quoted}
 
--- what stands before a CALL's payload
+-- the part of a CALL before its payload
 abbrev pub call_head : List ℕ → List ℕ → List ℕ
 call_head id action = codes "[2," ++ quoted id ++ codes "," ++ quoted action ++ codes ","
 
--- what stands before a CALLRESULT's payload
+-- the part of a CALLRESULT before its payload
 abbrev pub result_head : List ℕ → List ℕ
 result_head id = codes "[3," ++ quoted id ++ codes ","
 
--- what stands after a payload
+-- the part of a frame after its payload
 abbrev pub frame_end : List ℕ
 frame_end = codes "]"
 

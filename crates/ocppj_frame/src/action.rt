@@ -18,14 +18,14 @@ impl<'a> Model for ActionName<'a> {
 }
 
 impl<'a> ActionName<'a> {
-    /// The name of this text.
+    /// Creates the name with this text.
     pub fn new(text: &'a str) -> ActionName<'a>
         ensures { result ≡ text.now }
     {
         Self { text }
     }
 
-    /// The name's text.
+    /// Returns the name's text.
     pub fn as_str(&self) -> &'a str
         ensures { result.now ≡ self.now }
     {

@@ -1,14 +1,15 @@
-//! Why a text holds no frame.
+//! The faults of a text that isn't a frame.
 use crate::message_id::MessageId;
 use std::alloc::AllocError;
 
-/// Why a text holds no frame.
+/// The reason why a text isn't a frame.
 #[derive(Debug, Drop, thiserror::Error)]
 pub enum FrameFault {
-    /// The text gets no answer: it is no frame, or has no id that an answer could name.
+    /// The text gets no answer: it isn't a frame, or has no id that an answer could have.
     #[error("no frame that could be answered")]
     Dropped,
-    /// A CALL whose action or payload is malformed: the answer is a FormationViolation with this id.
+    /// A CALL whose action or payload is malformed: the answer is a FormationViolation with this
+    /// id.
     #[error("a CALL whose action or payload is malformed")]
     Formation { id: MessageId },
     /// Memory ran out.

@@ -6,20 +6,20 @@ ghost use Rattle.ocppj_frame.specs.Payload.{entries_in, tree_at};
 use crate::payload::{Entries, Node};
 use ocpp_scalars::{Instant, read_instant, read_tenths, read_whole};
 
-/// What an object has at the name of a field.
+/// The value of an object's field, or the reason why there is none.
 #[derive(Clone, Copy, PartialEq, Eq)]
 pub enum Field<T> {
-    /// The field is missing or null, or the node is no object.
+    /// The field is missing or null, or the node isn't an object.
     Absent,
-    /// Another kind of JSON value than the one asked for.
+    /// The field is a JSON value of another kind than the one to be read.
     WrongKind,
-    /// The kind asked for, but no scalar of the values asked for.
+    /// The field has the right kind, but isn't a value in the accepted range or form.
     WrongValue,
     /// The field's value.
     Value(T),
 }
 
-/// The text of a field. Never `WrongValue`.
+/// Reads a field as a text. Never returns `WrongValue`.
 pub fn text_field<'memory>(node: Node<'_, 'memory>, name: &str) -> Field<&'memory str>
     ensures { field_map (λ t. t.now) result ≡ text_field_of name.now (tree_at node.entry) }
 {
@@ -32,7 +32,7 @@ pub fn text_field<'memory>(node: Node<'_, 'memory>, name: &str) -> Field<&'memor
     }
 }
 
-/// The whole number of a field, from -2,147,483,648 to 2,147,483,647.
+/// Reads a field as a whole number from -2,147,483,648 to 2,147,483,647.
 pub fn whole_field(node: Node<'_, '_>, name: &str) -> Field<i32>
     ensures { result ≡ whole_field_of name.now (tree_at node.entry) }
 {
@@ -45,7 +45,7 @@ pub fn whole_field(node: Node<'_, '_>, name: &str) -> Field<i32>
     }
 }
 
-/// The tenths of a field, from 0 to 1,000,000,000.
+/// Reads a field as a number of tenths from 0 to 1,000,000,000.
 pub fn tenths_field(node: Node<'_, '_>, name: &str) -> Field<u32>
     ensures { result ≡ tenths_field_of name.now (tree_at node.entry) }
 {
@@ -58,7 +58,7 @@ pub fn tenths_field(node: Node<'_, '_>, name: &str) -> Field<u32>
     }
 }
 
-/// The instant of a field, which is written as a text.
+/// Reads a field as an instant, which is written as a text.
 pub fn instant_field(node: Node<'_, '_>, name: &str) -> Field<Instant>
     ensures { result ≡ instant_field_of name.now (tree_at node.entry) }
 {
@@ -71,7 +71,7 @@ pub fn instant_field(node: Node<'_, '_>, name: &str) -> Field<Instant>
     }
 }
 
-/// The entries of a field that is a list. Never `WrongValue`.
+/// Reads a field as a list of entries. Never returns `WrongValue`.
 pub fn list_field<'tree, 'memory>(
     node: Node<'tree, 'memory>,
     name: &str,
@@ -87,7 +87,7 @@ pub fn list_field<'tree, 'memory>(
     }
 }
 
-/// The object of a field. Never `WrongValue`.
+/// Reads a field as an object. Never returns `WrongValue`.
 pub fn object_field<'tree, 'memory>(
     node: Node<'tree, 'memory>,
     name: &str,
@@ -104,7 +104,7 @@ pub fn object_field<'tree, 'memory>(
     }
 }
 
-/// The field, where it is there and not null.
+/// Returns the field if it is present and not null.
 fn present_field<'tree, 'memory>(
     node: Node<'tree, 'memory>,
     name: &str,

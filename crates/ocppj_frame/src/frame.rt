@@ -1,4 +1,4 @@
-//! From a text to a frame.
+//! Reads a text as a frame.
 ghost use Rattle.std.specs.Prelude.{◌≡◌, IfOk, None, Ok, Some, drop, option_and_then, option_map, slice_get};
 ghost use Rattle.ocpp_scalars.specs.Reading.{ReadsUnless};
 ghost use Rattle.ocppj_frame.specs.Fault.{is_memory};
@@ -16,11 +16,11 @@ use crate::reading_memory::ReadingMemory;
 use bumpalo::Bump;
 use std::alloc::Global;
 
-/// The most bytes of a frame's text.
+/// The maximum length of a frame's text, in bytes.
 pub const MAX_FRAME_BYTES: usize = 1_048_576;
 
-/// A message (OCPP-J 1.6, section 4.2). Its action and its payload stand in the memory that it was read
-/// into.
+/// A message (OCPP-J 1.6, section 4.2). Its action and its payload borrow the memory that it was
+/// read into.
 #[derive(Drop)]
 pub enum Frame<'a> {
     /// A CALL. The payload is an object.
@@ -42,9 +42,10 @@ pub enum Frame<'a> {
     Other,
 }
 
-/// Reads a text as a message, into `memory`, which is borrowed until the frame is gone. The text is
-/// `Dropped` where it has more than [`MAX_FRAME_BYTES`] or is no message that could be answered;
-/// `Formation` is a malformed CALL with an id, `OutOfMemory` says nothing of the text.
+/// Reads a text as a message into `memory`, which stays borrowed until the frame is dropped.
+/// Returns `Dropped` for a text of more than [`MAX_FRAME_BYTES`], and for one that isn't a message
+/// or lacks its id; `Formation` for a malformed CALL with an id. `OutOfMemory` says nothing about
+/// the text.
 pub fn read_frame<'a>(memory: &'a mut ReadingMemory, text: &str) -> Result<Frame<'a>, FrameFault>
     ensures message { ReadsUnless is_memory message_in result (message_of_text text.now) }
     ensures object { IfOk result HasObject }

@@ -7,13 +7,14 @@ ghost use Rattle.ocppj_frame.specs.ByCases.Mark.{marked_text};
 ghost use Rattle.ocppj_frame.specs.ByCases.Message.{message_of_text, message_of_tree};
 ghost use Rattle.ocppj_frame.specs.declared.fault.FrameFault.{FrameFault};
 
-/// A law of all texts: the marked text is the one that the rules of marking have, and no other.
+/// States a law of all texts: the marked text is the one that the rules of marking give, and no
+/// other.
 pub fn marked_texts()
     ensures { (text : List ℕ) (out : List ℕ) → (marked_text text ≡ out) ↔ IsMarked text out }
 {}
 
-/// Laws of all trees and of all texts: the message, or the fault, is that of the row of OCPP-J's table
-/// that the tree has, and no other; that of a text is its tree's, if it isn't too long and has one.
+/// States laws of all trees and texts. The message or fault of a tree is that of its row in
+/// OCPP-J's table, and no other. That of a text is its tree's, if it isn't too long and has a tree.
 pub fn frame_messages()
     ensures trees { (tree : Tree) (result : Result Message FrameFault)
         → (message_of_tree tree ≡ result) ↔ IsMessage tree result }

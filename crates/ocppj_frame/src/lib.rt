@@ -1,5 +1,5 @@
-//! The frames of OCPP-J 1.6: a text is read as a JSON tree in which numbers keep their text, a tree as
-//! a CALL, a CALLRESULT or a CALLERROR, and frames are written.
+//! The frames of OCPP-J 1.6. Reads a text as a JSON tree whose numbers keep their text, and a tree
+//! as a CALL, a CALLRESULT or a CALLERROR. Writes frames.
 #![tactic(auto)]
 
 mod action;

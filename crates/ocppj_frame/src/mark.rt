@@ -1,6 +1,6 @@
-//! Marked texts. What a text is, is defined by how `serde_json` reads it, which makes 64 bits of a number
-//! and so loses digits. So the text that is read has no numbers, but strings in their place, and each
-//! string has a mark that says which of the two it was.
+//! Marked texts. `serde_json` defines the meaning of a text, but reads a number into 64 bits and so
+//! loses digits. A marked text therefore has strings in place of numbers, and each string has a
+//! mark that says whether it was a string or a number.
 ghost use Rattle.std.specs.Prelude.{◌≡◌, ◌<◌, ◌≤◌, ◌+◌, ◌*◌, ◌∷◌, ◌++◌, IfOk, OnOk, length, option_map, vec_capacity, vec_len};
 ghost use Rattle.ocppj_frame.specs.Mark.{after_mark, begins_number, continues_number};
 ghost use Rattle.ocppj_frame.specs.ByCases.Mark.{in_number, inside, marked_from, marked_text, outside};
@@ -8,13 +8,13 @@ ghost use Rattle.ocppj_frame.specs.ByCases.Mark.{in_number, inside, marked_from,
 use std::alloc::AllocError;
 use std::mem;
 
-/// The text with each string and each number marked, as a JSON text without numbers. It is written
-/// to `room`, in the place of what was there.
+/// Writes the text to `room` with each string and each number marked, as a JSON text without
+/// numbers. Replaces the contents of `room`.
 pub fn mark_text<'a>(text: &str, room: &'a mut Vec<u8>) -> Result<&'a str, AllocError>
     ensures { IfOk result (λ marked. marked.now ≡ marked_text text.now) }
 {
     mark_bytes(text.as_bytes(), room)?;
-    // Proved to be UTF-8, so that nobody has to look.
+    // Proved to be UTF-8, so a second check of all bytes isn't needed.
     Ok(unsafe { std::str::from_utf8_unchecked(room.as_slice()) })
 }
 
@@ -22,9 +22,10 @@ fn mark_bytes(text: &[u8], room: &mut Vec<u8>) -> Result<(), AllocError>
     ensures { OnOk result (room.new.items ≡ marked_text text.now) }
 {
     room.clear();
-    // A byte makes at most four. With the whole room from the start no push has to ask for more.
+    // A byte becomes at most four. With all memory reserved here, no push has to check for room.
     room.reserve(text.len().checked_mul(4).ok_or(AllocError)?)?;
-    // Moved here while it is written, where its length needn't be stored after each byte.
+    // A local variable while it is written: its length then stays in a register, and isn't stored
+    // after each byte.
     let mut out = mem::replace(room, Vec::new(*room.allocator()));
     let mut left = text;
     while let Some((byte, others)) = left.split_first() {
@@ -34,8 +35,8 @@ fn mark_bytes(text: &[u8], room: &mut Vec<u8>) -> Result<(), AllocError>
     Ok(())
 }
 
-/// Appends a byte that stands outside strings and numbers, with the string or the number that it
-/// begins. Returns what is left of the others.
+/// Appends a byte outside strings and numbers, with the string or the number that it begins.
+/// Returns the rest of the others.
 fn push_outside<'a>(out: &mut Vec<u8>, byte: u8, others: &'a [u8]) -> &'a [u8]
     requires { vec_len out.old + 4 * (length others.now + 1) ≤ vec_capacity out.old }
     ensures marked { out.new.items ++ marked_from outside result.now
@@ -60,7 +61,8 @@ fn push_outside<'a>(out: &mut Vec<u8>, byte: u8, others: &'a [u8]) -> &'a [u8]
     }
 }
 
-/// Appends what follows the opening quote of a string, up to its closing quote. Returns what is left.
+/// Appends the bytes after the opening quote of a string, up to its closing quote. Returns the
+/// rest.
 fn push_string<'a>(out: &mut Vec<u8>, text: &'a [u8]) -> &'a [u8]
     requires { vec_len out.old + length text.now ≤ vec_capacity out.old }
     ensures marked { out.new.items ++ marked_from outside result.now
@@ -86,8 +88,7 @@ fn push_string<'a>(out: &mut Vec<u8>, text: &'a [u8]) -> &'a [u8]
     left
 }
 
-/// Appends what follows the first byte of a number, up to its end, and closes its quote. Returns what
-/// is left.
+/// Appends the bytes of a number after its first one, and the closing quote. Returns the rest.
 fn push_number<'a>(out: &mut Vec<u8>, text: &'a [u8]) -> &'a [u8]
     requires { vec_len out.old + length text.now + 1 ≤ vec_capacity out.old }
     ensures marked { out.new.items ++ marked_from outside result.now
@@ -120,15 +121,15 @@ fn continues_number(byte: u8) -> bool
     matches!(byte, b'0'..=b'9' | b'-' | b'+' | b'.' | b'e' | b'E')
 }
 
-/// What follows this mark in a string of a marked text: `s` for a text, `n` for a number. `None`
-/// where the string has another.
+/// Returns the rest of a string of a marked text after this mark, `s` for a text or `n` for a
+/// number. `None` if the string has another mark or none.
 pub fn after_mark(text: &str, mark: u8) -> Option<&str>
     requires { mark < 128 }
     ensures { option_map (λ t. t.now) result ≡ after_mark mark text.now }
 {
     let (first, others) = text.as_bytes().split_first()?;
     if *first == mark {
-        // What follows a byte of ASCII in UTF-8 is UTF-8.
+        // The rest of a UTF-8 text after an ASCII byte is UTF-8.
         Some(unsafe { std::str::from_utf8_unchecked(others) })
     } else {
         None

@@ -12,13 +12,13 @@ use bumpalo::Bump;
 use json::{Reader, Scratch, Token};
 use std::collections::BTreeMap;
 
-/// How deep arrays and objects may nest: as deep as `serde_json` reads, by its definition.
+/// The maximum depth of nested arrays and objects: that of `serde_json`, by its definition.
 const MAX_DEPTH: usize = 127;
 
-/// The value of a marked text: as `serde_json` has it, but with its strings borrowed, and without
-/// numbers, of which a marked text has none.
-// With `Bool(bool)` in place of `False` and `True` a value would have a byte next to its tag, and be moved in
-// two pieces that overlap, for which the processor waits.
+/// The value of a marked text, as `serde_json` defines it, but with its strings borrowed. It has no
+/// numbers, since a marked text has none.
+// With `Bool(bool)` in place of `False` and `True` a value would have a byte next to its tag, and
+// be moved in two overlapping pieces, for which the processor waits.
 #[derive(Drop)]
 pub(crate) enum MarkedValue<'a> {
     Null,
@@ -29,8 +29,8 @@ pub(crate) enum MarkedValue<'a> {
     Object(BTreeMap<&'a str, MarkedValue<'a>, &'a Bump>),
 }
 
-/// Reads a marked text: `NotJson` where `serde_json` refuses it. A string without escapes is borrowed from
-/// the text, one with escapes stands in `scratch`, and arrays and objects stand in `arena`.
+/// Reads a marked text. Returns `NotJson` if `serde_json` refuses it. A string without escapes is
+/// borrowed from the text, one with escapes from `scratch`. Arrays and objects are in `arena`.
 pub(crate) fn read_marked<'a>(
     arena: &'a Bump,
     text: &'a str,
@@ -81,13 +81,13 @@ fn read_value<'a>(
             Ok(MarkedValue::Object(read_members(arena, reader, depth - 1)?))
         }
         Token::EndObject | Token::EndArray | Token::Key(_) | Token::Bad => Err(ReadFault::NotJson),
-        // Proved not to come: a marked text has no number.
+        // Proved unreachable: a marked text has no number.
         Token::Number(_) => Err(ReadFault::NotJson),
     }
 }
 
-// It and `read_members` aren't inlined: `read_value` clears its variables whenever it is entered, and
-// without theirs it has few.
+// This and `read_members` aren't inlined: `read_value` clears its variables on each entry, and
+// would have theirs as well.
 #[cycle(read)]
 #[inline(never)]
 fn read_items<'a>(

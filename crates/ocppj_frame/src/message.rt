@@ -20,7 +20,7 @@ pub enum MessageType {
     Other,
 }
 
-/// The type that the first element names, where that is a whole number.
+/// Returns the type in the first element, if that is a whole number.
 pub(crate) fn message_type(element: Option<Payload<'_>>) -> Option<MessageType>
     ensures { result ≡ message_type (option_map tree_in element.entry) }
 {
@@ -42,7 +42,7 @@ fn type_of_number(number: i32) -> MessageType
     }
 }
 
-/// A copy of the id in the second element.
+/// Copies the id in the second element. `None` if that isn't a text, or is too long for an id.
 pub(crate) fn message_id(
     alloc: Global,
     element: Option<Payload<'_>>,
@@ -58,8 +58,8 @@ pub(crate) fn message_id(
     MessageId::try_copy(alloc, text)
 }
 
-/// The payload in an element: the empty object where it is absent or null, `None` where it is
-/// no object. Needs no memory.
+/// Returns the payload in an element: the empty object if it is absent or null, `None` if it isn't
+/// an object. Allocates nothing.
 pub(crate) fn payload_of<'a>(arena: &'a Bump, element: Option<Payload<'a>>) -> Option<Payload<'a>>
     ensures value { option_map tree_in result ≡ payload_of (option_map tree_in element.entry) }
     ensures object { IfSome result (λ payload. is_object (tree_in payload) ≡ true) }

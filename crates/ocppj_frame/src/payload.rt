@@ -20,8 +20,8 @@ pub struct Payload<'memory> {
     ghost marked: { is_some (tree_of (view value)) ≡ true },
 }
 
-/// A node of a tree with all that is below it. It borrows the tree; its texts live as long as the memory
-/// that they were read into (`'memory`).
+/// A node of a tree, with everything below it. It borrows the tree. Its texts live as long as the
+/// memory that they were read into (`'memory`).
 #[derive(Clone, Copy)]
 pub struct Node<'tree, 'memory> {
     value: &'tree MarkedValue<'memory>,

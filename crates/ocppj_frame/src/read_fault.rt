@@ -1,8 +1,8 @@
-//! Why a marked text has no value.
+//! The faults of reading a marked text.
 use json::Invalid;
 use std::alloc::{AllocError, AllocFailed};
 
-/// Why a marked text has no value.
+/// The reason why a marked text has no value.
 #[derive(Clone, Copy, Drop)]
 pub(crate) enum ReadFault {
     /// `serde_json` refuses the text.

@@ -1,4 +1,4 @@
-//! Whether a value that was read from a marked text is a tree.
+//! Checks that a value read from a marked text is a tree.
 ghost use Rattle.std.specs.Prelude.{◌≡◌, is_some};
 ghost use Rattle.ocppj_frame.specs.Read.{fields_of, name_of_key, tree_of, tree_of_string, trees_of};
 ghost use Rattle.ocppj_frame.specs.View.{items_view, members_view, view};
@@ -9,7 +9,8 @@ use bumpalo::Bump;
 use ocpp_scalars::is_number_text;
 use std::collections::BTreeMap;
 
-/// Whether each string and each key of the value is marked, and each number has RFC 8259's grammar.
+/// Returns whether each string and key of the value is marked, and each number has RFC 8259's
+/// grammar.
 #[cycle(tree)]
 pub(crate) fn is_tree(value: &MarkedValue<'_>) -> bool
     ensures { result ≡ is_some (tree_of (view value.now)) }

@@ -1,4 +1,4 @@
-//! Frames, written: each as one text, or appended to a text in parts.
+//! Writes frames: each as one text, or in parts appended to a text.
 ghost use Rattle.std.specs.Prelude.{◌≡◌, IfOk, string_bytes};
 ghost use Rattle.json.specs.Print.{quoted};
 ghost use Rattle.ocpp_scalars.specs.Appending.{Appends};
@@ -8,7 +8,7 @@ use json::Writer;
 use std::alloc::{AllocError, Global};
 use std::mem;
 
-/// The text of a CALL, `[2,"id","action",payload]`, whose payload is given as its text
+/// Returns the text of a CALL, `[2,"id","action",payload]`. The payload is given as its text
 /// (OCPP-J 1.6, section 4.2.1).
 pub fn write_call(
     alloc: Global,
@@ -25,7 +25,7 @@ pub fn write_call(
     Ok(out)
 }
 
-/// The text of a CALLRESULT, `[3,"id",payload]`, whose payload is given as its text
+/// Returns the text of a CALLRESULT, `[3,"id",payload]`. The payload is given as its text
 /// (OCPP-J 1.6, section 4.2.2).
 pub fn write_result(alloc: Global, id: &str, payload: &str) -> Result<String, AllocError>
     ensures { IfOk result (λ s. string_bytes s ≡ call_result_text id.now payload.now) }
@@ -37,7 +37,7 @@ pub fn write_result(alloc: Global, id: &str, payload: &str) -> Result<String, Al
     Ok(out)
 }
 
-/// The text of a CALLERROR without details, `[4,"id","code","description",{}]`
+/// Returns the text of a CALLERROR without details, `[4,"id","code","description",{}]`
 /// (OCPP-J 1.6, section 4.2.3).
 pub fn write_error(
     alloc: Global,
@@ -53,7 +53,7 @@ pub fn write_error(
     Ok(out)
 }
 
-/// Appends what stands before a CALL's payload, `[2,"id","action",`.
+/// Appends the part of a CALL before its payload, `[2,"id","action",`.
 pub fn push_call_head(out: &mut String, id: &str, action: &str) -> Result<(), AllocError>
     ensures { Appends result (string_bytes out.old) (string_bytes out.new)
         (call_head id.now action.now) }
@@ -65,7 +65,7 @@ pub fn push_call_head(out: &mut String, id: &str, action: &str) -> Result<(), Al
     out.push_str(",")
 }
 
-/// Appends what stands before a CALLRESULT's payload, `[3,"id",`.
+/// Appends the part of a CALLRESULT before its payload, `[3,"id",`.
 pub fn push_result_head(out: &mut String, id: &str) -> Result<(), AllocError>
     ensures { Appends result (string_bytes out.old) (string_bytes out.new) (result_head id.now) }
 {
@@ -74,7 +74,7 @@ pub fn push_result_head(out: &mut String, id: &str) -> Result<(), AllocError>
     out.push_str(",")
 }
 
-/// Appends what stands after a payload, `]`.
+/// Appends the part of a frame after its payload, `]`.
 pub fn push_frame_end(out: &mut String) -> Result<(), AllocError>
     ensures { Appends result (string_bytes out.old) (string_bytes out.new) frame_end }
 {
@@ -104,12 +104,12 @@ pub fn push_error(
 pub fn push_string(out: &mut String, text: &str) -> Result<(), AllocError>
     ensures { Appends result (string_bytes out.old) (string_bytes out.new) (quoted text.now) }
 {
-    // The library writes onto bytes that it owns: the text's own, so that nothing is copied.
+    // The library's writer owns its bytes. It gets those of the text, so nothing is copied.
     let alloc = *out.allocator();
     let bytes = mem::replace(out, String::new(alloc)).into_bytes();
     let mut writer = Writer::new(bytes);
     let written = writer.string(text);
-    // A text with a JSON string behind it is UTF-8.
+    // A text followed by a JSON string is UTF-8.
     *out = unsafe { String::from_utf8_unchecked(writer.into_inner()) };
     written
 }

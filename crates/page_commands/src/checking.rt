@@ -11,9 +11,8 @@ use std::alloc::{AllocError, AllocGlobal, Global};
 use std::fs::File;
 use std::rt::{Clock, Files};
 
-/// Says everything that is wrong with the site of a file, with a file of keys, and with the script
-/// of standard input or of a file, or with the journal of a folder.
-/// Returns the exit status.
+/// Prints every fault in the site of a file, in a file of keys, and in the script of standard input
+/// or of a file, or the journal of a folder. Returns the exit status.
 pub fn check_file<R: Files<File = File> + Clock + Input + Print + Eprint + AllocGlobal>(
     rt: &R,
     checking: Checking<'_>,
@@ -21,7 +20,7 @@ pub fn check_file<R: Files<File = File> + Clock + Input + Print + Eprint + Alloc
     let alloc = rt.alloc();
     let bytes = read_site_bytes(rt, checking.site)?;
     let mut findings = check_site(alloc, bytes.as_slice())?;
-    // What is wrong with the site file is printed even if the script can't be read.
+    // The faults of the site file are printed even if the script can't be read.
     let page = site_page(alloc, checking.site, findings.as_slice())?;
     print_page(rt, page.as_str())?;
     let mut of_keys = check_keys(rt, checking.keys, bytes.as_slice(), findings.as_slice())?;
@@ -42,8 +41,8 @@ pub fn check_file<R: Files<File = File> + Clock + Input + Print + Eprint + Alloc
     Ok(exit_status(findings.as_slice()))
 }
 
-/// Prints what is found in the file of keys, if one is named, with the site of the site file.
-/// Returns what is found.
+/// Prints the findings in the file of keys, if one is named, given the site of the site file.
+/// Returns the findings.
 fn check_keys<R: Files<File = File> + Print + Eprint + AllocGlobal>(
     rt: &R,
     path: Option<&str>,
@@ -63,9 +62,9 @@ fn check_keys<R: Files<File = File> + Print + Eprint + AllocGlobal>(
     Ok(findings)
 }
 
-/// The site of a site file, where one is read from it. Else what is found in the file says why not.
+/// Returns the site of a site file, if it can be read. Otherwise the findings say why not.
 fn site_of(alloc: Global, bytes: &[u8], findings: &[Finding]) -> Result<Option<Site>, AllocError> {
-    // None would be read.
+    // Reading a file with such findings would fail.
     if exit_status(findings) == 1 {
         return Ok(None);
     }
@@ -76,8 +75,8 @@ fn site_of(alloc: Global, bytes: &[u8], findings: &[Finding]) -> Result<Option<S
     }
 }
 
-/// The boots of the points of a site, as a folder keeps them, each at the place of its point; none
-/// where no folder is named.
+/// Returns the boots of the points of a site, as a folder keeps them, each at the index of its
+/// point. Empty if no folder is named.
 fn boots_of<R: Files<File = File> + Eprint + AllocGlobal>(
     rt: &R,
     source: Source<'_>,

@@ -28,8 +28,8 @@ use std::fs::File;
 use std::rt::{Clock, Files};
 use sweep_compiler::{Turns, explain};
 
-/// Says why the limits of a connector are what they are after a script or a journal. Faults of the
-/// names of a picture and a zone, the instants and the site file, and what isn't in it, are reported
+/// Explains the limits of a connector after a script or a journal. Faults of the names of a picture
+/// and a zone, of the instants and of the site file, and names that aren't in it, are reported
 /// before the script is read. Returns the exit status.
 pub fn explain_file<R: Files<File = File> + Input + Print + Eprint + Clock + AllocGlobal>(
     rt: &R,
@@ -76,7 +76,7 @@ pub fn explain_file<R: Files<File = File> + Input + Print + Eprint + Clock + All
     Ok(page_status(followed.is_as_wanted()))
 }
 
-/// Explains what a point has after the script of standard input or of a file. Returns the exit
+/// Explains the state of a point after the script of standard input or of a file. Returns the exit
 /// status.
 fn explain_script<R: Files<File = File> + Input + Print + Eprint + AllocGlobal>(
     rt: &R,
@@ -93,8 +93,8 @@ fn explain_script<R: Files<File = File> + Input + Print + Eprint + AllocGlobal>(
     Ok(page_status(is_whole))
 }
 
-/// Says where a journal has changes at the point that are later than the first instant: what is
-/// explained isn't what the point had then.
+/// Prints a note if a journal has changes at the point that are later than the first instant: the
+/// explained state isn't that of the point at that instant.
 fn note_later_changes<R: Eprint + AllocGlobal>(
     rt: &R,
     point: &str,
@@ -112,7 +112,7 @@ fn note_later_changes<R: Eprint + AllocGlobal>(
     Ok(())
 }
 
-/// A picture that is wanted.
+/// A requested picture.
 #[derive(Clone, Copy)]
 struct Picture<'a> {
     path: &'a str,
@@ -126,14 +126,14 @@ struct Presentation<'a> {
     screen: Screen,
     unit: Unit,
     picture: Option<Picture<'a>>,
-    /// The zone in which the table has its times.
+    /// The zone of the times in the table.
     zone: Option<&'a str>,
-    /// How far its clock is ahead of UTC.
+    /// How far the zone's clock is ahead of UTC.
     shifts: &'a [ClockShift],
 }
 
 impl<'a> Presentation<'a> {
-    /// The clock of the zone that is named.
+    /// Returns the clock of the named zone.
     fn zone_clock(&self) -> Option<ZoneClock<'a>> {
         let name = self.zone?;
         Some(ZoneClock {
@@ -143,7 +143,7 @@ impl<'a> Presentation<'a> {
     }
 }
 
-/// The picture that the options want.
+/// Returns the picture that the options request.
 fn picture_of<'a>(explaining: &Explaining<'a>) -> Result<Option<Picture<'a>>, ProgramFault> {
     let Some(path) = explaining.picture else {
         return Ok(None);
@@ -152,7 +152,7 @@ fn picture_of<'a>(explaining: &Explaining<'a>) -> Result<Option<Picture<'a>>, Pr
     Ok(Some(Picture { path, form }))
 }
 
-/// Refuses a point that the site hasn't, and a connector that the point hasn't.
+/// Refuses a point that the site lacks, and a connector that the point lacks.
 fn check_connector(site: &Site, point: &str, connector: u32) -> Result<(), ProgramFault> {
     let Some(place) = site.place_of(point) else {
         return Err(ProgramFault::NoSuchPoint);
@@ -166,8 +166,8 @@ fn check_connector(site: &Site, point: &str, connector: u32) -> Result<(), Progr
     Ok(())
 }
 
-/// The instant from which on is explained: the present one, or the one that is named. Says where that
-/// has no zone.
+/// Returns the instant at which the explained time begins: the present or the named one. Prints a
+/// note if that has no zone.
 fn start_of<R: Clock + Eprint>(rt: &R, text: &str) -> Result<Instant, ProgramFault> {
     let Ok(start) = Start::of(text) else {
         return Err(ProgramFault::NoInstant);
@@ -181,12 +181,12 @@ fn start_of<R: Clock + Eprint>(rt: &R, text: &str) -> Result<Instant, ProgramFau
     }
 }
 
-/// What the options ask, from this instant on.
+/// Returns the request of the options, from this instant on.
 fn ask_of(explaining: &Explaining<'_>, start: Instant) -> Result<Ask, ProgramFault> {
     let Some(duration) = read_duration(explaining.duration) else {
         return Err(ProgramFault::NoDuration);
     };
-    // clap has seen to it that the number is in range.
+    // clap has checked that the number is in range.
     let Ok(connector) = u32::try_from(explaining.connector) else {
         return Err(ProgramFault::NoSuchConnector);
     };
@@ -196,7 +196,7 @@ fn ask_of(explaining: &Explaining<'_>, start: Instant) -> Result<Ask, ProgramFau
     }
 }
 
-/// Prints the explanation of a request by what the point has in this state, and writes its picture.
+/// Prints the explanation of a request by the point's state, and writes its picture.
 fn print_explained<R: Files + Print + Eprint + AllocGlobal>(
     rt: &R,
     presentation: Presentation<'_>,
@@ -206,8 +206,8 @@ fn print_explained<R: Files + Print + Eprint + AllocGlobal>(
     let Some(book) = machine.book_of(presentation.explaining.point) else {
         return Err(ProgramFault::NoSuchPoint);
     };
-    // A book has the connectors of its point in the site: that is known from the check before, though
-    // no clause says it.
+    // A book has the connectors of its point in the site. The check before shows this, though no
+    // clause says it.
     if ask.connector > book.connectors() {
         return Err(ProgramFault::NoSuchConnector);
     }

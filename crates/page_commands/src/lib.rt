@@ -1,5 +1,5 @@
-//! The commands that read a site and what was done there, and print pages of it: `replay`, `check`,
-//! `show` and `explain`.
+//! The commands that read a site and its history, and print pages on it: `replay`, `check`, `show`
+//! and `explain`.
 #![tactic(auto)]
 
 mod checking;

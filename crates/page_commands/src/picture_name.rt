@@ -1,4 +1,4 @@
-//! The name of a picture's file, which says in which form it is drawn.
+//! The name of a picture's file, which gives the form of the picture.
 
 use command_io::ProgramFault;
 
@@ -10,7 +10,7 @@ pub enum PictureForm {
     Html,
 }
 
-/// The form that the name of a picture's file asks for by its ending.
+/// Returns the form that the name of a picture's file requests by its ending.
 pub fn picture_form(path: &str) -> Result<PictureForm, ProgramFault> {
     if path.ends_with(".svg") {
         return Ok(PictureForm::Svg);

@@ -37,8 +37,8 @@ fn replay_from<R: Print + AllocGlobal, S: Read>(
     match replay(rt.alloc(), script, &mut writer, site) {
         Ok(summary) => Ok(summary),
         Err(fault) => {
-            // What was answered before the fault is worth having; where it can't be written, the
-            // fault stands.
+            // The answers before the fault are worth having. If they can't be written, this fault
+            // is still the one reported.
             let _ = writer.flush();
             Err(ProgramFault::Replay(fault))
         }

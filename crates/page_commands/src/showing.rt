@@ -13,7 +13,7 @@ use std::alloc::AllocGlobal;
 use std::fs::File;
 use std::rt::{Clock, Files};
 
-/// Shows what each point of a site has after a script or a journal. Returns the exit status.
+/// Shows the state of each point of a site after a script or a journal. Returns the exit status.
 pub fn show_file<R: Files<File = File> + Input + Print + Eprint + Clock + AllocGlobal>(
     rt: &R,
     showing: Showing<'_>,
@@ -37,7 +37,7 @@ pub fn show_file<R: Files<File = File> + Input + Print + Eprint + Clock + AllocG
     Ok(page_status(followed.is_as_wanted()))
 }
 
-/// Shows what each point has after the script of standard input or of a file. Returns the exit
+/// Shows the state of each point after the script of standard input or of a file. Returns the exit
 /// status.
 fn show_script<R: Files<File = File> + Input + Print + Eprint + AllocGlobal>(
     rt: &R,

@@ -1,9 +1,9 @@
-//! Which calls a point hasn't confirmed.
+//! The calls that a point hasn't confirmed.
 
 use ocpp_scalars::{Instant, push_instant};
 use std::alloc::{AllocError, AllocGlobal};
 
-/// Says how many calls a point hasn't confirmed, and since when, if there are any.
+/// Prints how many calls a point hasn't confirmed, and since when, if there are any.
 pub fn say_unconfirmed<R: Eprint + AllocGlobal>(
     rt: &R,
     point: &str,

@@ -16,10 +16,10 @@ use time_zones::{ZoneFault, clock_shifts, is_zone_name};
 /// The folder of the system's time zones.
 const ZONES: &str = "/usr/share/zoneinfo/";
 
-/// The most bytes of a zone's file.
+/// The largest size of a zone's file, in bytes.
 const MAX_ZONE_BYTES: usize = 1_048_576;
 
-/// The zone that the options want for the table.
+/// Returns the zone that the options request for the table.
 pub fn zone_name<'a>(explaining: &Explaining<'a>) -> Result<Option<&'a str>, ProgramFault> {
     let Some(name) = explaining.zone else {
         return Ok(None);
@@ -27,14 +27,15 @@ pub fn zone_name<'a>(explaining: &Explaining<'a>) -> Result<Option<&'a str>, Pro
     if explaining.json || explaining.picture.is_some() {
         return Err(ProgramFault::ZoneElsewhere);
     }
+    // Any other name, such as `../../etc/passwd`, could lead out of the folder.
     if !is_zone_name(name) {
         return Err(ProgramFault::NoZone);
     }
     Ok(Some(name))
 }
 
-/// How far the clock of a zone is ahead of UTC in the time of a request; nothing where no zone is named.
-/// A file that can't be read, or is no zone's, is named on standard error.
+/// Returns how far the clock of a zone is ahead of UTC in the time of a request; nothing if no zone
+/// is named. Prints to standard error the name of a file that can't be read or isn't a zone's.
 pub fn read_clock_shifts<R: Files<File = File> + Eprint + AllocGlobal>(
     rt: &R,
     zone: Option<&str>,

@@ -1,4 +1,4 @@
--- That each change of a book leaves a book.
+-- Each change of a book keeps its invariant.
 use Rattle.std.proofs.Common.{◌≡◌, ℕ, ◌+◌, ◌-◌, ◌<◌, ◌≤◌, ◌==◌, ◌^◌, ◌≢◌, nat_le, zero, suc, ℤ, Bool, true, false, not, ◌&&◌, cond, refl, sym, subst, ◌∙◌, ap, List, [], ◌∷◌, ◌++◌, length, set, filter, Option, Some, None, option_map, IsSome, arith}
 use Rattle.std.specs.List.{AllByRecursion, position}
 use Rattle.std.proofs.lemmas.List.{length-set, length-replicate}
@@ -18,7 +18,7 @@ use Rattle.point_book.specs.Changes.{transaction_refusal, rows_after_stop, book_
 
 -- ---- lists
 
--- what a filter leaves has what the test and the list had
+-- each element that a filter leaves has the properties of the list and of the test
 all-filtered : {X : Type 0} (P Q : X → Type 0) (test : X → Bool) → ((x : X) → P x → test x ≡ true → Q x) → (xs : List X) → AllByRecursion P xs → AllByRecursion Q (filter test xs)
 all-filtered P Q test each [] all = tt
 all-filtered {X = X} P Q test each (x ∷ xs) all = go (test x) refl (all-filtered P Q test each xs all.1)
@@ -31,7 +31,7 @@ all-push : {X : Type 0} (P : X → Type 0) (xs : List X) (x : X) → AllByRecurs
 all-push P [] x all here = (here, tt)
 all-push P (y ∷ ys) x all here = (all.0, all-push P ys x all.1 here)
 
--- ---- which connectors are active
+-- ---- active connectors
 
 -- a transaction that begins leaves the active connectors active
 active-set_some : (slots : List (Option Transaction)) (place connector : ℕ) (transaction : Transaction)
@@ -44,7 +44,7 @@ active-set_some (slot ∷ slots) (suc place) zero transaction active = active
 active-set_some (slot ∷ slots) (suc place) (suc zero) transaction active = active
 active-set_some (slot ∷ slots) (suc place) (suc (suc before)) transaction active = active-set_some slots place (suc before) transaction active
 
--- one that ends leaves those of other connectors active
+-- a transaction that ends leaves those of other connectors active
 active-set_none : (slots : List (Option Transaction)) (place connector : ℕ) → connector ≢ suc place
     → IsSome (active_on slots connector) → IsSome (active_on (set slots place None) connector)
 active-set_none [] place connector other active = active
@@ -64,7 +64,7 @@ row-started slots place transaction row is = record {
   in_transaction = λ tx. active-set_some slots place row.connector transaction (is.in_transaction tx);
 }
 
--- a TxProfile that stays where those of a connector go stands at another
+-- a TxProfile that remains when those of a connector are removed is at another connector
 other-connector : (connector : ℕ) (row : Row) → not (is_tx_profile_at connector row) ≡ true → is_tx row.profile.purpose ≡ true → (row.connector == connector) ≡ false
 other-connector connector row stays tx = go (is_tx row.profile.purpose) (row.connector == connector) tx stays
   where
@@ -113,7 +113,7 @@ book-installed book row is has allowed = record {
       });
 }
 
--- whichever profiles go, those that stay may stand where they do
+-- whichever profiles are removed, the remaining ones may stay where they are
 pub book-filtered : (book : BookState) (test : Row → Bool) → IsBook book → IsBook (record book { rows = filter test book.rows })
 book-filtered book test is = record {
   few = is.few;
@@ -121,7 +121,7 @@ book-filtered book test is = record {
   rows = all-filtered _ _ test (λ (r : Row) here stays. here) book.rows is.rows;
 }
 
--- a connector is active once a transaction was put in its slot
+-- a connector is active after a transaction was put in its slot
 active-placed : (slots : List (Option Transaction)) (place : ℕ) (transaction : Transaction)
     → place < length slots
     → IsSome (active_on (set slots place (Some transaction)) (suc place))
@@ -130,7 +130,7 @@ active-placed (slot ∷ slots) zero transaction has = refl
 active-placed (slot ∷ slots) (suc place) transaction has =
     active-placed slots place transaction (omega (arith, has))
 
--- a row is installed, or given up
+-- a row is installed, or dropped
 all-installed : (P : Row → Type 0) (rows : List Row) (row : Row) → AllByRecursion P rows → P row
     → AllByRecursion P (installed_if_room rows row)
 all-installed P rows row all here = go (nat_le (length (installed rows row)) max_rows)
@@ -140,7 +140,7 @@ all-installed P rows row all here = go (nat_le (length (installed rows row)) max
         (all-filtered P P _ (λ (r : Row) (is : P r) stays. is) rows all) here
     go false = all
 
--- also where a transaction begins
+-- the same for the start of a transaction
 pub book-begun : (book : BookState) (connector : ℕ) (begin : Begin) (id : ℤ) (profile : Option Profile)
     → IsBook book → 0 < connector → connector ≤ length book.ceilings
     → IsBook (record book {

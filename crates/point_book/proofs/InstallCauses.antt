@@ -63,7 +63,7 @@ module _ (profile : Profile) (active : Option ℤ) (room : Option Refusal) (late
         inr ((λ names. differs names.of_transaction), rest),
       )
 
-  -- an active transaction, and the one that is asked
+  -- an active transaction, and the requested one
   module _ (running : ℤ) (is : active ≡ Some running) (purpose : profile.purpose ≡ TxProfile) where
     one_active : ¬ LacksTransaction active profile
     one_active lacks = let both : Some running ≡ None = sym is ∙ lacks.inactive in cc

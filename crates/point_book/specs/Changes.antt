@@ -1,5 +1,6 @@
--- What an install, a clear, a start and a stop change of a charge point's book, and why an install is
--- refused. `record book { .. }` is the book with these fields changed and all else as it was.
+-- The effect of an install, a clear, a start and a stop on a charge point's book, and the refusals
+-- of an install. `record book { .. }` is the book with these fields changed and all others
+-- unchanged.
 use Rattle.std.specs.Prelude.{ℕ, ◌≡◌, ◌≢◌, ◌<◌, nat_le, ℤ, Bool, false, not, is_none, List, [], ◌∷◌, length, Option, Some, None, if◌then◌else◌}
 use Rattle.std.specs.Ordering.{int_eq}
 use Rattle.ocpp_scalars.specs.declared.refusal.Refusal.{Refusal}
@@ -21,12 +22,12 @@ use Rattle.point_book.specs.Book.{BookState, active_on}
 
 -- ---- SetChargingProfile (OCPP 1.6, 5.16)
 
--- a TxProfile where no transaction is active
+-- a TxProfile at a connector without an active transaction
 pub record LacksTransaction (active : Option ℤ) (profile : Profile) : Type 0 where
   pub of_transaction : profile.purpose ≡ TxProfile
   pub inactive : active ≡ None
 
--- a TxProfile whose transactionId is another than the active transaction's
+-- a TxProfile whose transactionId isn't the active transaction's
 pub record NamesAnother (active : Option ℤ) (profile : Profile) : Type 0 where
   pub of_transaction : profile.purpose ≡ TxProfile
   pub asked : ℤ
@@ -39,9 +40,9 @@ pub record NamesAnother (active : Option ℤ) (profile : Profile) : Type 0 where
 abbrev pub active_for : BookState → Row → Option ℤ
 active_for book row = active_on book.transactions row.connector
 
--- Why a profile isn't installed, in the order in which the causes are checked. A TxProfile is for
--- the transaction that is active at its connector (3.13.1). After an install there are no more
--- profiles than the limit.
+-- The causes for which a profile isn't installed, in the order in which they are checked. A
+-- TxProfile is for the transaction that is active at its connector (3.13.1). After an install there
+-- are at most as many profiles as the limit.
 abbrev pub install_causes : BookState → Row → List Cause
 install_causes book row =
     (NoTransaction because LacksTransaction (active_for book row) row.profile)
@@ -64,7 +65,7 @@ transaction_refusal active profile =
     else if names_another profile.transaction active then Some OtherTransaction
     else None
 
--- no more profiles than the limit stand after an install
+-- there are at most as many profiles as the limit after an install
 abbrev pub room_refusal : List Row → Row → Option Refusal
 room_refusal rows row = if nat_le (length (installed rows row)) max_rows then None else Some TooManyProfiles
 
@@ -72,19 +73,19 @@ abbrev pub first_cause : Option Refusal → Option Refusal → Option Refusal
 first_cause None next = next
 first_cause (Some cause) next = Some cause
 
--- why a profile isn't installed: by the law `installs` the first of these causes
+-- the refusal of a profile: by the law `installs` the first of these causes
 abbrev pub install_refusal : BookState → Row → Option Refusal
 install_refusal book row =
     first_cause
     (transaction_refusal (active_on book.transactions row.connector) row.profile)
     (room_refusal book.rows row)
 
--- the first cause, or else that memory ran out
+-- the first cause, or OutOfMemory if there is none
 abbrev pub IsCause : Option Refusal → Refusal → Type 0
 IsCause None refusal = refusal ≡ OutOfMemory
 IsCause (Some cause) refusal = refusal ≡ cause
 
--- nothing has changed, and the row came back
+-- nothing has changed, and the row is returned
 pub record IsRefused (old : BookState) (row : Row) (refused : Refusal × Row) (new : BookState) : Type 0 where
   pub cause : IsCause (install_refusal old row) refused.0
   pub unchanged : new ≡ old
@@ -100,8 +101,8 @@ book_cleared book criteria = record book { rows = cleared book.rows criteria }
 
 -- ---- StartTransaction (OCPP 1.6, 4.8)
 
--- A new transaction ends the one before it at its connector, and so that one's TxProfiles (3.13).
--- It may begin with a profile of its own (5.11), which is installed then.
+-- A new transaction ends the previous one at its connector, and with it that one's TxProfiles
+-- (3.13). It may begin with a profile of its own (5.11), which is installed then.
 abbrev pub rows_started : List Row → ℕ → Begin → ℤ → Option Profile → List Row
 rows_started rows connector begin id profile =
     rows_begun rows connector begin.timestamp id profile
@@ -118,7 +119,7 @@ book_started book connector begin id profile = record book {
   transactions = started book.transactions connector begin id;
 }
 
--- memory ran out: nothing has changed, and what began came back with its profile
+-- memory ran out: nothing has changed, and the StartTransaction is returned with its profile
 pub record IsStartRefused (old : BookState) (begin : Begin) (profile : Option Profile)
     (refused : Refusal × Begin × Option Profile) (new : BookState)
     : Type 0 where
@@ -129,7 +130,7 @@ pub record IsStartRefused (old : BookState) (begin : Begin) (profile : Option Pr
 
 -- ---- StopTransaction (OCPP 1.6, 4.10)
 
--- the end of a transaction is the end of its TxProfiles (3.13)
+-- the TxProfiles of a transaction end with it (3.13)
 abbrev pub rows_after_stop : Option ℕ → List Row → List Row
 rows_after_stop None rows = rows
 rows_after_stop (Some connector) rows = without_transaction_profiles rows connector

@@ -23,14 +23,16 @@ use std::marker::Model;
 use std::sync::ArcSlice;
 use transactions::{ActiveTable, Began, Begin, Transaction};
 
-/// What the central system keeps of a charge point: its ceilings, its profiles and its active
-/// transactions. Every profile stands at connector 0 or at one that the point has, and every
-/// TxProfile at one with an active transaction.
+/// The state of a charge point: its ceilings, its profiles and its active transactions. Every
+/// profile is at connector 0 or at one that the point has, and every TxProfile at one with an
+/// active transaction.
 #[derive(Drop)]
 pub struct PointBook {
     /// The point's ceiling, in tenths of A or W.
     ceiling: u32,
-    /// The ceilings of connectors 1, 2, .., in tenths. Copies of the book share them.
+    /// The ceilings of connectors 1, 2, .., in tenths.
+    // Shared, since they never change: the first change after a request or an audit copies the
+    // book.
     ceilings: ArcSlice<u32>,
     rows: Rows,
     transactions: ActiveTable,
@@ -58,8 +60,9 @@ impl Model for PointBook {
 }
 
 impl PointBook {
-    /// The book of a point with these ceilings, in tenths, and with neither profiles nor
-    /// transactions. More connectors than fit a `u32` are answered as out of memory.
+    /// Makes the book of a point with these ceilings, in tenths, and with neither profiles nor
+    /// transactions. If there are more connectors than a `u32` counts, it fails as if out of
+    /// memory.
     pub fn try_new(alloc: Global, ceiling: u32, ceilings: Vec<u32>) -> Result<PointBook, AllocError>
         ensures { IfOk result (λ book. book ≡ empty_book ceiling ceilings.items) }
     {
@@ -73,7 +76,7 @@ impl PointBook {
         })
     }
 
-    /// What the point has now, as limits are read from it.
+    /// Returns the state from which limits are computed.
     pub fn view(&self) -> View<'_>
         ensures state { point_state result ≡ state_of self.now }
         ensures connectors { length result.ceilings.now ≡ length self.now.ceilings }
@@ -88,8 +91,8 @@ impl PointBook {
         }
     }
 
-    /// The rows of a purpose that speak for a connector (chapter 3.13), by strictly falling stack
-    /// level, each once.
+    /// Returns the rows of a purpose that apply to a connector (chapter 3.13), by strictly falling
+    /// stack level, each once.
     pub fn candidates(&self, purpose: Purpose, connector: u32) -> Candidates<'_>
         ensures { AreByFallingLevel
             (candidates purpose self.now.rows connector)
@@ -98,15 +101,15 @@ impl PointBook {
         self.rows.candidates(purpose, connector)
     }
 
-    /// How many connectors the point has: they are numbered from 1.
+    /// Returns the number of connectors of the point; they are numbered from 1.
     pub fn connectors(&self) -> u32
         ensures { result ≡ length self.now.ceilings }
     {
         self.ceilings.len() as u32
     }
 
-    /// Why a row isn't installed, if memory lasts: the first cause of `NoTransaction`,
-    /// `OtherTransaction` and `TooManyProfiles`. Changes nothing.
+    /// Returns the cause for which a row isn't installed even with enough memory: the first of
+    /// `NoTransaction`, `OtherTransaction` and `TooManyProfiles`. Changes nothing.
     pub fn install_refusal(&self, row: &Row) -> Option<Refusal>
         ensures { result ≡ install_refusal self.now row.now }
     {
@@ -121,31 +124,32 @@ impl PointBook {
         }
     }
 
-    /// Whether a profile matches each criterion that is given (chapter 5.5).
+    /// Whether a profile matches each given criterion (chapter 5.5).
     pub fn has_match(&self, criteria: &Criteria) -> bool
         ensures { result ≡ list_any (matches criteria.now) self.now.rows }
     {
         self.rows.has_match(criteria)
     }
 
-    /// The connector of the active transaction of this number, or `None` where no active one has it.
+    /// Returns the connector of the active transaction of this number, or `None` if none has it.
     pub fn connector_of(&self, id: i32) -> Option<u32>
         ensures { result ≡ connector_of self.now.transactions id }
     {
         self.transactions.connector_of(id)
     }
 
-    /// The active transaction at a connector; connector 0 and one that the point lacks have none.
+    /// Returns the active transaction at a connector; connector 0 and connectors that the point
+    /// lacks have none.
     pub fn transaction_at(&self, connector: u32) -> Option<&Transaction>
         ensures { option_copied result ≡ active_at self.now.transactions connector }
     {
         self.transactions.active_at(connector)
     }
 
-    /// Installs a row, which takes the place of those with its chargingProfileId and of those with
-    /// its connector, purpose and stack level (chapter 5.16). On a refusal nothing changes and the
-    /// row comes back: the first cause of `NoTransaction`, `OtherTransaction` and
-    /// `TooManyProfiles`, or else `OutOfMemory`.
+    /// Installs a row, which replaces those with its chargingProfileId and those with its
+    /// connector, purpose and stack level (chapter 5.16). On a refusal nothing changes, and the row
+    /// is returned. The refusal is the first cause of `NoTransaction`, `OtherTransaction` and
+    /// `TooManyProfiles`, otherwise `OutOfMemory`.
     pub fn install(&mut self, row: Row) -> Result<(), (Refusal, Row)>
         requires { row.connector ≤ length self.old.ceilings }
         ensures allowed { OnOk result (install_refusal self.old row ≡ None) }
@@ -162,8 +166,8 @@ impl PointBook {
         }
     }
 
-    /// Removes the profiles that match each criterion that is given (chapter 5.5), and returns how
-    /// many they were.
+    /// Removes the profiles that match each given criterion (chapter 5.5), and returns their
+    /// number.
     pub fn clear(&mut self, criteria: &Criteria) -> usize
         ensures book { self.new ≡ book_cleared self.old criteria.now }
         ensures count { result + length self.new.rows ≡ length self.old.rows }
@@ -171,11 +175,11 @@ impl PointBook {
         self.rows.clear(criteria)
     }
 
-    /// Begins a transaction at a connector (chapter 4.8), in place of the one that is active there
-    /// and without that one's TxProfiles. With a profile (chapter 5.11) that is installed for the
-    /// transaction, from its timestamp on, unless there would be too many: then it is given up. A
-    /// retransmitted StartTransaction of the active one changes nothing. Only a profile wants
-    /// memory: on `OutOfMemory` nothing changes, and both come back.
+    /// Begins a transaction at a connector (chapter 4.8), ends the one that is active there, and
+    /// removes that one's TxProfiles. A given profile (chapter 5.11) is installed for the
+    /// transaction, from its timestamp on, unless there would be too many: then it is dropped. A
+    /// retransmitted StartTransaction of the active one changes nothing. Only a profile needs
+    /// memory: on `OutOfMemory` nothing changes, and both are returned.
     pub fn start(
         &mut self,
         connector: u32,
@@ -192,18 +196,20 @@ impl PointBook {
             (λ refused. IsStartRefused self.old begin profile refused self.new) }
         ensures certain { profile ≡ None → IsOk result }
     {
+        // First, since a retransmission must not remove the TxProfiles of its own transaction.
         if let Began::Repeat(id) = self.transactions.began(connector, &begin) {
             return Ok(Began::Repeat(id));
         }
         let moment = begin.timestamp;
+        // The rows before the transactions: only they can fail, and then both are unchanged.
         if let Err(profile) = self.rows.begin(connector, moment, next, profile) {
             return Err((Refusal::OutOfMemory, begin, profile));
         }
         Ok(self.transactions.start(connector, begin, next))
     }
 
-    /// What a start at a connector would be: a new transaction, or the active one's StartTransaction,
-    /// retransmitted. Changes nothing.
+    /// Returns the effect that a start at a connector would have: a new transaction, or a
+    /// retransmission of the active one's StartTransaction. Changes nothing.
     pub fn began(&self, connector: u32, begin: &Begin) -> Began
         ensures { result ≡ began self.now.transactions connector begin.now }
     {
@@ -211,8 +217,8 @@ impl PointBook {
     }
 
     /// Ends the transaction of this number (chapter 4.10), removes the TxProfiles of its connector
-    /// and returns that, or `None` where no active one has the number, and then nothing changes.
-    /// Allocates nothing.
+    /// and returns the connector. Returns `None` and changes nothing if no active transaction has
+    /// the number. Allocates nothing.
     pub fn stop(&mut self, id: i32) -> Option<u32>
         ensures connector { result ≡ connector_of self.old.transactions id }
         ensures book { self.new ≡ book_stopped self.old id }
@@ -222,11 +228,13 @@ impl PointBook {
         Some(connector)
     }
 
-    /// Whether two books are equal: in their ceilings, their profiles, in the same order and
-    /// installed at the same moments, and their transactions, the idTags with their letters' case.
+    /// Whether two books are equal: in their ceilings, their profiles with order and moments of
+    /// install, and their transactions. The case of idTags counts.
     pub fn same(&self, other: &PointBook) -> bool
         ensures { IsTrue result ↔ (self.now ≡ other.now) }
     {
+        // By value, also for an answer and its own request: the library has no `Arc::ptr_eq`, and
+        // an equal book is as good.
         self.ceiling == other.ceiling
             && self.ceilings.as_slice() == other.ceilings.as_slice()
             && self.rows.same(&other.rows)
@@ -234,14 +242,14 @@ impl PointBook {
     }
 
     /// Whether two books have equal transactions at their connectors: in their numbers, idTags with
-    /// their letters' case, meterStarts and starts.
+    /// case, meterStarts and starts.
     pub fn same_transactions(&self, other: &PointBook) -> bool
         ensures { IsTrue result ↔ (self.now.transactions ≡ other.now.transactions) }
     {
         self.transactions.same(&other.transactions)
     }
 
-    /// A copy.
+    /// Returns a copy.
     pub fn copy(&self) -> Result<PointBook, AllocError>
         ensures { IfOk result (λ copy. copy ≡ self.now) }
     {

@@ -1,6 +1,6 @@
-//! What the central system keeps of a charge point (OCPP 1.6, chapters 3.13, 4.8, 4.10, 5.5 and
-//! 5.16): its ceilings, its profiles and its active transactions. A TxProfile stands only where a
-//! transaction is active. What each call changes stands in `specs/Changes.antt`.
+//! The state of a charge point in the central system (OCPP 1.6, chapters 3.13, 4.8, 4.10, 5.5 and
+//! 5.16): its ceilings, its profiles and its active transactions. A TxProfile is only at a
+//! connector with an active transaction. `specs/Changes.antt` defines the effect of each call.
 #![tactic(auto)]
 
 mod book;

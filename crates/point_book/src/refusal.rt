@@ -1,4 +1,4 @@
-//! Which TxProfiles a point can't have.
+//! The refusals of TxProfiles.
 
 ghost use Rattle.std.specs.Prelude.{◌≡◌};
 ghost use Rattle.point_book.specs.Changes.{transaction_refusal};
@@ -6,14 +6,15 @@ ghost use Rattle.point_book.specs.Changes.{transaction_refusal};
 use ocpp_scalars::Refusal;
 use profile::{Profile, Purpose};
 
-/// Why a profile isn't for the active transaction, if one is, at its connector: `NoTransaction` or
-/// `OtherTransaction`, of a TxProfile alone.
+/// Returns the reason why a TxProfile isn't for the active transaction, if there is one, at its
+/// connector: `NoTransaction` or `OtherTransaction`. Profiles of other purposes have none.
 pub(crate) fn transaction_refusal(active: Option<i32>, profile: &Profile) -> Option<Refusal>
     ensures { result ≡ transaction_refusal active profile.now }
 {
     if profile.purpose != Purpose::TxProfile {
         return None;
     }
+    // A TxProfile without a transactionId is for whichever transaction is active.
     match (active, profile.transaction) {
         (None, _) => Some(Refusal::NoTransaction),
         (Some(active), Some(asked)) if asked != active => Some(Refusal::OtherTransaction),

@@ -1,4 +1,4 @@
--- The greatest of a list with one element more, and what it is.
+-- Lemmas on `greatest`: the greatest of a list with another last element, and its bounds.
 use Rattle.std.proofs.Common.{◌≡◌, ℕ, ◌<◌, ◌≤◌, nat_lt, Bool, true, false, cond, List, [], ◌∷◌, ◌++◌, Option, Some, None, refl, ap, sym, ◌∙◌, arith}
 use Rattle.std.specs.List.{AllByRecursion}
 use Rattle.std.proofs.lemmas.Bool.Decides.{nat_tests}
@@ -16,7 +16,7 @@ pub greatest-none : {X : Type 0} (key : X → ℕ) (xs : List X) → greatest ke
 greatest-none key [] none = refl
 greatest-none key (x ∷ xs) none = cc
 
--- where the greatest is at most a number, so is each element
+-- if the greatest is at most a number, so is each element
 none_above : {X : Type 0} (key : X → ℕ) (xs : List X) (x : X) (n : ℕ) → greatest key xs ≡ Some x → key x ≤ n → AllByRecursion (λ y. key y ≤ n) xs
 none_above key [] x n is low = tt
 none_above {X = X} key (y ∷ ys) x n is low = go (greatest key ys) refl is (λ z. none_above key ys z n)
@@ -34,7 +34,7 @@ none_above {X = X} key (y ∷ ys) x n is low = go (greatest key ys) refl is (λ 
         cases true less is = let same : z ≡ x = cc in let below : key z ≤ n = rw same low in let under : key y ≤ n = grind (arith, nat_tests) in (under, rest z best below)
         cases false less is = let same : y ≡ x = cc in let below : key y ≤ n = rw same low in let under : key z ≤ n = grind (arith, nat_tests) in (below, rest z best under)
 
--- where each element is at most a number, so is the greatest
+-- if each element is at most a number, so is the greatest
 best_low : {X : Type 0} (key : X → ℕ) (xs : List X) (x : X) (n : ℕ) → AllByRecursion (λ y. key y ≤ n) xs → greatest key xs ≡ Some x → key x ≤ n
 best_low key [] x n low is = cc
 best_low {X = X} key (y ∷ ys) x n low is = go (greatest key ys) refl is (λ z. best_low key ys z n low.1)

@@ -1,4 +1,5 @@
--- Fields make no profile by the first of their causes, and else the profile of these fields.
+-- Fields are refused by the first of their causes that holds; if none holds, they make the profile
+-- with these fields.
 use Rattle.std.proofs.Common.{◌≡◌, ℕ, ◌<◌, ◌≤◌, nat_le, nat_lt, Bool, true, false, ◌&&◌, ◌↔◌, inl, inr, List, [], ◌∷◌, ◌++◌, length, Option, Some, None, Result, Ok, Err, refl, ap, subst, arith, true≢false, leb-true}
 use Rattle.std.specs.Result.{result_err}
 use Rattle.std.proofs.lemmas.Bool.{and_parts}

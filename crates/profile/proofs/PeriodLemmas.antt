@@ -1,4 +1,4 @@
--- The order of periods, and the limit of one period more.
+-- The order of periods, and the limit with one more period.
 use Rattle.std.proofs.Common.{◌≡◌, ℕ, ◌+◌, ◌-◌, ◌<◌, ◌≤◌, zero, suc, nat_lt, nat_le, Bool, true, false, ◌&&◌, List, [], ◌∷◌, ◌++◌, length, take, drop, get_or, filter, Option, Some, None, option_map, cond, refl, sym, ◌∙◌, ap, arith}
 use Rattle.std.specs.List.{AllByRecursion, AllWithin}
 use Rattle.std.specs.List.Sorted.{IsPartitionPoint}
@@ -13,7 +13,7 @@ use Rattle.profile.specs.Periods.{are_in_order, limit_in}
 use Rattle.profile.specs.ByCases.Periods.{is_after, are_in_order_after}
 use Rattle.profile.proofs.GreatestLemmas.{greatest-push}
 
--- the order as a loop meets it is that of the definition
+-- the order that a loop checks is that of the definition
 next_after : (p : Period) (ps : List Period) → are_in_order_after (Some p.start) ps ≡ are_in_order (p ∷ ps)
 next_after p [] = refl
 next_after p (q ∷ ps) = ap (λ (b : Bool). nat_lt p.start q.start && b) (next_after q ps)
@@ -22,7 +22,7 @@ pub in_order-after : (ps : List Period) → are_in_order_after None ps ≡ are_i
 in_order-after [] = refl
 in_order-after (p ∷ ps) = next_after p ps
 
--- what is in order after a start is later than it
+-- in a list that is in order after a start, each period starts later than it
 later-end : (previous : ℕ) (ps : List Period) (q : Period) (qs : List Period) → are_in_order_after (Some previous) (ps ++ q ∷ qs) ≡ true → previous < q.start
 later-end previous [] q qs ordered =
     let parts = and_parts (nat_lt previous q.start) (are_in_order_after (Some q.start) qs) ordered in grind (arith, nat_tests)
@@ -31,21 +31,22 @@ later-end previous (p ∷ ps) q qs ordered =
     let after : p.start < q.start = later-end p.start ps q qs parts.1 in
     grind (arith, nat_tests)
 
--- of periods in order each one before a period starts earlier
+-- in a list of periods in order, each one before a period starts earlier
 pub all_earlier : (previous : Option ℕ) (ps : List Period) (q : Period) (qs : List Period) → are_in_order_after previous (ps ++ q ∷ qs) ≡ true → AllByRecursion (λ (p : Period). p.start < q.start) ps
 all_earlier previous [] q qs ordered = tt
 all_earlier previous (p ∷ ps) q qs ordered =
     let parts = and_parts (is_after previous p.start) (are_in_order_after (Some p.start) (ps ++ q ∷ qs)) ordered in
     (later-end p.start ps q qs parts.1, all_earlier (Some p.start) ps q qs parts.1)
 
--- what holds of each element holds of each that passes a test
+-- if each element has a property, so has each element that passes a test
 pub AllByRecursion-filter : {X : Type 0} (P : X → Type 0) (test : X → Bool) (xs : List X) → AllByRecursion P xs → AllByRecursion P (filter test xs)
 AllByRecursion-filter P test [] h = tt
 AllByRecursion-filter P test (x ∷ xs) h =
     elim (test x) as (λ b. AllByRecursion P (cond b (x ∷ filter test xs) (filter test xs)))
     [ true ↦ (h.0, AllByRecursion-filter P test xs h.1) | false ↦ AllByRecursion-filter P test xs h.1 ]
 
--- one more period in order: its limit where it has begun, else the limit so far
+-- the limit with one more period in order: that period's if it has begun, otherwise the limit so
+-- far
 pub limit_in-more : (ps : List Period) (i : ℕ) (d : Period) (o : ℕ) → i < length ps
     → are_in_order_after None ps ≡ true → limit_in (take (i + 1) ps) o ≡ cond (nat_le
     (get_or ps i d).start o) (Some (get_or ps i d).limit) (limit_in (take i ps) o)
@@ -75,7 +76,7 @@ limit_of_begun ps i (suc more) d o inside ordered later =
     ∙ (ap (λ (b : Bool). cond b (Some (get_or ps (i + more) d).limit) (limit_in (take (i + more) ps) o)) test
     ∙ limit_of_begun ps i more d o (omega arith) ordered later))
 
--- the limit in force is that of the last one that has begun
+-- the limit in force is that of the last period that has begun
 pub limit_at_point : (ps : List Period) (i : ℕ) (o : ℕ) → i ≤ length ps → are_in_order ps ≡ true
     → IsPartitionPoint (λ (p : Period). nat_le p.start o ≡ true) (λ (p : Period). nat_le p.start o ≡ false) ps i → limit_in ps o ≡ limit_in (take i ps) o
 limit_at_point ps i o inside ordered point =

@@ -1,4 +1,4 @@
--- Two profiles of equal fields are equal, ghost facts included; so the profile of fields is one alone.
+-- Profiles with equal fields are equal, ghost facts included, so fields determine one profile.
 use Rattle.std.proofs.Common.{◌≡◌, ℕ, ℤ, ◌<◌, ◌≤◌, nat_le, length, Bool, true, false, Option, None, Ok, Err, refl, ap, sym, subst, arith}
 use Rattle.std.proofs.lemmas.Bool.Decides.{nat_tests}
 use Rattle.std.proofs.Math.Bool.{Bool-set}
@@ -68,7 +68,7 @@ low_test parts low = grind (arith, nat_tests)
 few_test : (parts : ProfileParts) → length parts.schedule.periods ≤ max_periods → nat_le (length parts.schedule.periods) max_periods ≡ true
 few_test parts few = grind (arith, nat_tests)
 
--- each refusal, where the causes before it don't hold
+-- each refusal, if no earlier cause holds
 pub level_refused : (parts : ProfileParts) → max_stack_level < parts.stack_level → profile_of_parts parts ≡ Err LevelTooHigh
 level_refused parts high =
     let fails : nat_le parts.stack_level max_stack_level ≡ false = grind (arith, nat_tests) in
@@ -90,7 +90,7 @@ pub kind_refused : (parts : ProfileParts) → parts.stack_level ≤ max_stack_le
 kind_refused parts low few ordered none =
     rw (fact_or-true LevelTooHigh _ (low_test parts low), fact_or-true TooManyPeriods _ (few_test parts few), fact_or-true PeriodsOutOfOrder _ ordered, none) refl
 
--- the profile of these fields is the one that they make, where nothing refuses them
+-- unless they are refused, fields make the profile that has them
 pub profile_made : (parts : ProfileParts) (profile : Profile) → length parts.schedule.periods ≤ max_periods
     → are_in_order parts.schedule.periods ≡ true → IsProfileOf parts profile → profile_of_parts parts ≡ Ok profile
 profile_made parts profile few ordered is =

@@ -1,5 +1,5 @@
--- What an install and a clear change among the rows of a charge point: one filter, and at most one row
--- added.
+-- The effect of an install and of a clear on the rows of a charge point: one filter, and at most
+-- one row added.
 use Rattle.std.specs.Prelude.{ℕ, ◌==◌, Bool, true, not, ◌&&◌, ◌||◌, List, [], ◌∷◌, ◌++◌, filter, Option, Some, None}
 use Rattle.std.specs.Ordering.{int_eq}
 use Rattle.profile.specs.declared.purpose.Purpose.{Purpose}
@@ -13,9 +13,9 @@ is_purpose ChargePointMaxProfile purpose = is_charge_point_max purpose
 is_purpose TxDefaultProfile purpose = is_tx_default purpose
 is_purpose TxProfile purpose = is_tx purpose
 
--- SetChargingProfile (OCPP 1.6, 5.16): a new profile takes the place of those with its chargingProfileId,
--- and of those with its purpose and stack level at its connector. The connector is this system's choice:
--- the standard doesn't say whether profiles of other connectors go too.
+-- SetChargingProfile (OCPP 1.6, 5.16): a new profile replaces those with its chargingProfileId, and
+-- those with its purpose and stack level at its connector. The connector is this system's choice:
+-- the standard doesn't say whether profiles of other connectors are replaced too.
 abbrev pub has_id_of : Row → Row → Bool
 has_id_of new row = int_eq row.profile.id new.profile.id
 
@@ -32,12 +32,13 @@ is_replaced_by new row = has_id_of new row || has_key_of new row
 abbrev pub rows_beside : List Row → Row → List Row
 rows_beside rows new = filter (λ row. not (is_replaced_by new row)) rows
 
--- the rows after an install: those that stay, and the new one last
+-- the rows after an install: those that remain, and the new one last
 abbrev pub installed : List Row → Row → List Row
 installed rows new = rows_beside rows new ++ new ∷ []
 
--- ClearChargingProfile (OCPP 1.6, 5.5): a profile is cleared where it matches each field that is given,
--- and so each profile where none is given. A connectorId 0 is the profiles at connector 0 alone.
+-- ClearChargingProfile (OCPP 1.6, 5.5): a profile is cleared if it matches each field that is
+-- given, and so each profile if none is given. A connectorId of 0 means the profiles at connector 0
+-- only.
 abbrev pub is_met : {X : Type 0} → (X → Bool) → Option X → Bool
 is_met test None = true
 is_met test (Some x) = test x
@@ -49,7 +50,7 @@ matches criteria row =
     && is_met (λ purpose. is_purpose purpose row.profile.purpose) criteria.purpose
     && is_met (λ level. row.profile.stack_level == level) criteria.stack_level
 
--- the rows after a clear: those that fail some given criterion
+-- the rows after a clear: those that fail a given criterion
 abbrev pub cleared : List Row → Criteria → List Row
 cleared rows criteria = filter (λ row. not (matches criteria row)) rows
 

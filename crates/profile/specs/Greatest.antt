@@ -2,7 +2,7 @@
 use Rattle.std.specs.Prelude.{◌≡◌, ℕ, ◌<◌, ◌≤◌, nat_lt, List, [], ◌∷◌, ◌++◌, Option, Some, None, if◌then◌else◌}
 use Rattle.std.specs.List.{AllByRecursion}
 
--- an element of a list than which none has a greater key, the first of those
+-- the first element of a list with the greatest key
 pub record IsGreatest {X : Type 0} (key : X → ℕ) (xs : List X) (x : X) : Type 0 where
   pub before : List X
   pub after : List X
@@ -10,13 +10,13 @@ pub record IsGreatest {X : Type 0} (key : X → ℕ) (xs : List X) (x : X) : Typ
   pub above : AllByRecursion (λ y. key y < key x) before
   pub not_below : AllByRecursion (λ y. key y ≤ key x) after
 
--- of two elements the one with the greater key, and the first of equals
+-- of two elements the one with the greater key, or the first of equals
 abbrev pub greater : {X : Type 0} → (X → ℕ) → X → Option X → X
 greater key x None = x
 greater key x (Some y) = if nat_lt (key x) (key y) then y else x
 
--- the element with the greatest key, and the first of equals: the one that is IsGreatest, by the law
--- `greatest_is_greatest`
+-- the first element with the greatest key: by the law `greatest_is_greatest`, the one that is
+-- IsGreatest
 abbrev pub greatest : {X : Type 0} → (X → ℕ) → List X → Option X
 greatest key [] = None
 greatest key (x ∷ xs) = Some (greater key x (greatest key xs))

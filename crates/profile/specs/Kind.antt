@@ -1,4 +1,4 @@
--- How a profile of each kind counts its seconds.
+-- The seconds of a profile's schedule, by its kind.
 use Rattle.std.specs.Prelude.{ℕ, ◌%◌, Option, Some, None}
 use Rattle.profile.specs.Limits.{day, week}
 use Rattle.profile.specs.declared.kind.Recurrency.{Recurrency}
@@ -8,12 +8,13 @@ use Rattle.profile.specs.declared.kind.ProfileKind.TheVariants as given
 use Rattle.profile.specs.declared.kind.Kind.{Kind}
 use Rattle.profile.specs.declared.kind.Kind.TheVariants.{Absolute, Recurring, Relative}
 
--- after how many seconds a recurring schedule begins anew (OCPP 1.6, chapter 7, RecurrencyKindType)
+-- the seconds after which a recurring schedule begins again (OCPP 1.6, chapter 7,
+-- RecurrencyKindType)
 abbrev pub recurrence_length : Recurrency → ℕ
 recurrence_length Daily = day
 recurrence_length Weekly = week
 
--- the kind of a profile: chargingProfileKind with its recurrencyKind, none where a Recurring one
+-- the kind of a profile: chargingProfileKind with its recurrencyKind; none if a Recurring profile
 -- lacks it (OCPP 1.6, chapter 7, ChargingProfile)
 abbrev pub kind_of : ProfileKind → Option Recurrency → Option Kind
 kind_of given.Absolute recurrency = Some Absolute
@@ -27,7 +28,7 @@ start_of Absolute start = start
 start_of (Recurring recurrency) start = start
 start_of Relative start = None
 
--- how far into its schedule a profile is, a number of seconds after its anchor (OCPP 1.6, 3.13)
+-- the offset in a profile's schedule, from the number of seconds since its anchor (OCPP 1.6, 3.13)
 abbrev pub offset_after : Kind → ℕ → ℕ
 offset_after Absolute seconds = seconds
 offset_after (Recurring recurrency) seconds = seconds % recurrence_length recurrency

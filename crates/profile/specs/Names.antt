@@ -1,4 +1,4 @@
--- The names of a profile's fields with a few values, each accepted exactly as written.
+-- The names of the values of a profile's enumerated fields, each accepted exactly as written.
 use Rattle.std.specs.Prelude.{ℕ, List, [], ◌∷◌, Option, Some, None, codes, if◌then◌else◌}
 use Rattle.std.specs.Str.{bytes_eq}
 use Rattle.profile.specs.declared.purpose.Purpose.{Purpose}
@@ -10,7 +10,7 @@ use Rattle.profile.specs.declared.kind.Recurrency.TheVariants.{Daily, Weekly}
 use Rattle.profile.specs.declared.unit.Unit.{Unit}
 use Rattle.profile.specs.declared.unit.Unit.TheVariants.{A, W}
 
--- the value of a name in a table, none where the table lacks it
+-- the value of a name in a table; none if the table lacks the name
 abbrev pub named_in : {X : Type 0} → List (List ℕ × X) → List ℕ → Option X
 named_in [] text = None
 named_in (row ∷ rows) text = if bytes_eq text row.0 then Some row.1 else named_in rows text

@@ -1,4 +1,5 @@
--- What the fields of a charging profile make: a well-formed profile, or the first cause of a refusal.
+-- The result of a charging profile's fields: a well-formed profile, or the first cause of a
+-- refusal.
 use Rattle.std.specs.Prelude.{◌≡◌, ◌<◌, ◌≤◌, nat_le, List, [], ◌∷◌, ◌++◌, length, Some, None, Result, Ok}
 use Rattle.ocpp_scalars.specs.declared.refusal.Refusal.{Refusal}
 use Rattle.ocpp_scalars.specs.declared.refusal.Refusal.TheVariants.{LevelTooHigh, TooManyPeriods, PeriodsOutOfOrder, NoRecurrency}
@@ -15,8 +16,8 @@ use Rattle.ocpp_scalars.specs.ResultSteps.{◌>>=◌}
 use Rattle.profile.specs.Refusing.{fact_or, value_or}
 use Rattle.profile.specs.ByCases.Parts.{profile_with}
 
--- the well-formed profile of these fields: what belongs to another purpose or kind is dropped, and all
--- else is as it came (OCPP 1.6, chapter 7, ChargingProfile)
+-- The well-formed profile of these fields. Fields of another purpose or kind are dropped, and all
+-- others are unchanged (OCPP 1.6, chapter 7, ChargingProfile).
 pub record IsProfileOf (parts : ProfileParts) (profile : Profile) : Type 0 where
   pub id : profile.id ≡ parts.id
   pub transaction : profile.transaction ≡ transaction_of parts.purpose parts.transaction
@@ -41,9 +42,9 @@ pub record IsOutOfOrder (periods : List Period) : Type 0 where
   pub stands : periods ≡ before ++ (period ∷ next ∷ after)
   pub not_later : next.start ≤ period.start
 
--- Why fields make no profile, in the order in which the causes are checked (OCPP 1.6, chapter 7;
--- limits by this system's choice). That there is a period is no question here: a list of periods
--- that came in has one by its type.
+-- The causes for which fields make no profile, in the order in which they are checked (OCPP 1.6,
+-- chapter 7; the limits are this system's choice). An empty list of periods is no cause here: the
+-- type of a received list excludes it.
 abbrev pub part_causes : ProfileParts → List Cause
 part_causes parts =
     (LevelTooHigh because max_stack_level < parts.stack_level)
@@ -52,8 +53,8 @@ part_causes parts =
     ∷ (NoRecurrency because (parts.kind ≡ Recurring) × (parts.recurrency ≡ None))
     ∷ []
 
--- The profile that these fields make, or why they make none. By the law `profile_parts` it is
--- refused by the first of these causes, and is else the profile of these fields.
+-- The profile that these fields make, or the refusal. By the law `profile_parts` the refusal is the
+-- first of these causes that holds; if none holds, this is the profile of these fields.
 abbrev pub profile_of_parts : ProfileParts → Result Profile Refusal
 profile_of_parts parts = do
   low ← fact_or LevelTooHigh (nat_le parts.stack_level max_stack_level)

@@ -10,7 +10,7 @@ abbrev pub is_at : ℕ → Option ℕ → Bool
 is_at n None = false
 is_at n (Some bound) = n == bound
 
--- A schedule turns where it begins, where one of its periods starts, and where its duration is over (OCPP
+-- A schedule turns when it begins, when one of its periods starts, and when its duration ends (OCPP
 -- 1.6, chapter 7, ChargingSchedule and ChargingSchedulePeriod).
 abbrev pub is_turn : Schedule → ℕ → Bool
 is_turn schedule offset =
@@ -18,14 +18,14 @@ is_turn schedule offset =
     || (list_any (λ (period : Period). offset == period.start) schedule.periods
     || is_at offset schedule.duration)
 
--- the same of an offset that there may be: there is none before the anchor, and so no turn
+-- whether a schedule turns at an optional offset: before the anchor there is none, and so no turn
 abbrev pub is_turn_at : Schedule → Option ℕ → Bool
 is_turn_at schedule None = false
 is_turn_at schedule (Some offset) = is_turn schedule offset
 
--- An instant is a place of a profile where it is its validFrom or validTo, or where its schedule turns
--- (OCPP 1.6, 3.13 and chapter 7, ChargingProfile). A recurring schedule comes by its offsets again and
--- again, but never by those that are no less than its day or week.
+-- An instant is a place of a profile if it is its validFrom or validTo, or if its schedule turns
+-- then (OCPP 1.6, 3.13 and chapter 7, ChargingProfile). A recurring schedule passes its offsets
+-- again and again, but never one that is at least its day or week.
 abbrev pub is_place : Profile → ℕ → ℕ → Bool
 is_place profile base instant =
     is_at instant profile.valid_from

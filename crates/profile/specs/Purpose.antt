@@ -1,4 +1,4 @@
--- What a profile of each purpose keeps.
+-- Tests of a profile's purpose, and the transactionId that each purpose keeps.
 use Rattle.std.specs.Prelude.{ℤ, Bool, true, false, Option, None}
 use Rattle.profile.specs.declared.purpose.Purpose.{Purpose}
 use Rattle.profile.specs.declared.purpose.Purpose.TheVariants.{ChargePointMaxProfile, TxDefaultProfile, TxProfile}
@@ -18,7 +18,7 @@ is_tx ChargePointMaxProfile = false
 is_tx TxDefaultProfile = false
 is_tx TxProfile = true
 
--- transactionId, which a TxProfile alone has (OCPP 1.6, chapter 7, ChargingProfile)
+-- transactionId, which only a TxProfile has (OCPP 1.6, chapter 7, ChargingProfile)
 abbrev pub transaction_of : Purpose → Option ℤ → Option ℤ
 transaction_of ChargePointMaxProfile transaction = None
 transaction_of TxDefaultProfile transaction = None

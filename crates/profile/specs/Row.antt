@@ -1,12 +1,12 @@
--- From where the profile of a row counts its seconds.
+-- The base: the instant from which the profile of a row counts its seconds.
 use Rattle.std.specs.Prelude.{ℕ, Option, unwrap_or}
 use Rattle.profile.specs.declared.purpose.Purpose.{Purpose}
 use Rattle.profile.specs.declared.purpose.Purpose.TheVariants.{ChargePointMaxProfile, TxDefaultProfile, TxProfile}
 use Rattle.profile.specs.declared.row.Row.{Row}
 
--- From where a profile without a start of its own counts its seconds (OCPP 1.6, 5.16; the choices are
--- this system's): a ChargePointMaxProfile from its install, the others from the start of the active
--- transaction at the connector that is looked at, and without one from the start of the asked schedule.
+-- The base of a profile without a start of its own (OCPP 1.6, 5.16; the choices are this system's).
+-- A ChargePointMaxProfile counts from its install. The others count from the start of the active
+-- transaction at the requested connector, or without one from the start of the requested schedule.
 abbrev pub base_of : Purpose → ℕ → Option ℕ → ℕ → ℕ
 base_of ChargePointMaxProfile installed started asked = installed
 base_of TxDefaultProfile installed started asked = unwrap_or started asked

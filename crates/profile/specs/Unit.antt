@@ -1,4 +1,4 @@
--- Which units of a schedule are the same (OCPP 1.6, chapter 7, ChargingRateUnitType).
+-- Equality of units (OCPP 1.6, chapter 7, ChargingRateUnitType).
 use Rattle.std.specs.Prelude.{Bool, true, false}
 use Rattle.profile.specs.declared.unit.Unit.{Unit}
 use Rattle.profile.specs.declared.unit.Unit.TheVariants.{A, W}

@@ -1,4 +1,4 @@
-//! Which rows of a point speak for a connector.
+//! The rows of a point that apply to a connector.
 
 ghost use Rattle.std.specs.Prelude.{◌≡◌};
 ghost use Rattle.profile.specs.Candidates.{is_candidate, is_replaced_at};
@@ -6,7 +6,7 @@ ghost use Rattle.profile.specs.Candidates.{is_candidate, is_replaced_at};
 use crate::purpose::Purpose;
 use crate::row::Row;
 
-/// Whether a row speaks for a connector among the profiles of a purpose (chapter 3.13).
+/// Whether a row applies to a connector among the profiles of a purpose (chapter 3.13).
 pub fn is_candidate(purpose: Purpose, rows: &[Row], connector: usize, row: &Row) -> bool
     ensures { result ≡ is_candidate purpose rows.now connector row.now }
 {
@@ -25,6 +25,8 @@ pub fn is_candidate(purpose: Purpose, rows: &[Row], connector: usize, row: &Row)
 fn is_replaced_at(rows: &[Row], connector: usize, level: u32) -> bool
     ensures { result ≡ is_replaced_at rows.now connector level }
 {
+    // It replaces by being installed, not only at seconds that it covers: OCPP lets it override the
+    // default of the point, and mentions no seconds.
     rows.iter().any(|row| {
         matches!(row.profile.purpose, Purpose::TxDefaultProfile)
             && row.connector as usize == connector

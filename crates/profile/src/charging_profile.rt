@@ -21,16 +21,16 @@ pub const MAX_STACK_LEVEL: u32 = 99;
 pub struct Profile {
     /// chargingProfileId.
     pub id: i32,
-    /// transactionId, of a TxProfile alone.
+    /// transactionId; only a TxProfile has one.
     pub transaction: Option<i32>,
     pub stack_level: u32,
     /// chargingProfilePurpose.
     pub purpose: Purpose,
     /// chargingProfileKind, with its recurrencyKind.
     pub kind: Kind,
-    /// The first instant at which it is valid.
+    /// The first instant at which the profile is valid.
     pub valid_from: Option<Instant>,
-    /// The first instant at which it is valid no more.
+    /// The first instant at which the profile is no longer valid.
     pub valid_to: Option<Instant>,
     /// chargingSchedule.
     pub schedule: Schedule,
@@ -44,9 +44,9 @@ impl Profile {
     ghost use Rattle.profile.specs.ByCases.Same.{HaveSameKeys, HaveSameTimes};
     ghost use Rattle.profile.specs.ChargingProfile.{with_transaction, anchor, offset, is_valid_at, rate_within, rate};
 
-    /// The well-formed profile of these parts. What belongs to another purpose or kind is dropped:
-    /// a transactionId unless it is a TxProfile, a recurrencyKind unless it is Recurring, and the
-    /// startSchedule of a Relative one. The parts come back with the first cause of a refusal:
+    /// Makes a well-formed profile of these parts. Fields of another purpose or kind are dropped: a
+    /// transactionId unless it is a TxProfile, a recurrencyKind unless it is Recurring, and the
+    /// startSchedule of a Relative one. A refusal returns the parts with its first cause:
     /// `LevelTooHigh`, `TooManyPeriods`, `PeriodsOutOfOrder` or `NoRecurrency`.
     pub fn try_new(parts: ProfileParts) -> Result<Profile, (Refusal, ProfileParts)>
         ensures made { MatchResult result
@@ -55,6 +55,8 @@ impl Profile {
         ensures fields { IfOk result (λ profile. IsProfileOf parts profile) }
         ensures back { IfErr result (λ refused. refused.1 ≡ parts) }
     {
+        // In the order of `part_causes`: parts with several faults are refused for the first of
+        // them.
         if parts.stack_level > MAX_STACK_LEVEL {
             return Err((Refusal::LevelTooHigh, parts));
         }
@@ -87,8 +89,8 @@ impl Profile {
         })
     }
 
-    /// A TxProfile for the transaction of this number, whichever it named before. A profile of
-    /// another purpose stays as it is. Allocates nothing.
+    /// Sets the transaction of a TxProfile to the one of this number, whichever it named before. A
+    /// profile of another purpose is unchanged. Allocates nothing.
     pub fn with_transaction(self, id: i32) -> Profile
         ensures profile { result ≡ with_transaction self id }
         ensures transaction { is_tx self.purpose ≡ true → result.transaction ≡ Some id }
@@ -105,7 +107,7 @@ impl Profile {
         }
     }
 
-    /// A copy.
+    /// Returns a copy, which shares the periods.
     pub fn copy(&self) -> Result<Profile, AllocError>
         ensures { IfOk result (λ copy. copy ≡ self.now) }
     {
@@ -122,7 +124,7 @@ impl Profile {
         })
     }
 
-    /// A copy of a profile, where there is one.
+    /// Copies a profile if there is one.
     pub fn copy_if_any(profile: &Option<Profile>) -> Result<Option<Profile>, AllocError>
         ensures { IfOk result (λ copy. copy ≡ profile.now) }
     {
@@ -139,6 +141,7 @@ impl Profile {
         self.has_keys_of(other) && self.has_times_of(other) && self.schedule.same(&other.schedule)
     }
 
+    // Compared in groups: the prover doesn't decide one `&&` over all fields by itself.
     fn has_keys_of(&self, other: &Profile) -> bool
         ensures { IsTrue result ↔ HaveSameKeys self.now other.now }
     {
@@ -156,26 +159,30 @@ impl Profile {
             && self.valid_to == other.valid_to
     }
 
-    /// From which instant on the profile counts, given the base that stands in for a startSchedule.
+    /// Returns the instant from which the profile counts: its startSchedule if it has one and isn't
+    /// Relative, otherwise the base.
     pub fn anchor(&self, base: Instant) -> Instant
         ensures { result ≡ anchor self.now base }
     {
         self.kind.start_of(self.schedule.start).unwrap_or(base)
     }
 
-    /// How many seconds into its schedule the profile is, or `None` before its anchor.
+    /// Returns the seconds from the start of the profile's schedule, or `None` before its anchor.
     pub fn offset(&self, base: Instant, instant: Instant) -> Option<u64>
         ensures { result ≡ offset self.now base instant }
     {
         let anchor = self.anchor(base);
+        // A Recurring profile doesn't reach back before its anchor either: it would begin before it
+        // was meant to.
         if instant < anchor {
             return None;
         }
         Some(self.kind.offset_after(instant.seconds() - anchor.seconds()))
     }
 
-    /// The limit at an instant, in tenths, counted from a base, or `None` where the profile has
-    /// none: outside its validity, before its anchor, past its duration, or before its first period.
+    /// Returns the limit at an instant, in tenths, counted from a base, or `None` if the profile
+    /// has none: outside its validity, before its anchor, from the end of its duration on, or
+    /// before its first period.
     pub fn rate(&self, base: Instant, instant: Instant) -> Option<u32>
         ensures { result ≡ rate self.now base instant }
     {
@@ -186,7 +193,7 @@ impl Profile {
         self.rate_within(offset)
     }
 
-    /// Whether an instant lies within validFrom and validTo, each where given.
+    /// Whether an instant is within validFrom and validTo, each only if given.
     pub fn is_valid_at(&self, instant: Instant) -> bool
         ensures { result ≡ is_valid_at self.now instant }
     {
@@ -194,7 +201,7 @@ impl Profile {
             && self.valid_to.is_none_or(|to| instant < to)
     }
 
-    /// The limit at an offset, which has to lie within the schedule's duration.
+    /// Returns the limit at an offset, or `None` from the end of the schedule's duration on.
     fn rate_within(&self, offset: u64) -> Option<u32>
         ensures { result ≡ rate_within self.now offset }
     {

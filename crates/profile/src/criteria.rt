@@ -1,9 +1,9 @@
-//! Which profiles are cleared.
+//! The criteria of a ClearChargingProfile.
 
 use crate::purpose::Purpose;
 
-/// Which profiles a ClearChargingProfile is for (chapter 6, ClearChargingProfile.req): those that
-/// match each field that is given.
+/// The profiles that a ClearChargingProfile removes (chapter 6, ClearChargingProfile.req): those
+/// that match each field that is given.
 #[derive(Clone, Copy, PartialEq, Eq)]
 pub struct Criteria {
     /// chargingProfileId.

@@ -5,7 +5,7 @@ ghost use Rattle.profile.specs.Kind.{recurrence_length, kind_of, start_of, offse
 
 use ocpp_scalars::Instant;
 
-/// How often a Recurring schedule begins anew (chapter 7, RecurrencyKindType).
+/// The recurrence of a Recurring schedule (chapter 7, RecurrencyKindType).
 #[derive(Clone, Copy, PartialEq, Eq)]
 pub enum Recurrency {
     /// Every 86,400 seconds.
@@ -15,7 +15,7 @@ pub enum Recurrency {
 }
 
 impl Recurrency {
-    /// After how many seconds the schedule begins anew.
+    /// Returns the seconds after which the schedule begins again.
     pub fn length(self) -> u64
         ensures { result ≡ recurrence_length self }
     {
@@ -26,7 +26,7 @@ impl Recurrency {
     }
 }
 
-/// The field chargingProfileKind of a profile as it comes in (chapter 7, ChargingProfileKindType).
+/// The field chargingProfileKind of a received profile (chapter 7, ChargingProfileKindType).
 #[derive(Clone, Copy, PartialEq, Eq)]
 pub enum ProfileKind {
     Absolute,
@@ -34,20 +34,20 @@ pub enum ProfileKind {
     Relative,
 }
 
-/// How a well-formed profile counts its seconds: chargingProfileKind, with its recurrencyKind where
-/// it recurs.
+/// How a well-formed profile counts its seconds: chargingProfileKind, with its recurrencyKind if it
+/// is Recurring.
 #[derive(Clone, Copy, PartialEq, Eq)]
 pub enum Kind {
-    /// From its anchor on: the startSchedule, or the base where it has none.
+    /// From its anchor on: the startSchedule, or the base if it has none.
     Absolute,
-    /// From its anchor on, beginning anew every day or week.
+    /// From its anchor on, beginning again every day or week.
     Recurring(Recurrency),
-    /// From its base on, as the start of a transaction; it has no startSchedule.
+    /// From its base on, such as the start of a transaction; it has no startSchedule.
     Relative,
 }
 
 impl Kind {
-    /// The kind of a profile of these fields, or `None` where a Recurring one lacks its
+    /// Returns the kind of a profile with these fields, or `None` if a Recurring one lacks its
     /// recurrencyKind.
     pub fn of(kind: ProfileKind, recurrency: Option<Recurrency>) -> Option<Kind>
         ensures { result ≡ kind_of kind recurrency }
@@ -59,7 +59,7 @@ impl Kind {
         }
     }
 
-    /// The startSchedule that a profile of this kind keeps.
+    /// Returns the startSchedule that a profile of this kind keeps.
     pub fn start_of(self, start: Option<Instant>) -> Option<Instant>
         ensures { result ≡ start_of self start }
     {
@@ -69,11 +69,13 @@ impl Kind {
         }
     }
 
-    /// How far into its schedule a profile of this kind is, a number of seconds after its anchor.
+    /// Returns the offset in the schedule of a profile of this kind, from the seconds since its
+    /// anchor.
     pub fn offset_after(self, seconds: u64) -> u64
         ensures { result ≡ offset_after self seconds }
     {
         match self {
+            // Seconds and not days of a time zone: a change to summer time moves no schedule.
             Kind::Absolute | Kind::Relative => seconds,
             Kind::Recurring(recurrency) => seconds % recurrency.length(),
         }

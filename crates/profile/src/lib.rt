@@ -1,6 +1,6 @@
-//! Charging profiles of OCPP 1.6 (chapters 3.13 and 7): what a well-formed profile is, the rows
-//! that a point keeps of them, and what a profile's limit is at an instant. The definitions that
-//! every crate above cites stand in `specs/`: anchor, offset, rate, base and candidates.
+//! Charging profiles of OCPP 1.6 (chapters 3.13 and 7): well-formed profiles, the rows in which a
+//! point keeps them, and a profile's limit at an instant. `specs/` has the definitions that every
+//! crate above cites: anchor, offset, rate, base and candidates.
 #![tactic(auto)]
 
 mod candidates;

@@ -1,4 +1,4 @@
-//! The names that payloads write for the values of a few fields.
+//! The names of a few fields' values in payloads.
 
 ghost use Rattle.std.specs.Prelude.{◌≡◌, ℕ, List, Option, map};
 ghost use Rattle.profile.specs.Names.{named_in, purpose_named, kind_named, recurrency_named, unit_named};
@@ -12,7 +12,7 @@ pub trait Named {
     /// The value of a name.
     ghost named: { List ℕ → Option Self };
 
-    /// The value of this name, or `None` where it is none of them.
+    /// Returns the value of this name, or `None` if no value has it.
     fn named(text: &str) -> Option<Self>
         ensures { result ≡ named text.now };
 }
@@ -68,7 +68,7 @@ impl Named for Unit {
     }
 }
 
-/// The value of a name in a table of names and values, or `None` where the table lacks it.
+/// Returns the value of a name in a table of names and values, or `None` if the table lacks it.
 pub fn named_in<T: Copy>(table: &[(&str, T)], text: &str) -> Option<T>
     ensures { result ≡ named_in (map (λ row. (row.0.now, row.1)) table.now) text.now }
 {

@@ -1,4 +1,4 @@
-//! The fields of a profile as they come in.
+//! The fields of a received profile.
 
 use crate::kind::{ProfileKind, Recurrency};
 use crate::period_list::PeriodList;
@@ -6,7 +6,7 @@ use crate::purpose::Purpose;
 use crate::unit::Unit;
 use ocpp_scalars::Instant;
 
-/// The fields of a charging profile as they come in, not yet judged (chapter 7, ChargingProfile).
+/// The fields of a received charging profile, not yet checked (chapter 7, ChargingProfile).
 #[derive(Drop)]
 pub struct ProfileParts {
     /// chargingProfileId.
@@ -27,7 +27,7 @@ pub struct ProfileParts {
     pub schedule: ScheduleParts,
 }
 
-/// The fields of a charging schedule as they come in (chapter 7, ChargingSchedule).
+/// The fields of a received charging schedule (chapter 7, ChargingSchedule).
 #[derive(Drop)]
 pub struct ScheduleParts {
     /// Seconds.

@@ -1,12 +1,13 @@
-//! Periods as they come in.
+//! The periods of a received schedule.
 
 use crate::period::Period;
 use std::alloc::AllocError;
 use std::marker::Model;
 use std::sync::ArcSlice;
 
-/// Periods as they come in, in order, not yet judged (chapter 7, chargingSchedulePeriod): one or
-/// more. They are shared with the profile that is made of them, and with its copies.
+/// The periods of a received schedule, in its order, not yet checked (chapter 7,
+/// chargingSchedulePeriod): one or more. They are shared with the profile that is made of them, and
+/// with its copies.
 #[derive(Drop)]
 pub struct PeriodList {
     items: ArcSlice<Period>,
@@ -28,7 +29,7 @@ impl PeriodList {
     ghost use Rattle.std.specs.Prelude.{◌≡◌, ◌<◌, ◌↔◌, length, IsSome, IfOk, IfSome};
     ghost use Rattle.std.specs.Arc.{arc_slice_items};
 
-    /// The list of these periods, or none where there are none.
+    /// Makes a list of these periods, or `None` if there are none.
     pub fn try_new(items: Vec<Period>) -> Result<Option<PeriodList>, AllocError>
         ensures some { IfOk result (λ list. IsSome list ↔ (0 < length items.items)) }
         ensures value { IfOk result (λ list. IfSome list (λ l. l ≡ items.items)) }
@@ -41,7 +42,7 @@ impl PeriodList {
         }))
     }
 
-    /// The periods in order.
+    /// Returns the periods in order.
     pub fn as_slice(&self) -> &[Period]
         ensures value { result.now ≡ self.now }
         ensures some { 0 < length self.now }
@@ -49,7 +50,7 @@ impl PeriodList {
         self.items.as_slice()
     }
 
-    /// The periods, to be shared.
+    /// Returns the periods in shared memory.
     pub fn into_shared(self) -> ArcSlice<Period>
         ensures value { arc_slice_items result ≡ self }
         ensures some { 0 < length self }

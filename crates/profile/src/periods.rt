@@ -9,13 +9,14 @@ use std::alloc::AllocError;
 use std::marker::Model;
 use std::sync::ArcSlice;
 
-/// The most periods that a schedule has.
+/// The most periods of a schedule.
 pub const MAX_PERIODS: usize = 200;
 
-/// The periods of a schedule: 1 to 200 of them, each starting later than the one before. Copies share
-/// them.
+/// The periods of a schedule: 1 to 200, each starting later than the one before. Copies share them.
 #[derive(Drop)]
 pub struct Periods {
+    // Shared, since they never change: otherwise an install, its call to the point and a request
+    // that is kept would each copy up to 200 periods.
     items: ArcSlice<Period>,
 }
 
@@ -33,7 +34,7 @@ impl Model for Periods {
 }
 
 impl Periods {
-    /// The periods of this list.
+    /// Makes the periods of a schedule from this list.
     pub fn new(list: PeriodList) -> Periods
         requires { AreSchedulePeriods list }
         ensures { result ≡ list }
@@ -43,7 +44,7 @@ impl Periods {
         }
     }
 
-    /// The periods in order.
+    /// Returns the periods in order.
     pub fn as_slice(&self) -> &[Period]
         ensures value { result.now ≡ self.now }
         ensures schedule { AreSchedulePeriods self.now }
@@ -51,7 +52,7 @@ impl Periods {
         self.items.as_slice()
     }
 
-    /// The same periods with one owner more. Copies none of them.
+    /// Returns the same periods with another owner. Copies none of them.
     pub fn share(&self) -> Result<Periods, AllocError>
         ensures { IfOk result (λ shared. shared ≡ self.now) }
     {
@@ -67,13 +68,13 @@ impl Periods {
         self.as_slice() == other.as_slice()
     }
 
-    /// The limit at an offset in seconds from the schedule's start, in tenths: that of the period
-    /// with the greatest start up to there.
+    /// Returns the limit at an offset in seconds from the schedule's start, in tenths: that of the
+    /// last period that has begun by then.
     pub fn limit_in_force(&self, offset: u64) -> Option<u32>
         ensures { result ≡ limit_in self.now offset }
     {
         let periods = self.as_slice();
-        // They are in order, so those that have begun stand first.
+        // They are in order, so those that have begun come first.
         let begun = periods.partition_point(|period| u64::from(period.start) <= offset);
         if begun == 0 {
             return None;

@@ -7,8 +7,8 @@ use crate::purpose::Purpose;
 use ocpp_scalars::Instant;
 use std::alloc::AllocError;
 
-/// A profile as a point keeps it (chapter 5.16): at which connector it stands, 0 being the whole
-/// point, and when it was installed.
+/// A profile as a point keeps it (chapter 5.16): with its connector, 0 for the whole point, and the
+/// moment of its install.
 #[derive(Drop)]
 pub struct Row {
     pub connector: u32,
@@ -20,19 +20,21 @@ pub struct Row {
 impl Row {
     ghost use Rattle.profile.specs.Row.{base};
 
-    /// From where the profile counts its seconds if it has no start of its own: its install for a
-    /// ChargePointMaxProfile, else the start of the active transaction at the connector looked at,
-    /// or without one the start of the asked schedule.
+    /// Returns the instant from which the profile counts if it has no start of its own. For a
+    /// ChargePointMaxProfile it is the install. Otherwise it is the start of the active transaction
+    /// at the requested connector, or without one the start of the requested schedule.
     pub fn base(&self, started: Option<Instant>, asked: Instant) -> Instant
         ensures { result ≡ base self.now started asked }
     {
         match self.profile.purpose {
             Purpose::ChargePointMaxProfile => self.moment,
+            // From the install, a car's schedule would begin before the car came; with no base, a
+            // default would be hidden until a car comes.
             Purpose::TxDefaultProfile | Purpose::TxProfile => started.unwrap_or(asked),
         }
     }
 
-    /// A copy.
+    /// Returns a copy.
     pub fn copy(&self) -> Result<Row, AllocError>
         ensures { IfOk result (λ copy. copy ≡ self.now) }
     {

@@ -10,9 +10,9 @@ use std::alloc::AllocError;
 /// A charging schedule (chapter 7, ChargingSchedule).
 #[derive(Drop)]
 pub struct Schedule {
-    /// How many seconds it lasts, where it ends by itself.
+    /// The seconds after which it ends, if given.
     pub duration: Option<u32>,
-    /// startSchedule: where it begins, where that is given.
+    /// startSchedule, if given.
     pub start: Option<Instant>,
     /// chargingRateUnit.
     pub unit: Unit,
@@ -23,7 +23,7 @@ pub struct Schedule {
 }
 
 impl Schedule {
-    /// A copy, which shares the periods.
+    /// Returns a copy, which shares the periods.
     pub fn copy(&self) -> Result<Schedule, AllocError>
         ensures { IfOk result (λ copy. copy ≡ self.now) }
     {

@@ -13,7 +13,7 @@ pub enum Unit {
 }
 
 impl Unit {
-    /// Whether two units are the same.
+    /// Whether two units are equal.
     pub fn is_same(self, other: Unit) -> bool
         ensures { result ≡ unit_eq self other }
     {

@@ -1,4 +1,4 @@
--- One connector more for which a row doesn't speak.
+-- One more connector at which a row may not prevail.
 use Rattle.std.proofs.Common.{◌≡◌, ◌∙◌, ℕ, ◌+◌, List, false, ap, inl, inr, arith}
 use Rattle.std.proofs.lemmas.Bool.{cases_lt}
 use Rattle.profile.specs.declared.purpose.Purpose.TheVariants.{TxDefaultProfile}

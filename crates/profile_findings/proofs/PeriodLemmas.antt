@@ -1,4 +1,4 @@
--- Where each period starts at an end or later, none has begun before it.
+-- If each period starts at an offset or later, none has begun before it.
 use Rattle.std.proofs.Common.{◌≡◌, ℕ, ◌<◌, nat_le, true, false, List, [], ◌∷◌, None, refl, arith}
 use Rattle.std.specs.List.{list_all}
 use Rattle.std.proofs.lemmas.Bool.{and_parts}

@@ -11,18 +11,18 @@ use Rattle.profile.specs.ChargingProfile.{rate}
 use Rattle.profile_findings.specs.declared.never.NeverRated.{NeverRated}
 use Rattle.profile_findings.specs.declared.never.NeverRated.TheVariants.{EmptyValidity, ValidBeforeStart, ValidAfterEnd, NoDuration, PeriodsPastDuration, PeriodsPastRecurrence}
 
--- no second has a rate, from whichever base the profile counts (OCPP 1.6, 3.13)
+-- no second has a rate, whatever the base (OCPP 1.6, 3.13)
 abbrev pub IsNeverRated : Profile → Type 0
 IsNeverRated profile = (base instant : ℕ) → rate profile base instant ≡ None
 
--- no period of its schedule has begun at an offset before this one
+-- before this offset no period of the schedule has begun
 abbrev pub HasNoPeriodBefore : Profile → ℕ → Type 0
 HasNoPeriodBefore profile end =
     (offset : ℕ) → offset < end → limit_in profile.schedule.periods offset ≡ None
 
 -- ---- the causes, by the fields of OCPP 1.6, chapter 7
 
--- both are given, and the first isn't after the second
+-- both are present, and the first isn't after the second
 abbrev pub is_not_after : Option ℕ → Option ℕ → Bool
 is_not_after None later = false
 is_not_after (Some instant) None = false
@@ -41,13 +41,13 @@ is_absolute Absolute = true
 is_absolute (Recurring recurrency) = false
 is_absolute Relative = false
 
--- when a schedule is over, where startSchedule and duration are given
+-- the end of a schedule with a startSchedule and a duration
 abbrev pub end_of : Option ℕ → Option ℕ → Option ℕ
 end_of None duration = None
 end_of (Some start) None = None
 end_of (Some start) (Some duration) = Some (start + duration)
 
--- an Absolute schedule is over when validFrom comes
+-- an Absolute schedule ends at validFrom or earlier
 abbrev pub is_valid_after_end : Profile → Bool
 is_valid_after_end profile =
     is_absolute profile.kind
@@ -61,27 +61,27 @@ is_zero (Some number) = number == 0
 abbrev pub has_no_duration : Profile → Bool
 has_no_duration profile = is_zero profile.schedule.duration
 
--- an end is given, and each period starts there or later
+-- an end is given, and each period starts at it or later
 abbrev pub start_past : List Period → Option ℕ → Bool
 start_past periods None = false
 start_past periods (Some end) = list_all (λ (p : Period). nat_le end p.start) periods
 
--- each period starts when the duration is over, or later
+-- each period starts at the end of the duration, or later
 abbrev pub has_periods_past_duration : Profile → Bool
 has_periods_past_duration profile = start_past profile.schedule.periods profile.schedule.duration
 
--- after how many seconds a schedule begins anew, if it does
+-- the number of seconds after which a schedule begins again, if it does
 abbrev pub recurs_after : Kind → Option ℕ
 recurs_after Absolute = None
 recurs_after (Recurring recurrency) = Some (recurrence_length recurrency)
 recurs_after Relative = None
 
--- each period starts when the day or the week of a Recurring schedule is over, or later
+-- each period starts at the end of the day or the week of a Recurring schedule, or later
 abbrev pub has_periods_past_recurrence : Profile → Bool
 has_periods_past_recurrence profile =
     start_past profile.schedule.periods (recurs_after profile.kind)
 
--- the first cause that holds, in the order in which they are sought; none where none of them holds
+-- the first cause that holds, in the order of the checks, if one holds
 abbrev pub why_never_rated : Profile → Option NeverRated
 why_never_rated profile =
     if has_empty_validity profile then Some EmptyValidity

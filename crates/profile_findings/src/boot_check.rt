@@ -1,10 +1,10 @@
-//! What is said of a point that booted.
+//! The remark on a point that booted.
 
 use findings::{Finding, Location, instant_text};
 use ocpp_scalars::Instant;
 use std::alloc::{AllocError, Global};
 
-/// A remark on the point of an identity, which booted at a moment and may have forgotten its profiles.
+/// Makes the remark that the point of this identity booted, and may have forgotten its profiles.
 pub fn check_boot(alloc: Global, point: &str, moment: Instant) -> Result<Finding, AllocError> {
     let place = Location::End(String::from_str(alloc, point)?);
     let booted = instant_text(alloc, moment)?;

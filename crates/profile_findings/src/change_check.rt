@@ -1,5 +1,5 @@
-//! What a line changes at a charge point besides what it says: a profile whose place another takes,
-//! and a fuse limit that a clear takes along.
+//! Finds changes of a point that a line doesn't name: a profile that an install replaces, and a
+//! fuse limit that a clear removes too.
 
 use findings::{Finding, Location};
 use meaning::PrevailingProfile;
@@ -9,21 +9,21 @@ use ocppj_frame::{Frame, FrameFault, Node, ReadingMemory, read_frame};
 use profile::{Criteria, Purpose};
 use std::alloc::{AllocError, Global};
 
-/// What a line changed in the profiles of its point.
+/// The changes that a line made to the profiles of its point.
 #[derive(Clone, Copy)]
 pub struct RowChange<'a> {
     /// The line's number, from 1.
     pub number: u64,
     /// The line's frame.
     pub frame: &'a str,
-    /// The profile that it brought, if it did.
+    /// The profile that it installed, if it did.
     pub came: Option<PrevailingProfile>,
-    /// The profiles that it took away.
+    /// The profiles that it removed.
     pub gone: &'a [PrevailingProfile],
 }
 
-/// What is found in a change: which profiles an install took the place of, and which
-/// ChargePointMaxProfiles a clear by other criteria took along.
+/// Checks a change. Finds the profiles that an install replaced, and the ChargePointMaxProfiles
+/// that a clear by other criteria removed too.
 pub fn check_change(alloc: Global, change: &RowChange<'_>) -> Result<Vec<Finding>, AllocError> {
     let mut findings = Vec::new(alloc);
     if let Some(came) = change.came {
@@ -42,8 +42,8 @@ pub fn check_change(alloc: Global, change: &RowChange<'_>) -> Result<Vec<Finding
     Ok(findings)
 }
 
-/// Whether a profile took another's place. A TxProfile may also be gone with its transaction, which
-/// a start with a profile of its own ended.
+/// Returns whether an install of a profile replaces another one.
+// Not every removed profile was replaced: a start may end a transaction, and with it a TxProfile.
 pub fn takes_place_of(came: PrevailingProfile, gone: PrevailingProfile) -> bool {
     came.id == gone.id
         || (came.purpose == gone.purpose
@@ -51,7 +51,7 @@ pub fn takes_place_of(came: PrevailingProfile, gone: PrevailingProfile) -> bool 
             && came.stack_level == gone.stack_level)
 }
 
-/// That a profile took another's place.
+/// Makes the finding that a profile replaced another.
 fn replaced(
     alloc: Global,
     number: u64,
@@ -70,13 +70,14 @@ fn replaced(
     let message = format!(in alloc;
         "{purpose} {id} takes the place of {name}, which has the same chargingProfileId"
     )?;
+    // With the same id and purpose this updates a profile; another purpose is probably a mistake.
     if came.purpose == gone.purpose {
         return Ok(Finding::remark(place, message));
     }
     Ok(Finding::warning(place, message))
 }
 
-/// That a clear took a fuse limit along.
+/// Makes the finding that a clear removed a fuse limit too.
 fn cleared_too(alloc: Global, number: u64, gone: PrevailingProfile) -> Result<Finding, AllocError> {
     let name = named(alloc, gone)?;
     let message = format!(in alloc;
@@ -85,7 +86,7 @@ fn cleared_too(alloc: Global, number: u64, gone: PrevailingProfile) -> Result<Fi
     Ok(Finding::warning(Location::Line(number), message))
 }
 
-/// A profile by its purpose, its id and where it stands.
+/// Names a profile by its purpose, id, stack level and connector.
 fn named(alloc: Global, profile: PrevailingProfile) -> Result<String, AllocError> {
     let purpose = purpose_name(profile.purpose);
     let id = profile.id;
@@ -94,8 +95,8 @@ fn named(alloc: Global, profile: PrevailingProfile) -> Result<String, AllocError
     format!(in alloc; "{purpose} {id} (stack level {level}, at connector {connector})")
 }
 
-/// Whether a message is a ClearChargingProfile with criteria, but none that says which profile or
-/// purpose is meant.
+/// Returns whether a message is a ClearChargingProfile with criteria, but no id or purpose.
+// A clear by connectorId or stackLevel matches profiles of each purpose, fuse limits among them.
 fn clears_at_large(alloc: Global, text: &str) -> Result<bool, AllocError> {
     let mut memory = ReadingMemory::new(alloc);
     match read_frame(&mut memory, text) {
@@ -127,13 +128,13 @@ fn has_large_criteria(alloc: Global, payload: Node<'_, '_>) -> Result<bool, Allo
     }
 }
 
-/// Whether a clear has criteria, but neither id nor purpose. Of a clear without any it is said
-/// before.
+/// Returns whether a clear has criteria, but neither id nor purpose.
+// A clear without any has a warning of its own.
 fn is_at_large(criteria: &Criteria) -> bool {
     criteria.id.is_none() && criteria.purpose.is_none() && !has_no_criterion(criteria)
 }
 
-/// Whether a clear clears all.
+/// Returns whether a clear has no criterion, and so clears all profiles.
 pub fn has_no_criterion(criteria: &Criteria) -> bool {
     criteria.id.is_none()
         && criteria.connector.is_none()

@@ -1,4 +1,4 @@
-//! What a call makes of the fuse limit of its point.
+//! Checks the effect of a call on the fuse limit of its point.
 
 ghost use Rattle.std.specs.Prelude.{◌↔◌, IfOk, IsSome};
 ghost use Rattle.profile_findings.specs.Fuse.{IsRaised, IsRaisedOrGone};
@@ -10,8 +10,7 @@ use point_book::PointBook;
 use profile::{Purpose, Unit};
 use std::alloc::{AllocError, Global};
 
-/// The most that the ChargePointMaxProfiles of a point allow, in tenths. None where it has no such
-/// profile.
+/// Returns the highest limit of a point's ChargePointMaxProfiles, in tenths. None if it has none.
 pub fn fuse_limit(book: &PointBook) -> Option<u32> {
     let mut highest = None;
     for row in book.view().rows {
@@ -22,7 +21,7 @@ pub fn fuse_limit(book: &PointBook) -> Option<u32> {
     highest
 }
 
-/// A warning where a call to the point of an identity raises its fuse limit, or leaves it without one.
+/// Returns a warning if a call to the point of this identity raises or removes its fuse limit.
 pub fn check_fuse(
     alloc: Global,
     unit: Unit,
@@ -44,7 +43,8 @@ pub fn check_fuse(
     Ok(Some(Finding::warning(place, message)))
 }
 
-/// A remark on the line of a number where it raises the fuse limit of its point.
+/// Returns a remark on the line of this number if it raises the fuse limit of its point.
+// `check` reads lines that are written already, so it only remarks; `call` warns before it sends.
 pub fn check_raise(
     alloc: Global,
     unit: Unit,
@@ -64,7 +64,7 @@ pub fn check_raise(
     Ok(Some(Finding::remark(Location::Line(line), message)))
 }
 
-/// A remark on the point of an identity that has no fuse limit, though most points of its site do.
+/// Makes the remark that the point of this identity, unlike most of its site, has no fuse limit.
 pub fn check_unlimited(alloc: Global, point: &str) -> Result<Finding, AllocError> {
     let place = Location::End(String::from_str(alloc, point)?);
     let message = String::from_str(
@@ -74,7 +74,7 @@ pub fn check_unlimited(alloc: Global, point: &str) -> Result<Finding, AllocError
     Ok(Finding::remark(place, message))
 }
 
-/// That a point has no fuse limit any more.
+/// Describes the removal of a point's fuse limit.
 fn gone_message(alloc: Global, unit: Unit, was: u32) -> Result<String, AllocError> {
     let was = tenths_text(alloc, u64::from(was))?;
     let unit = unit_name(unit);
@@ -83,7 +83,7 @@ fn gone_message(alloc: Global, unit: Unit, was: u32) -> Result<String, AllocErro
     )
 }
 
-/// That a point's fuse limit is higher.
+/// Describes the raise of a point's fuse limit.
 fn raised_message(alloc: Global, unit: Unit, was: u32, now: u32) -> Result<String, AllocError> {
     let was = tenths_text(alloc, u64::from(was))?;
     let now = tenths_text(alloc, u64::from(now))?;

@@ -1,4 +1,4 @@
-//! A profile for all connectors that speaks for none of them.
+//! Finds a profile at connector 0 that may prevail at no connector.
 
 ghost use Rattle.std.specs.Prelude.{◌≡◌, ◌↔◌, IsTrue, length};
 ghost use Rattle.profile_findings.specs.Hidden.{SpeaksForNone, IsHiddenEverywhere};
@@ -6,8 +6,8 @@ ghost use Rattle.profile_findings.specs.Hidden.{SpeaksForNone, IsHiddenEverywher
 use meaning::View;
 use profile::{Purpose, Row, is_candidate};
 
-/// Whether a TxDefaultProfile is at connector 0 and each connector has one of its own at its stack
-/// level (chapter 3.13). Then it counts nowhere, even while the others have no limit.
+/// Returns whether a TxDefaultProfile is at connector 0 and each connector has one of its own at
+/// its stack level (chapter 3.13). Then it counts nowhere, even while the others have no limit.
 pub(crate) fn is_hidden_everywhere(view: &View<'_>, row: &Row) -> bool
     ensures { IsTrue result
         ↔ IsHiddenEverywhere view.now.rows.now (length view.now.ceilings.now) row.now }
@@ -17,7 +17,7 @@ pub(crate) fn is_hidden_everywhere(view: &View<'_>, row: &Row) -> bool
         && speaks_for_none(view, row)
 }
 
-/// Whether a row speaks for no connector among the TxDefaultProfiles.
+/// Returns whether a row may prevail at no connector among the TxDefaultProfiles.
 fn speaks_for_none(view: &View<'_>, row: &Row) -> bool
     ensures { IsTrue result
         ↔ SpeaksForNone view.now.rows.now (length view.now.ceilings.now) row.now }

@@ -1,4 +1,4 @@
-//! What is worth a look in the profiles that a point has, gets or loses.
+//! Checks the profiles that a point has, gets or loses.
 #![tactic(auto)]
 
 mod boot_check;

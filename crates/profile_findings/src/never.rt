@@ -1,29 +1,28 @@
-//! Whether a charging profile never has a rate, and why.
+//! Finds the reason why a charging profile never has a rate.
 
 ghost use Rattle.std.specs.Prelude.{◌≡◌, IsTrue, OnSome, Some};
 ghost use Rattle.profile_findings.specs.NeverRated.{IsNeverRated, HasNoPeriodBefore, why_never_rated, has_empty_validity, is_valid_before_start, is_valid_after_end, has_no_duration, has_periods_past_duration, has_periods_past_recurrence, start_past};
 
 use profile::{Kind, Period, Profile};
 
-/// Why a profile has a rate at no second, whatever it counts its seconds from.
+/// The reason why a profile has a rate at no second, whatever its base.
 #[derive(Clone, Copy, PartialEq, Eq)]
 pub enum NeverRated {
     /// validTo isn't after validFrom.
     EmptyValidity,
     /// validTo isn't after startSchedule.
     ValidBeforeStart,
-    /// validFrom isn't before the end of its duration after startSchedule.
+    /// validFrom isn't before the end of the schedule, by startSchedule and duration.
     ValidAfterEnd,
     /// duration is 0.
     NoDuration,
-    /// The first period starts when the duration is over, or later.
+    /// The first period starts at the end of the duration, or later.
     PeriodsPastDuration,
-    /// The first period starts when the day or the week is over, or later.
+    /// The first period starts at the end of the day or the week, or later.
     PeriodsPastRecurrence,
 }
 
-/// Why a profile never has a rate: the first of the causes of [`NeverRated`] that holds, if one
-/// does.
+/// Returns the first cause of [`NeverRated`] that holds, if one does.
 pub fn never_rated(profile: &Profile) -> Option<NeverRated>
     ensures cause { result ≡ why_never_rated profile.now }
     ensures never { OnSome result (IsNeverRated profile.now) }
@@ -49,7 +48,7 @@ pub fn never_rated(profile: &Profile) -> Option<NeverRated>
     None
 }
 
-/// Whether validTo isn't after validFrom.
+/// Returns whether validTo isn't after validFrom.
 fn has_empty_validity(profile: &Profile) -> bool
     ensures exact { result ≡ has_empty_validity profile.now }
     ensures never { IsTrue result → IsNeverRated profile.now }
@@ -60,7 +59,8 @@ fn has_empty_validity(profile: &Profile) -> bool
     }
 }
 
-/// Whether validTo isn't after startSchedule.
+/// Returns whether validTo isn't after startSchedule.
+// This holds for Recurring profiles too, since they don't reach back before startSchedule.
 fn is_valid_before_start(profile: &Profile) -> bool
     ensures exact { result ≡ is_valid_before_start profile.now }
     ensures never { IsTrue result → IsNeverRated profile.now }
@@ -71,7 +71,7 @@ fn is_valid_before_start(profile: &Profile) -> bool
     }
 }
 
-/// Whether an Absolute schedule is over before the profile becomes valid.
+/// Returns whether an Absolute schedule is over before the profile becomes valid.
 fn is_valid_after_end(profile: &Profile) -> bool
     ensures exact { result ≡ is_valid_after_end profile.now }
     ensures never { IsTrue result → IsNeverRated profile.now }
@@ -87,11 +87,12 @@ fn is_valid_after_end(profile: &Profile) -> bool
         Kind::Absolute => {
             start <= from && u64::from(duration) <= from.seconds() - start.seconds()
         }
+        // A Recurring schedule begins again after its end; a Relative one has no startSchedule.
         Kind::Recurring(_) | Kind::Relative => false,
     }
 }
 
-/// Whether the duration is 0.
+/// Returns whether the duration is 0.
 fn has_no_duration(profile: &Profile) -> bool
     ensures exact { result ≡ has_no_duration profile.now }
     ensures never { IsTrue result → IsNeverRated profile.now }
@@ -102,7 +103,7 @@ fn has_no_duration(profile: &Profile) -> bool
     }
 }
 
-/// Whether no period starts within the duration.
+/// Returns whether no period starts within the duration.
 fn has_periods_past_duration(profile: &Profile) -> bool
     ensures exact { result ≡ has_periods_past_duration profile.now }
     ensures never { IsTrue result → IsNeverRated profile.now }
@@ -113,7 +114,7 @@ fn has_periods_past_duration(profile: &Profile) -> bool
     }
 }
 
-/// Whether no period starts within the day or the week of a Recurring schedule.
+/// Returns whether no period starts within the day or the week of a Recurring schedule.
 fn has_periods_past_recurrence(profile: &Profile) -> bool
     ensures exact { result ≡ has_periods_past_recurrence profile.now }
     ensures never { IsTrue result → IsNeverRated profile.now }
@@ -124,7 +125,7 @@ fn has_periods_past_recurrence(profile: &Profile) -> bool
     }
 }
 
-/// Whether each period starts at this offset or later, in seconds.
+/// Returns whether each period starts at this offset or later, in seconds.
 fn start_past(profile: &Profile, end: u64) -> bool
     ensures exact { result ≡ start_past profile.now.schedule.periods (Some end) }
     ensures before { IsTrue result → HasNoPeriodBefore profile.now end }

@@ -1,4 +1,4 @@
-//! What is amiss with what a point has when a script ends, though each line by itself is right.
+//! Checks the profiles that a point has when a script ends, though each line by itself is right.
 
 use crate::hidden::is_hidden_everywhere;
 use crate::together::{Excess, worst_excess};
@@ -9,12 +9,11 @@ use point_book::PointBook;
 use profile::{Purpose, Row, Unit};
 use std::alloc::{AllocError, Global};
 
-/// What is wrong with what the point of an identity has. It may have TxDefaultProfiles for all
-/// connectors that each connector's own one hides, and ChargePointMaxProfiles that one above them
-/// lifts. The schedules of its connectors together may go
-/// beyond the ChargePointMaxProfile: that is reported where they go furthest. Where no profile of a
-/// connector prevails there, so that the ceilings of the site file alone go beyond it, that is a
-/// remark.
+/// Checks the profiles of the point of this identity. Finds TxDefaultProfiles at connector 0 that
+/// each connector's own one hides, and ChargePointMaxProfiles that one of a higher level lifts.
+/// Also finds the instant at which the connectors' schedules together exceed the
+/// ChargePointMaxProfile most. That is a remark if no profile of a connector prevails there: then
+/// the ceilings of the site file alone exceed it.
 pub fn check_standing(
     alloc: Global,
     unit: Unit,
@@ -30,7 +29,7 @@ pub fn check_standing(
     Ok(findings)
 }
 
-/// Of each TxDefaultProfile for all connectors that it speaks for none.
+/// Returns a warning for each TxDefaultProfile at connector 0 that may prevail at no connector.
 fn hidden_defaults(
     alloc: Global,
     point: &str,
@@ -46,7 +45,7 @@ fn hidden_defaults(
     Ok(findings)
 }
 
-/// Of each ChargePointMaxProfile the first other one that lifts it.
+/// Returns a warning for each ChargePointMaxProfile that another one lifts, with the first such.
 fn lifted_limits(
     alloc: Global,
     unit: Unit,
@@ -63,8 +62,9 @@ fn lifted_limits(
     Ok(findings)
 }
 
-/// Whether a row's limit for the whole point may be higher than another's in whose place it counts:
-/// where both have a limit, the higher stack level counts alone (chapter 3.13).
+/// Returns whether a ChargePointMaxProfile may allow more than one that it overrides: where both
+/// have a limit, only the higher stack level counts (OCPP 1.6, chapter 3.13).
+// Only the extremes are compared, so the two profiles needn't have a limit at the same time.
 fn lifts(high: &Row, low: &Row) -> bool {
     high.profile.purpose == Purpose::ChargePointMaxProfile
         && low.profile.purpose == Purpose::ChargePointMaxProfile
@@ -72,7 +72,7 @@ fn lifts(high: &Row, low: &Row) -> bool {
         && highest_limit(high) > lowest_limit(low)
 }
 
-/// The highest limit of a profile's periods, in tenths.
+/// Returns the highest limit of a profile's periods, in tenths.
 pub(crate) fn highest_limit(row: &Row) -> u32 {
     let mut highest = 0;
     for period in row.profile.schedule.periods.as_slice() {
@@ -81,7 +81,7 @@ pub(crate) fn highest_limit(row: &Row) -> u32 {
     highest
 }
 
-/// The lowest limit of a profile's periods, in tenths.
+/// Returns the lowest limit of a profile's periods, in tenths.
 fn lowest_limit(row: &Row) -> u32 {
     let mut lowest = u32::MAX;
     for period in row.profile.schedule.periods.as_slice() {
@@ -90,7 +90,7 @@ fn lowest_limit(row: &Row) -> u32 {
     lowest
 }
 
-/// That connectors may draw more together than their point.
+/// Makes the finding that the connectors may draw more together than their point.
 fn excess_finding(
     alloc: Global,
     unit: Unit,
@@ -102,6 +102,7 @@ fn excess_finding(
         Ok(None) => return Ok(None),
         Err(error) => return Err(error),
     };
+    // The ceilings of most points add up to more than the point may draw: alone they are a remark.
     let severity = if excess.is_scheduled {
         Severity::Warning
     } else {
@@ -124,7 +125,7 @@ fn finding_at_end(
     })
 }
 
-/// That a profile counts nowhere.
+/// Describes a profile that counts nowhere.
 fn hidden_message(alloc: Global, row: &Row) -> Result<String, AllocError> {
     let id = row.profile.id;
     let level = row.profile.stack_level;
@@ -133,7 +134,7 @@ fn hidden_message(alloc: Global, row: &Row) -> Result<String, AllocError> {
     )
 }
 
-/// That a ChargePointMaxProfile lets a point draw more than another one does.
+/// Describes a ChargePointMaxProfile that allows more than another one.
 fn lifted_message(alloc: Global, unit: Unit, high: &Row, low: &Row) -> Result<String, AllocError> {
     let unit = unit_name(unit);
     let (above, below) = (high.profile.id, low.profile.id);
@@ -144,7 +145,7 @@ fn lifted_message(alloc: Global, unit: Unit, high: &Row, low: &Row) -> Result<St
     )
 }
 
-/// That the connectors may draw more together than their point.
+/// Describes connectors that may draw more together than their point.
 fn excess_message(alloc: Global, unit: Unit, excess: &Excess<'_>) -> Result<String, AllocError> {
     let what = if excess.is_scheduled {
         "schedules"

@@ -1,4 +1,4 @@
-//! Schedules of connectors that together go beyond the ChargePointMaxProfile of their point.
+//! Finds where the connectors' schedules together exceed the ChargePointMaxProfile of their point.
 
 ghost use Rattle.std.specs.Prelude.{◌<◌, ◌≤◌, length};
 
@@ -10,24 +10,24 @@ use recurrence::{next_change, rate_at, sooner};
 use std::alloc::{AllocError, Global};
 use sweep_compiler::{Turns, explain};
 
-/// How long is looked at, in seconds.
+/// The length of the checked time, in seconds.
+// The longest recurrence of OCPP 1.6, which has Daily and Weekly.
 const WEEK: u32 = 604_800;
 
-/// Where the connectors may draw more together than their point.
+/// An instant at which the connectors may draw more together than their point.
 #[derive(Clone, Copy)]
 pub(crate) struct Excess<'a> {
     pub instant: Instant,
-    /// What the connectors may draw by their schedules, in tenths.
+    /// The sum of the connectors' schedules, in tenths.
     pub together: u64,
     /// The ChargePointMaxProfile that prevails, and its limit in tenths.
     pub most: &'a Row,
     pub limit: u32,
-    /// Whether a profile of a connector has a part in it, and not the ceilings of the site file
-    /// alone.
+    /// Whether a profile of a connector prevails then, and not only the ceilings of the site file.
     pub is_scheduled: bool,
 }
 
-/// What turns at a second of the week that is looked at.
+/// A change at a second of the checked week.
 #[derive(Clone, Copy)]
 struct WeekTurn<'a> {
     /// Counted from the last install.
@@ -35,9 +35,10 @@ struct WeekTurn<'a> {
     what: Turning<'a>,
 }
 
+/// The value that changes, with its new value.
 #[derive(Clone, Copy)]
 enum Turning<'a> {
-    /// What some connectors may draw together, in tenths.
+    /// The sum of the limits of connectors that are alike, in tenths.
     Limit { was: u64, now: u64 },
     /// The ChargePointMaxProfile that prevails.
     Most(Option<Most<'a>>),
@@ -50,7 +51,7 @@ struct Most<'a> {
     limit: u32,
 }
 
-/// Where more is drawn together than the point may, by the second.
+/// A second at which the connectors may draw more together than the point.
 #[derive(Clone, Copy)]
 struct Overrun<'a> {
     second: u32,
@@ -58,7 +59,7 @@ struct Overrun<'a> {
     most: Most<'a>,
 }
 
-/// The week that is looked at, from the last install of a point on.
+/// The checked week, from the last install of a point on.
 #[derive(Clone, Copy)]
 struct Week<'a> {
     book: &'a PointBook,
@@ -67,9 +68,8 @@ struct Week<'a> {
     duration: u32,
 }
 
-/// Where the schedules of the connectors together say most beyond the prevailing
-/// ChargePointMaxProfile (chapter 3.13), and of several such instants the first. A week from the
-/// last install on is looked at.
+/// Returns the first instant of the week after the last install at which the connectors' schedules
+/// together exceed the prevailing ChargePointMaxProfile most (OCPP 1.6, chapter 3.13).
 pub(crate) fn worst_excess(
     alloc: Global,
     book: &PointBook,
@@ -87,8 +87,7 @@ pub(crate) fn worst_excess(
     Ok(excess_of(&week, overrun))
 }
 
-/// The week from the last moment on at which a profile was installed, where one is a
-/// ChargePointMaxProfile.
+/// Returns the week from the last install on, if the point has a ChargePointMaxProfile.
 fn week_of(book: &PointBook) -> Option<Week<'_>> {
     let mut last = None;
     let mut is_bounded = false;
@@ -109,10 +108,10 @@ fn week_of(book: &PointBook) -> Option<Week<'_>> {
     })
 }
 
-/// Appends where the ChargePointMaxProfile that prevails turns.
+/// Appends the changes of the prevailing ChargePointMaxProfile.
 fn push_most_turns<'a>(turns: &mut Vec<WeekTurn<'a>>, week: &Week<'a>) -> Result<(), AllocError> {
     let mut second = 0;
-    // Each turn is at least a second later than the one before.
+    // Each change is at least a second after the last, so this range ends the loop without a proof.
     for _ in 0..week.duration {
         let Some(instant) = later_by(week.asked, second) else {
             return Ok(());
@@ -127,13 +126,13 @@ fn push_most_turns<'a>(turns: &mut Vec<WeekTurn<'a>>, week: &Week<'a>) -> Result
     Ok(())
 }
 
-/// The instant that number of seconds later.
+/// Returns the instant that number of seconds later.
 fn later_by(asked: Instant, second: u32) -> Option<Instant> {
     Instant::try_new(asked.seconds().saturating_add(u64::from(second)))
 }
 
-/// The ChargePointMaxProfile that prevails at an instant: of those with a limit the one of the
-/// highest level.
+/// Returns the ChargePointMaxProfile that prevails at an instant: of those with a limit the one of
+/// the highest stack level.
 fn most_at(book: &PointBook, asked: Instant, instant: Instant) -> Option<Most<'_>> {
     for row in book.candidates(Purpose::ChargePointMaxProfile, 0) {
         if let Some(limit) = rate_at(&row.profile, row.base(None, asked), instant) {
@@ -143,7 +142,7 @@ fn most_at(book: &PointBook, asked: Instant, instant: Instant) -> Option<Most<'_
     None
 }
 
-/// The second of the next place of a ChargePointMaxProfile.
+/// Returns the next second at which the limit of a ChargePointMaxProfile may change.
 fn next_most_turn(week: &Week<'_>, instant: Instant) -> Option<u32> {
     let mut next = None;
     for row in week.book.view().rows {
@@ -156,8 +155,8 @@ fn next_most_turn(week: &Week<'_>, instant: Instant) -> Option<u32> {
     u32::try_from(second).ok()
 }
 
-/// Appends where the limits of connectors turn. Those of connectors that are alike turn together,
-/// and are found once.
+/// Appends the changes of the connectors' limits.
+// Connectors that are alike change together, so one schedule serves up to 64 of them.
 fn push_limit_turns<'a>(
     alloc: Global,
     turns: &mut Vec<WeekTurn<'a>>,
@@ -174,7 +173,7 @@ fn push_limit_turns<'a>(
     Ok(())
 }
 
-/// Whether no connector before this one is like it.
+/// Returns whether no connector before this one is like it.
 fn is_first_alike(view: &View<'_>, connector: u32) -> bool {
     for before in 1..connector {
         if are_alike(view, before, connector) {
@@ -184,7 +183,7 @@ fn is_first_alike(view: &View<'_>, connector: u32) -> bool {
     true
 }
 
-/// How many connectors are like this one, itself included.
+/// Returns the number of connectors like this one, itself included.
 fn count_alike(view: &View<'_>, connector: u32) -> u64 {
     let mut count: u64 = 0;
     for before in 0..view.ceilings.len() {
@@ -195,9 +194,8 @@ fn count_alike(view: &View<'_>, connector: u32) -> u64 {
     count
 }
 
-/// Whether the limits of two connectors are the same. It is one connector, or they have the same
-/// ceiling, and neither has a profile of its own. Their transactions began at the same moment, or
-/// they have none.
+/// Returns whether two connectors have the same limits: they are one, or they have the same ceiling
+/// and no profiles of their own. Their transactions began at the same moment, or they have none.
 fn are_alike(view: &View<'_>, one: u32, other: u32) -> bool {
     if one == other {
         return true;
@@ -211,7 +209,7 @@ fn are_alike(view: &View<'_>, one: u32, other: u32) -> bool {
             .any(|row| row.connector == one || row.connector == other)
 }
 
-/// Appends where the limit of a connector turns, with that of all that are like it.
+/// Appends the changes of a connector's limit, times the number of connectors like it.
 fn push_turns_of<'a>(
     alloc: Global,
     turns: &mut Vec<WeekTurn<'a>>,
@@ -236,7 +234,7 @@ fn push_turns_of<'a>(
     Ok(())
 }
 
-/// The worst overrun on the way through these turns, which go by their seconds.
+/// Returns the worst overrun at these changes, which are sorted by second.
 fn worst_of<'a>(turns: &[WeekTurn<'a>]) -> Option<Overrun<'a>> {
     let mut worst: Option<Overrun<'a>> = None;
     let mut together: u64 = 0;
@@ -248,7 +246,7 @@ fn worst_of<'a>(turns: &[WeekTurn<'a>]) -> Option<Overrun<'a>> {
             }
             Turning::Most(prevailing) => most = prevailing,
         }
-        // All that turns at a second counts for it.
+        // Within a second one limit may have risen before another falls: only the last sum counts.
         let next = turns.get(place.saturating_add(1));
         if next.is_none_or(|next| next.second > turn.second) {
             worst = worse(worst, overrun_of(turn.second, together, most));
@@ -257,7 +255,7 @@ fn worst_of<'a>(turns: &[WeekTurn<'a>]) -> Option<Overrun<'a>> {
     worst
 }
 
-/// The overrun at a second, if there is one.
+/// Returns the overrun at a second, if there is one.
 fn overrun_of(second: u32, together: u64, most: Option<Most<'_>>) -> Option<Overrun<'_>> {
     let most = most?;
     if together <= u64::from(most.limit) {
@@ -270,7 +268,7 @@ fn overrun_of(second: u32, together: u64, most: Option<Most<'_>>) -> Option<Over
     })
 }
 
-/// The worse of an overrun and a later one.
+/// Returns the worse of an overrun and a later one, and the first if both are equal.
 fn worse<'a>(first: Option<Overrun<'a>>, later: Option<Overrun<'a>>) -> Option<Overrun<'a>> {
     match (first, later) {
         (Some(first), Some(later)) if later.beyond() <= first.beyond() => Some(first),
@@ -280,13 +278,13 @@ fn worse<'a>(first: Option<Overrun<'a>>, later: Option<Overrun<'a>>) -> Option<O
 }
 
 impl Overrun<'_> {
-    /// How much more is drawn than may be.
+    /// Returns the excess over the point's limit.
     fn beyond(&self) -> u64 {
         self.together.saturating_sub(u64::from(self.most.limit))
     }
 }
 
-/// An overrun by its instant.
+/// Makes an `Excess` of an overrun, with its instant.
 fn excess_of<'a>(week: &Week<'a>, overrun: Overrun<'a>) -> Option<Excess<'a>> {
     let instant = later_by(week.asked, overrun.second)?;
     Some(Excess {
@@ -298,7 +296,7 @@ fn excess_of<'a>(week: &Week<'a>, overrun: Overrun<'a>) -> Option<Excess<'a>> {
     })
 }
 
-/// Whether a profile of a connector prevails at an instant.
+/// Returns whether a profile other than a ChargePointMaxProfile prevails at an instant.
 fn is_scheduled(view: &View<'_>, asked: Instant, instant: Instant) -> bool {
     for (place, row) in view.rows.iter().enumerate() {
         if row.profile.purpose != Purpose::ChargePointMaxProfile
@@ -310,7 +308,7 @@ fn is_scheduled(view: &View<'_>, asked: Instant, instant: Instant) -> bool {
     false
 }
 
-/// Whether the row at a place prevails at a connector.
+/// Returns whether the row at this index prevails at a connector.
 fn prevails_somewhere(view: &View<'_>, asked: Instant, instant: Instant, place: usize) -> bool
     requires within { place < length view.now.rows.now }
 {

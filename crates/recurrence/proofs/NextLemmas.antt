@@ -1,4 +1,4 @@
--- The next number that passes one of two tests, or a test that comes again and again.
+-- The next number that passes one of two tests, or a periodic test.
 use Rattle.std.proofs.Common.{◌≡◌, ℕ, ◌+◌, ◌-◌, ◌*◌, ◌/◌, ◌%◌, ◌<◌, ◌≤◌, nat_lt, Bool, true, false, ◌||◌, cond, Option, Some, None, refl, sym, subst, ap, ◌∙◌, mod-lt, arith}
 use Rattle.std.specs.Ordering.{nat_cmp}
 use Rattle.std.proofs.Math.Nat.{div-add-mod}
@@ -8,7 +8,7 @@ use Rattle.recurrence.specs.ByCases.Sooner.{sooner}
 use Rattle.recurrence.specs.Theory.Next.{sooner_number}
 use Rattle.recurrence.specs.ByCases.Next.{IsFirstAfter, IsNext}
 
--- of two tests
+-- the next number that passes one of two tests
 pub next_or : (p q : ℕ → Bool) (n : ℕ) (a b : Option ℕ) → IsNext p n a → IsNext q n b → IsNext (λ k. p k || q k) n (sooner nat_cmp a b)
 next_or p q n None None no_a no_b = λ k later. rw (no_a k later, no_b k later) refl
 next_or p q n None (Some b) no_a is_b = record {
@@ -44,7 +44,7 @@ pub next_beside : (p q : ℕ → Bool) (n : ℕ) (r : Option ℕ) → ((k : ℕ)
 next_beside p q n None never fails = next_or p q n None None never fails
 next_beside p q n (Some r) never is = next_or p q n None (Some r) never is
 
--- in one occurrence the remainders count on from its beginning
+-- in one occurrence the remainders increase by one from its start
 begun : (n length : ℕ) → n - n % length ≡ (n / length) * length
 begun n length = let e = div-add-mod n length in omega (arith, e)
 
@@ -58,7 +58,7 @@ within_at n length k later inside low =
     let inner : m < length = omega arith in
     ap (λ j. j % length) (sym e) ∙ within n length m inner
 
--- a turn in the occurrence that runs
+-- a turn in the current occurrence
 pub again_within : (p : ℕ → Bool) (n length turn : ℕ) → turn < length → n % length ≤ n → IsFirstAfter p (n % length) turn
     → IsFirstAfter (λ k. p (k % length)) n (n - n % length + turn)
 again_within p n length turn inside low is =
@@ -70,7 +70,7 @@ again_within p n length turn inside low is =
           ap p (within_at n length k later (omega arith) low) ∙ is.fails_between (k - (n - n % length)) (omega arith) (omega arith);
     }
 
--- or else where the next one begins
+-- otherwise the start of the next occurrence
 pub again_after : (p : ℕ → Bool) (n length : ℕ) → 0 < length → n % length ≤ n → p 0 ≡ true → ((k : ℕ) → n % length < k → k < length → p k ≡ false)
     → IsFirstAfter (λ k. p (k % length)) n (n - n % length + length)
 again_after p n length some low begins fails =

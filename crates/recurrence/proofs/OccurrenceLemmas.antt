@@ -1,4 +1,4 @@
--- How far a profile is in an occurrence of its schedule.
+-- The progress of a profile in an occurrence of its schedule.
 use Rattle.std.proofs.Common.{◌≡◌, ℕ, zero, suc, ◌+◌, ◌-◌, ◌<◌, ◌≤◌, ◌==◌, nat_le, nat_lt, Bool, true, false, ◌&&◌, ◌||◌, List, [], ◌∷◌, filter, length, get_or, Option, Some, None, cond, ⊎_elim, refl, sym, ap, ◌∙◌, arith}
 use Rattle.std.proofs.Math.Nat.{mod-le}
 use Rattle.std.proofs.lemmas.Bool.{and_parts, cases_lt}
@@ -64,11 +64,11 @@ greatest_at (p ∷ ps) (suc i) d ordered inside =
     let less : nat_lt p.start (get_or ps i d).start ≡ true = grind (arith, nat_tests) in
     rw (test, greatest_at ps i d (tail_in_order p ps ordered) inner, less) refl
 
--- where a period starts, the limit is its own
+-- at a period's start, the limit is that of the period
 limit_at_start : (ps : List Period) (i : ℕ) (d : Period) → are_in_order ps ≡ true → i < length ps → limit_in ps (get_or ps i d).start ≡ Some (get_or ps i d).limit
 limit_at_start ps i d ordered inside = rw (greatest_at ps i d ordered inside) refl
 
--- and one more has begun
+-- and one more period has begun
 begun_more : (ps : List Period) (i : ℕ) (d : Period) → are_in_order ps ≡ true → i < length ps → IsBegunUpTo ps (get_or ps i d).start (i + 1)
 begun_more ps i d ordered inside = (before, behind)
   where
@@ -85,13 +85,13 @@ begun_more ps i d ordered inside = (before, behind)
         let up = rises ps i k d ordered (omega arith) inner in
         let same = get_or_default ps k e d inner in rw same (grind (arith, nat_tests))
 
--- an offset is no more than the seconds since the anchor
+-- an offset is at most the seconds since the anchor
 pub offset_low : (kind : Kind) (n : ℕ) → offset_after kind n ≤ n
 offset_low Absolute n = omega arith
 offset_low (Recurring recurrency) n = mod-le n (recurrence_length recurrency)
 offset_low Relative n = omega arith
 
--- ---- up to a fence
+-- ---- before the fence
 
 from_stays : (bound : Option ℕ) (m n : ℕ) → m < n → ((j : ℕ) → m < j → j ≤ n → is_at j bound ≡ false) → is_from bound n ≡ is_from bound m
 from_stays None m n more quiet = refl

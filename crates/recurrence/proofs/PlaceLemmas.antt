@@ -1,4 +1,4 @@
--- The places after an instant, of which the nearest comes first.
+-- The places after an instant: the nearest comes first.
 use Rattle.std.proofs.Common.{◌≡◌, ℕ, ◌+◌, ◌-◌, ◌<◌, ◌≤◌, zero, suc, Bool, true, false, [], ◌∷◌, map, filter, Some, None, refl, ap, ◌∙◌, arith}
 use Rattle.std.specs.List.{range_with_len}
 use Rattle.ocpp_scalars.specs.Limits.{last_second}
@@ -20,7 +20,7 @@ first_of test a (suc before) after first e passes none =
     let more : suc before + suc after ≡ suc (before + suc after) = omega arith in
     rw (more, none a (omega arith) (omega arith)) (first_of test (a + 1) before after first (omega arith) passes (λ k from below. none k (omega arith) below))
 
--- the nearest one is the first, and after it come those that are later
+-- the nearest place is the first, followed by the places after it
 pub places_first : (profile : Profile) (base instant last next : ℕ) → IsNextPlace profile base instant (Some next) → next ≤ last
     → places_after profile base instant last ≡ place_at profile base next ∷ places_after profile base next last
 places_first profile base instant last next is up =
@@ -31,14 +31,14 @@ places_first profile base instant last next is up =
     ap (λ (n : ℕ). map (place_at profile base) (filter (is_place profile base) (range_with_len (instant + 1) n))) all
     ∙ ap (map (place_at profile base)) one
 
--- none, where the nearest one is past the last instant
+-- no places, if the nearest is past the last instant
 pub places_past : (profile : Profile) (base instant last next : ℕ) → IsNextPlace profile base instant (Some next) → last < next
     → places_after profile base instant last ≡ []
 places_past profile base instant last next is past =
     ap (map (place_at profile base)) (none_of (is_place profile base) (instant + 1) (last - instant)
     (λ k from below. fails (is_place profile base k) (is.nearest k (omega arith) (omega arith))))
 
--- none, where there is no nearest one
+-- no places, if there is no nearest one
 pub places_none : (profile : Profile) (base instant last : ℕ) → IsNextPlace profile base instant None → last ≤ last_second
     → places_after profile base instant last ≡ []
 places_none profile base instant last is up =

@@ -1,4 +1,4 @@
--- The next start among periods in order is that of the first one that hasn't begun.
+-- The next start among periods in order is that of the first period that hasn't begun.
 use Rattle.std.proofs.Common.{◌≡◌, ℕ, ◌<◌, ◌≤◌, ◌==◌, nat_le, true, false, List, length, get_or, ⊎_elim, arith}
 use Rattle.std.specs.List.Sorted.{IsPartitionPoint}
 use Rattle.std.proofs.lemmas.List.Folds.{list_any_at, list_any_none}
@@ -13,7 +13,8 @@ use Rattle.recurrence.specs.ByCases.Next.{IsFirstAfter, is_start}
 abbrev pub IsBegunUpTo : List Period → ℕ → ℕ → Type 0
 IsBegunUpTo periods offset i = IsPartitionPoint (λ (p : Period). nat_le p.start offset ≡ true) (λ (p : Period). nat_le p.start offset ≡ false) periods i
 
--- an offset at which those that have begun don't start, nor the first of the others or a later one
+-- at such an offset no period starts: neither those that have begun, nor the first of the others or
+-- a later one
 between : (periods : List Period) (i offset k : ℕ) → are_in_order periods ≡ true → IsBegunUpTo periods offset i → offset < k
     → ((d : Period) → i < length periods → k < (get_or periods i d).start) → is_start periods k ≡ false
 between periods i offset k ordered point later early = list_any_none (λ (p : Period). k == p.start) periods each

@@ -1,4 +1,4 @@
--- Forms by cases, with which proofs compute.
+-- Definitions by cases, which proofs compute with.
 pub mod Next
 pub mod Sooner
 pub mod Places

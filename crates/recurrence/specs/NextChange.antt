@@ -12,13 +12,13 @@ pub record IsNearestPlace (profile : Profile) (base instant next : ℕ) : Type 0
   pub place : IsPlace profile base next
   pub nearest : (k : ℕ) → instant < k → k < next → ¬ (IsPlace profile base k)
 
--- the nearest place after an instant, or that there is none up to the last one
+-- the nearest place after an instant; with None, there is none up to the last instant
 abbrev pub IsNextPlace : Profile → ℕ → ℕ → Option ℕ → Type 0
 IsNextPlace profile base instant None = (k : ℕ) → instant < k → k ≤ last_second → ¬ (IsPlace profile base k)
 IsNextPlace profile base instant (Some next) = IsNearestPlace profile base instant next
 
--- The rate of a profile, or that it has none, is the same at every second from an instant on: up to the
--- next one, which is left out, or up to the last one where there is no next.
+-- The rate of a profile, or that it has none, is the same at every second from an instant up to the
+-- next one, exclusive, or up to the last instant if there is no next one.
 abbrev pub HasOneRateUntil : Profile → ℕ → ℕ → Option ℕ → Type 0
 HasOneRateUntil profile base instant None =
     (k : ℕ) → instant ≤ k → k ≤ last_second → rate profile base k ≡ rate profile base instant

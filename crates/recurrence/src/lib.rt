@@ -1,6 +1,6 @@
-//! How the limit of one profile runs through time (OCPP 1.6, chapters 3.13 and 7): what it is at an
-//! instant, and when it can change next. For all kinds of profile, and without memory. The places
-//! where it can change stand in profile's `specs/Places.antt`.
+//! The limit of one profile over time (OCPP 1.6, chapters 3.13 and 7): its value at an instant, and
+//! the next instant at which it can change, for all kinds of profile and without memory. In
+//! `profile`, `specs/Places.antt` defines these instants, its places.
 #![tactic(auto)]
 
 mod next;

@@ -1,17 +1,17 @@
-//! The next of two, and a number that is next.
+//! The lesser of two options, and a number if it is next.
 
 ghost use Rattle.std.specs.Prelude.{◌≡◌, ◌==◌, ℕ};
 ghost use Rattle.recurrence.specs.ByCases.Sooner.{sooner};
 ghost use Rattle.recurrence.specs.ByCases.Next.{IsNext};
 
-/// A number, where it is greater than another.
+/// Returns a number if it is greater than another.
 pub(crate) fn later(number: u64, than: u64) -> Option<u64>
     ensures next { IsNext (λ (k : ℕ). k == number) than result }
 {
     if than < number { Some(number) } else { None }
 }
 
-/// The lesser of two, where they are there.
+/// Returns the lesser of two options, or the only one.
 pub fn sooner<T: Ord + Drop>(a: Option<T>, b: Option<T>) -> Option<T>
     ensures { result ≡ sooner T.cmp a b }
 {

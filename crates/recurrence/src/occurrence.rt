@@ -1,4 +1,5 @@
-//! How far a profile is in an occurrence of its schedule, so that its next period is found at once.
+//! The progress of a profile in an occurrence of its schedule, so that its next period is found at
+//! once.
 
 ghost use Rattle.std.specs.Prelude.{◌≡◌, ◌<◌, ◌≤◌, ◌-◌, ◌^◌, ℕ, false, Some, IfSome, IsTrue};
 ghost use Rattle.ocpp_scalars.specs.Limits.{last_second};
@@ -11,22 +12,23 @@ use crate::place::Place;
 use ocpp_scalars::Instant;
 use profile::{Kind, Period, Profile};
 
-/// An occurrence of a profile's schedule, and how far the profile is in it.
+/// An occurrence of a profile's schedule, and its progress.
 #[derive(Clone, Copy)]
 pub(crate) struct Occurrence {
     /// The second at which it begins.
     pub begin: u64,
-    /// How many of its periods have begun.
+    /// The number of its periods that have begun.
     pub begun: usize,
-    /// The first later second at which anything but the start of a period may change the limit.
+    /// The first later second at which something other than the start of a period may change the
+    /// limit.
     pub fence: u64,
-    /// Whether a period has its limit, once it has begun: the profile is valid and its duration
-    /// isn't over.
+    /// Whether a period that has begun sets the limit: the profile is valid and its duration isn't
+    /// over.
     pub is_live: bool,
 }
 
-/// The occurrence of a profile's schedule at an instant. Before its anchor nothing is known but that
-/// something else may come at once.
+/// Returns the occurrence of a profile's schedule at an instant. Before the anchor it has a fence
+/// at 0.
 pub(crate) fn occurrence_at(profile: &Profile, base: Instant, instant: Instant) -> Occurrence
     ensures { IsOccurrence profile.now base instant result }
 {
@@ -37,6 +39,8 @@ pub(crate) fn occurrence_at(profile: &Profile, base: Instant, instant: Instant) 
         return Occurrence {
             begin: second,
             begun: begun_by(periods, 0),
+            // Passed already: before the anchor the next place is the anchor or a bound of the
+            // validity, which `first_place` finds.
             fence: 0,
             is_live: false,
         };
@@ -51,7 +55,7 @@ pub(crate) fn occurrence_at(profile: &Profile, base: Instant, instant: Instant) 
     }
 }
 
-/// Whether a period that has begun has its limit, at an instant that is at this offset.
+/// Whether a period that has begun sets the limit at an instant with this offset.
 fn is_live_at(profile: &Profile, offset: u64, instant: Instant) -> bool
     ensures { result ≡ is_live_at profile.now offset instant }
 {
@@ -63,7 +67,7 @@ fn is_live_at(profile: &Profile, offset: u64, instant: Instant) -> bool
     profile.is_valid_at(instant)
 }
 
-/// How many periods have begun by an offset.
+/// Returns the number of periods that have begun by an offset.
 fn begun_by(periods: &[Period], offset: u64) -> usize
     requires ordered { IsTrue (are_in_order periods.now) }
     ensures { IsBegunUpTo periods.now offset result }
@@ -71,8 +75,8 @@ fn begun_by(periods: &[Period], offset: u64) -> usize
     periods.partition_point(|period| u64::from(period.start) <= offset)
 }
 
-/// The first second later than one at which anything but the start of a period may come, in the
-/// occurrence that began at another.
+/// Returns the first second after `second` at which something other than the start of a period may
+/// change the limit, in the occurrence that began at `begin`.
 fn fence_after(profile: &Profile, anchor: u64, begin: u64, second: u64) -> u64
     requires after { anchor ≤ second }
     requires in_calendar { second ≤ last_second }
@@ -86,7 +90,8 @@ fn fence_after(profile: &Profile, anchor: u64, begin: u64, second: u64) -> u64
     lesser(lesser(from, to), lesser(end, round))
 }
 
-/// A bound of the validity, where it is later than a second.
+/// Returns a bound of the validity if it is later than a second, otherwise a number past every
+/// instant.
 fn bound_after(bound: Option<Instant>, second: u64) -> u64
     ensures { (k : ℕ) → second < k → k < result → is_at k bound ≡ false }
 {
@@ -96,7 +101,8 @@ fn bound_after(bound: Option<Instant>, second: u64) -> u64
     }
 }
 
-/// The end of a schedule that began at a second, where it is later than another.
+/// Returns the end of a schedule that began at `begin` if it is later than `second`, otherwise a
+/// number past every instant.
 fn end_after(duration: Option<u32>, begin: u64, second: u64) -> u64
     requires begun { begin ≤ second }
     requires in_calendar { second ≤ last_second }
@@ -108,7 +114,7 @@ fn end_after(duration: Option<u32>, begin: u64, second: u64) -> u64
     }
 }
 
-/// Where a schedule begins anew that began at a second.
+/// Returns the second at which a schedule that began at `begin` begins again.
 fn round_after(kind: Kind, anchor: u64, begin: u64, second: u64) -> u64
     requires after { anchor ≤ second }
     requires in_calendar { second ≤ last_second }
@@ -129,7 +135,7 @@ fn lesser(a: u64, b: u64) -> u64
     if a <= b { a } else { b }
 }
 
-/// The start of a period, in seconds.
+/// Returns the start of a period, in seconds.
 fn start_of(period: &Period) -> u64
     ensures start { result ≡ period.now.start }
     ensures small { result < 2 ^ 32 }
@@ -137,15 +143,15 @@ fn start_of(period: &Period) -> u64
     u64::from(period.start)
 }
 
-/// The limit of a period that has begun, where it has one.
+/// Returns the limit of a period that has begun, if it sets one.
 fn if_live(is_live: bool, limit: u32) -> Option<u32>
     ensures { result ≡ if_live is_live (Some limit) }
 {
     if is_live { Some(limit) } else { None }
 }
 
-/// The next place of a profile, where that is the start of a period before the fence, and the
-/// occurrence from there on.
+/// Returns the next place of a profile, and the occurrence from there on, if that place is the
+/// start of a period before the fence.
 pub(crate) fn next_period(
     profile: &Profile,
     base: Instant,

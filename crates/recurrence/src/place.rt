@@ -1,4 +1,4 @@
-//! The places of a profile in an interval of time, one after another.
+//! The places of a profile in an interval of time, in order.
 
 ghost use Rattle.std.specs.Prelude.{◌≡◌, [], IfNone, IfSome};
 ghost use Rattle.std.specs.Iterator.{YieldsFirst, item_count};
@@ -16,18 +16,18 @@ use std::marker::Model;
 #[derive(Clone, Copy, PartialEq, Eq)]
 pub struct Place {
     pub instant: Instant,
-    /// The limit from there on, in tenths of A or W, or `None` where the profile has none.
+    /// The limit from there on, in tenths of A or W, or `None` if the profile has none.
     pub rate: Option<u32>,
 }
 
-/// The places of a profile later than an instant and up to a last one, that included, in their order
-/// (chapters 3.13 and 7). However long a profile recurs, the next place is found without a walk from
-/// its first occurrence. Allocates nothing.
+/// An iterator over the places of a profile later than an instant and up to a last one, inclusive,
+/// in order (chapters 3.13 and 7). It never walks through the occurrences of a recurring profile to
+/// find the next place. Allocates nothing.
 #[derive(Drop)]
 pub struct Places<'a> {
     profile: &'a Profile,
     base: Instant,
-    /// Those up to here were yielded.
+    /// The places up to this instant have been yielded.
     after: Instant,
     last: Instant,
     occurrence: Occurrence,
@@ -49,7 +49,8 @@ impl<'a> Model for Places<'a> {
 impl<'a> Places<'a> {
     ghost use Rattle.recurrence.specs.Places.{places_after};
 
-    /// The places of a profile, counted from a base, later than `after` and up to `last`.
+    /// Makes an iterator over the places of a profile, counted from a base, later than `after` and
+    /// up to `last`.
     pub fn new(profile: &'a Profile, base: Instant, after: Instant, last: Instant) -> Places<'a>
         ensures { result ≡ places_after profile.now base after last }
     {
@@ -85,7 +86,7 @@ impl Iterator for Places<'_> {
     }
 }
 
-/// The next place of a profile, and the occurrence from there on.
+/// Returns the next place of a profile, and the occurrence from there on.
 fn next_place(
     profile: &Profile,
     base: Instant,
@@ -98,6 +99,8 @@ fn next_place(
         IsNextPeriod profile.now base after last next.0 next.1) }
     ensures none { IfNone result (places_after profile.now base after last ≡ []) }
 {
+    // The common case: before the fence it needs no division, no search and no test of the
+    // validity.
     if let Some(next) = next_period(profile, base, after, last, occurrence) {
         return Some(next);
     }
@@ -109,7 +112,7 @@ fn next_place(
     ))
 }
 
-/// The first place of a profile later than an instant and up to a last one.
+/// Returns the first place of a profile later than an instant and up to a last one.
 fn first_place(profile: &Profile, base: Instant, instant: Instant, last: Instant) -> Option<Instant>
     ensures { IsFirstPlace profile.now base instant last result }
 {

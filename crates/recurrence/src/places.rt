@@ -11,17 +11,17 @@ use crate::turns::next_turn_after;
 use ocpp_scalars::Instant;
 use profile::Profile;
 
-/// The limit of a profile at an instant, in tenths of A or W, counted from a base, or `None` where
-/// it has none (chapters 3.13 and 7).
+/// Returns the limit of a profile at an instant, in tenths of A or W, counted from a base, or
+/// `None` if it has none (chapters 3.13 and 7).
 pub fn rate_at(profile: &Profile, base: Instant, instant: Instant) -> Option<u32>
     ensures { result ≡ rate profile.now base instant }
 {
     profile.rate(base, instant)
 }
 
-/// The nearest later instant at which the limit of a profile can change: its validFrom or validTo,
-/// or where its schedule begins, enters a period or ends (chapters 3.13 and 7). `None` where no such
-/// instant is left up to the last one. From `instant` up to there the limit is the same.
+/// Returns the nearest later instant at which the limit of a profile can change: its validFrom or
+/// validTo, or when its schedule begins, enters a period or ends (chapters 3.13 and 7). `None` if
+/// there is no such instant up to the last one. From `instant` up to there the limit is constant.
 pub fn next_change(profile: &Profile, base: Instant, instant: Instant) -> Option<Instant>
     ensures place { IsNextPlace profile.now base instant result }
     ensures rate { HasOneRateUntil profile.now base instant result }
@@ -30,7 +30,7 @@ pub fn next_change(profile: &Profile, base: Instant, instant: Instant) -> Option
     Instant::try_new(place)
 }
 
-/// The next place, in seconds, which may lie past the last instant.
+/// Returns the next place, in seconds, which may be past the last instant.
 fn next_place(profile: &Profile, base: Instant, instant: Instant) -> Option<u64>
     ensures { IsNext (is_place profile.now base) instant result }
 {
@@ -40,15 +40,15 @@ fn next_place(profile: &Profile, base: Instant, instant: Instant) -> Option<u64>
     sooner(from, sooner(to, turn))
 }
 
-/// A bound of the validity, where it is later than an instant.
+/// Returns a bound of the validity if it is later than an instant.
 fn next_bound(bound: Option<Instant>, instant: Instant) -> Option<u64>
     ensures { IsNext (λ (k : ℕ). is_at k bound) instant result }
 {
     later(bound?.seconds(), instant.seconds())
 }
 
-/// The next second at which the schedule of a profile turns: its anchor, where that is still to
-/// come.
+/// Returns the next second at which the schedule of a profile turns: its anchor, if that is still
+/// to come, otherwise the next turn after it.
 fn next_turn(profile: &Profile, base: Instant, instant: Instant) -> Option<u64>
     ensures { IsNext
         (λ (k : ℕ). is_turn_at profile.now.schedule (offset profile.now base k))

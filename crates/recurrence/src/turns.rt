@@ -1,4 +1,4 @@
-//! The next turn of a schedule: where it begins, enters a period or ends.
+//! The next turn of a schedule: its start, the start of one of its periods, or its end.
 
 ghost use Rattle.std.specs.Prelude.{◌≡◌, ℕ, ◌+◌, ◌<◌, ◌≤◌, ◌==◌, ◌%◌, ◌^◌, Option, Some, IfSome, IsTrue};
 ghost use Rattle.ocpp_scalars.specs.Limits.{last_second};
@@ -11,7 +11,7 @@ ghost use Rattle.recurrence.specs.ByCases.Next.{IsNext, is_start};
 use crate::next::{later, sooner};
 use profile::{Kind, Period, Schedule};
 
-/// The next turn of a schedule of a kind, in seconds after its anchor.
+/// Returns the next turn of a schedule of a kind, in seconds after its anchor.
 pub(crate) fn next_turn_after(kind: Kind, schedule: &Schedule, seconds: u64) -> Option<u64>
     requires in_calendar { seconds ≤ last_second }
     ensures next { IsNext (λ (k : ℕ). is_turn schedule.now (offset_after kind k)) seconds result }
@@ -25,8 +25,8 @@ pub(crate) fn next_turn_after(kind: Kind, schedule: &Schedule, seconds: u64) -> 
     }
 }
 
-/// The next turn of a schedule that begins anew each time a number of seconds is over, in seconds after its
-/// anchor: in the occurrence that runs, or else where the next one begins.
+/// Returns the next turn of a schedule that begins again after every `length` seconds, in seconds
+/// after its anchor: in the current occurrence, or otherwise the start of the next one.
 fn next_recurring_turn(schedule: &Schedule, length: u64, seconds: u64) -> u64
     requires some { 0 < length }
     requires short { length ≤ week }
@@ -37,12 +37,14 @@ fn next_recurring_turn(schedule: &Schedule, length: u64, seconds: u64) -> u64
     let offset = seconds % length;
     let begun = seconds - offset;
     match next_turn_in(schedule, offset) {
+        // A period that starts, or a duration that ends, at or past the recurrence is never
+        // reached: the schedule begins again first.
         Some(turn) if turn < length => begun + turn,
         _ => begun + length,
     }
 }
 
-/// The next turn of a schedule after an offset.
+/// Returns the next turn of a schedule after an offset.
 fn next_turn_in(schedule: &Schedule, offset: u64) -> Option<u64>
     ensures next { IsNext (is_turn schedule.now) offset result }
     ensures small { IfSome result (λ next. next < 2 ^ 32) }
@@ -51,7 +53,7 @@ fn next_turn_in(schedule: &Schedule, offset: u64) -> Option<u64>
     sooner(start, next_end(schedule.duration, offset))
 }
 
-/// The end of a schedule, where it is after an offset.
+/// Returns the end of a schedule if it is after an offset.
 fn next_end(duration: Option<u32>, offset: u64) -> Option<u64>
     ensures next { IsNext (λ (k : ℕ). is_at k duration) offset result }
     ensures small { IfSome result (λ next. next < 2 ^ 32) }
@@ -59,13 +61,13 @@ fn next_end(duration: Option<u32>, offset: u64) -> Option<u64>
     later(u64::from(duration?), offset)
 }
 
-/// The first start of a period after an offset.
+/// Returns the first start of a period after an offset.
 fn next_start(periods: &[Period], offset: u64) -> Option<u64>
     requires ordered { IsTrue (are_in_order periods.now) }
     ensures next { IsNext (is_start periods.now) offset result }
     ensures small { IfSome result (λ next. next < 2 ^ 32) }
 {
-    // They are in order, so those that start up to the offset stand first.
+    // They are in order, so those that start up to the offset come first.
     let begun = periods.partition_point(|period| u64::from(period.start) <= offset);
     if begun == periods.len() {
         return None;

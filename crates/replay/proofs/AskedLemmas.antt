@@ -1,4 +1,4 @@
--- What a message asks for is no compile, and what it is answered without a step no schedule.
+-- A message requests no compile, and its answer without a step has no schedule.
 use Rattle.std.proofs.Common.{◌≡◌, ℕ, List, [], false, Some, subst, sym, refl}
 use Rattle.messages.specs.declared.response.Response.{Response}
 use Rattle.messages.specs.declared.response.Response.TheVariants as responses

@@ -1,4 +1,4 @@
--- The form of a line, found word by word, is the form that it has.
+-- The form of a line that is found word by word is its form.
 use Rattle.std.proofs.Common.{◌≡◌, ◌↔◌, ℕ, ◌+◌, ◌<◌, ◌&&◌, List, ◌∷◌, ◌++◌, length, take, drop, get_or, codes, Bool, true, false, cond, nat_lt, Option, Some, None, unwrap_or, inl, inr, refl, sym, ap, ◌∙◌, subst, arith, length-append, lit<}
 use Rattle.std.specs.List.{position_or_len, before_first, after_first}
 use Rattle.std.specs.Str.{bytes_eq}
@@ -23,12 +23,12 @@ both true true x y e = (refl, refl, cc)
 both true false x y e = absurd (cc)
 both false b x y e = absurd (cc)
 
--- a step that gave a value had one before it
+-- a step with a value started from a value
 bound : {A B : Type 0} (f : A → Option B) (o : Option A) (y : B) → (o >>= f) ≡ Some y → (x : A) × (o ≡ Some x) × (f x ≡ Some y)
 bound f None y e = absurd (cc)
 bound f (Some x) y e = (x, refl, e)
 
--- the word that a text begins with
+-- the first word of a text
 word_is : (text : List ℕ) (parts : List ℕ × List ℕ) → word_at text ≡ Some parts → (text ≡ parts.0 ++ 32 ∷ parts.1) × IsWord parts.0
 word_is text parts some =
     let place = position_or_len is_space text in
@@ -47,7 +47,7 @@ word_is text parts some =
       subst IsWord front word,
     )
 
--- a word, a space and a rest are cut at that space
+-- a word, a space and a rest are split at that space
 word_made : (word rest : List ℕ) → IsWord word → word_at (word ++ 32 ∷ rest) ≡ Some (word, rest)
 word_made word rest is =
     let text = word ++ 32 ∷ rest in
@@ -61,7 +61,7 @@ word_made word rest is =
     ap (λ n. cond (nat_lt 0 n && nat_lt n (length text)) (Some (take n text, drop (n + 1) text)) None) place
     ∙ rw (lt-ltb 0 (length word) is.0, lt-ltb (length word) (length text) long) whole
 
--- a word names the line that it stands for, and no other word does
+-- a word names the kind of line that it spells, and no other word does
 word_is_spelled : (text : List ℕ) (word : LineWord) → word_named text ≡ Some word → text ≡ spelled word
 word_is_spelled text word some =
     elim (either (bytes_eq text (codes "operator")) Operator word _ some) [

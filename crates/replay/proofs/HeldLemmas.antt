@@ -1,4 +1,4 @@
--- The held request of a number, by its place.
+-- The held request of a number, by its index.
 use Rattle.std.proofs.Common.{◌≡◌, ℕ, ◌+◌, ◌<◌, ◌==◌, List, [], ◌∷◌, ◌++◌, length, take, drop, get_or, cond, true, false, not, nat_lt, Some, None, refl, ap, ◌∙◌, arith, suc}
 use Rattle.std.proofs.lemmas.List.Sums.{prefix_len-le-length}
 use Rattle.std.specs.List.{position, position_or_len}
@@ -17,7 +17,7 @@ absent number (one ∷ others) none =
       | false ↦ λ here. let rest = absent number others (omega (arith, here)) in (rest.0, ap (λ l. one ∷ l) rest.1)
     ] none
 
--- the place after one more
+-- the index after one more request
 moved : (one : Held) (others : List Held) (d : Held) (n place : ℕ) → n ≡ suc place
     → (get_or (one ∷ others) n d ≡ get_or others place d)
     × (take n (one ∷ others) ++ drop (n + 1) (one ∷ others) ≡ one ∷ (take place others ++ drop (place + 1) others))
@@ -27,7 +27,7 @@ moved one others d n place e =
       ap (λ k. take k (one ∷ others) ++ drop (n + 1) (one ∷ others)) e ∙ ap (λ k. one ∷ (take place others ++ drop k (one ∷ others))) next,
     )
 
--- the first request that has it
+-- the first request that has the number
 pub present : (number : ℕ) (held : List Held) (d : Held) → position_or_len (has_number number) held < length held
     → (Some (get_or held (position_or_len (has_number number) held) d).id ≡ id_held number held)
     × (take (position_or_len (has_number number) held) held ++ drop (position_or_len (has_number number) held + 1) held ≡ let_go number held)
@@ -44,7 +44,7 @@ present number (one ∷ others) d some =
           (ap (λ (h : Held). Some h.id) same.0 ∙ rest.0, same.1 ∙ ap (λ l. one ∷ l) rest.1)
     ] some
 
--- what the place of the first one says
+-- the meaning of a missing index
 pub no_place : (number : ℕ) (held : List Held) → None ≡ position (has_number number) held → position_or_len (has_number number) held ≡ length held
 no_place number held none =
     let most = prefix_len-le-length (λ (h : Held). not (has_number number h)) held in

@@ -1,4 +1,4 @@
--- What comes of a step of the machine is what comes of it exactly, unless memory ran out.
+-- The outcome of a step of the machine is its exact outcome, unless memory ran out.
 use Rattle.std.proofs.Common.{◌≡◌, ◌↔◌, ℕ, ◌<◌, ◌==◌, List, [], ◌∷◌, cond, Bool, true, false, is_some, Option, Some, None, Result, Ok, Err, IfOk, refl, sym, ap, ◌∙◌}
 use Rattle.ocpp_scalars.specs.declared.refusal.Refusal.{Refusal}
 use Rattle.ocpp_scalars.specs.declared.refusal.Refusal.TheVariants.{ResultTooLong, OutOfMemory, AlreadyAnswered}
@@ -20,7 +20,7 @@ use Rattle.replay.specs.MachineSteps.{Stepped, sending_of, sent_over, made_or_re
 use Rattle.site_core.specs.Theory.Steps.{CompileOrOther, is_compile, is_other, compile_or_other}
 use Rattle.replay.specs.ByCases.MachineSteps.{ComesOf, IsAsked, is_memory}
 
--- a step that a message asks for and that is made
+-- a made step that a message requests
 made_exactly : (old : MachineState) (step : Step) (reply : Reply) (new : MachineState) → IsAsked step → Steps old step reply new
     → stepped_exactly old step ≡ record { outcome = Ok reply; after = new }
 unfolding stepped_exactly
@@ -36,14 +36,14 @@ caused : (made : Result Made Refusal) (refusal : Refusal) → cause_of made ≡ 
 caused (Ok made) refusal e = absurd (cc)
 caused (Err first) refusal e = cc
 
--- a compile that is made
+-- a made compile
 abbrev pub with_compiled : MachineState → ℕ → ScheduleAnswer → Made
 with_compiled old number answer = record { reply = Compiled; after = record old { requests = answered number answer old.requests } }
 
 abbrev pub compiles_by : Bool → Made → Result Made Refusal
 compiles_by b made = cond b (Err AlreadyAnswered) (Ok made)
 
--- whether a request can be compiled doesn't hang on the answer
+-- whether a request can be compiled doesn't depend on the answer
 other_answer : (b : Bool) (first second : Made) (refusal : Refusal) → cause_of (compiles_by b first) ≡ Some refusal → compiles_by b second ≡ Err refusal
 other_answer true first second refusal e = cc
 other_answer false first second refusal e = absurd (cc)
@@ -72,7 +72,7 @@ exactly old step (Err refusal) new asked made =
 
 -- ---- compiling, and then answering
 
--- a compile of a request that has no answer gives it that answer
+-- a made compile gives its answer to a request that has none
 made_by : (b : Bool) (first made : Made) → compiles_by b first ≡ Ok made → (b ≡ false) × (first ≡ made)
 made_by true first made e = absurd (cc)
 made_by false first made e = (refl, cc)
@@ -81,7 +81,7 @@ compiled : (old : MachineState) (number : ℕ) (answer : ScheduleAnswer) (kept :
     → (is_some kept.answer ≡ false) × (with_compiled old number answer ≡ made)
 compiled old number answer kept made e = made_by (is_some kept.answer) (with_compiled old number answer) made e
 
--- the request that was answered is found again
+-- the answered request is found again
 found_again : (number : ℕ) (answer : ScheduleAnswer) (requests : List Kept) (kept : Kept) → request_of number requests ≡ Some kept
     → request_of number (answered number answer requests) ≡ Some (with_answer kept answer)
 found_again number answer [] kept e = absurd (cc)
@@ -92,7 +92,7 @@ found_again number answer (one ∷ others) kept e =
       | false ↦ λ test here. rw test (found_again number answer others kept here)
     ] refl e
 
--- what is handed out of an answered request
+-- the result that an answered request hands out
 handed_to : (mid : MachineState) (number : ℕ) (kept : Kept) (answer : ScheduleAnswer) (outcome : Result Reply Refusal) (new : MachineState)
     → request_of number mid.requests ≡ Some (with_answer kept answer) → ComesOf mid (steps.Answer number) outcome new
     → outcome ≡ Ok (Answered kept.book kept.ask answer)
@@ -125,7 +125,7 @@ exact kept (Ok schedule) right other law-answer law-too_long =
 exact kept (Err refusal) right other law-answer law-too_long =
     exact_refusal (limit_asked (state_of kept.book) kept.ask.connector kept.ask.start) kept.ask kept.book refusal right other law-too_long
 
--- a compile that is made leads to the exact one's state
+-- a made compile leads to the state of the exact one
 compiled_after : (old mid new : MachineState) (number : ℕ) (reply : Reply) (outcome : Result Reply Refusal) → Compiles old number reply mid
     → ComesOf mid (steps.Answer number) outcome new → is_memory outcome ≡ false → Law-answer → Law-too_long
     → (stepped_exactly old (steps.Compile number)).after ≡ mid
@@ -138,7 +138,7 @@ compiled_after old mid new number reply outcome by made other law-answer law-too
     let same = exact by.kept by.answer by.right (ap is_memory (sym hands) ∙ other) law-answer law-too_long in
     rw (by.is_kept, makes.0, same) (ap (λ (m : Made). m.after) makes.1)
 
--- compiling and answering, as the machine makes them, is handing out exactly, unless memory ran out
+-- compiling and answering by the machine is handing out exactly, unless memory ran out
 pub hands_out : (old mid new : MachineState) (number : ℕ) (first outcome : Result Reply Refusal) → ComesOf old (steps.Compile number) first mid
     → ComesOf mid (steps.Answer number) outcome new → is_memory outcome ≡ false → Law-answer → Law-too_long
     → handed_out old number ≡ record { outcome = outcome; after = new }
@@ -158,7 +158,7 @@ nothing_sent : (old : MachineState) (made : Result Made Refusal) → IfOk made (
 nothing_sent old (Ok made) nothing = ap (λ (m : Made). sending_of (made_or_refused old (Ok m))) nothing
 nothing_sent old (Err refusal) nothing = refl
 
--- where a Send over any link sends nothing, there is no sending
+-- if a Send over any link sends nothing, there is no sending
 pub skipped : (old : MachineState) (point : List ℕ) (present : Option ℕ) → ((link : ℕ) → SendsNothing old point link)
     → sent_over present old point ≡ record { call = None; after = old }
 unfolding stepped_exactly

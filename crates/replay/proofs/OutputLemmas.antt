@@ -1,4 +1,4 @@
--- The output of a script, line after line.
+-- The output of a script, line by line.
 use Rattle.std.proofs.Common.{◌≡◌, ℕ, ◌+◌, ◌≤◌, List, [], ◌∷◌, ◌++◌, Option, Some, None, IfSome, Bool, true, false, cond, length, take, append_assoc, append-nil, sym, ap, ◌∙◌, subst, arith, inl, inr}
 use Rattle.std.specs.List.{fold}
 use Rattle.std.specs.Io.KnownBytes.{Appends}
@@ -14,7 +14,7 @@ use Rattle.replay.specs.Play.{line_played}
 use Rattle.replay.specs.Run.{Played, played_more}
 use Rattle.replay.specs.Output.{AppendsPrefix}
 
--- what is printed is kept
+-- later lines keep the output so far
 lines_grow : (before : Played) (lines : List (List ℕ))
     → (more : List PrintedLine) × ((fold played_more before lines).lines ≡ before.lines ++ more)
 lines_grow before [] = ([], sym (append-nil before.lines))
@@ -54,7 +54,7 @@ pub bool_le : (n : ℕ) (b : Bool) → n ≡ bool_byte b → n ≤ 1
 bool_le n true here = omega (arith, here)
 bool_le n false here = omega (arith, here)
 
--- a prefix of a text is a prefix of what the text is a prefix of
+-- a prefix of a text is a prefix of each text that this is a prefix of
 prefix_within : (n : ℕ) (text more : List ℕ) → (m : ℕ) × (take n text ≡ take m (text ++ more))
 prefix_within n text more =
     elim (cases_lt n (length text)) [
@@ -73,11 +73,11 @@ prefix_after a b c done text more all before prefix whole =
           (Appends-trans a b c done (take prefix.0 text) before prefix.1),
     )
 
--- the whole text is a prefix of it
+-- the whole text is a prefix of itself
 pub prefix_whole : (a b : Option (List ℕ)) (text : List ℕ) → Appends a b text → AppendsPrefix a b text
 prefix_whole a b text whole = (length text, subst (Appends a b) (sym (take-length text)) whole)
 
--- where nothing was written, a prefix of any output was
+-- if nothing was written, that is a prefix of any output
 pub nothing_written : (given a : Option (List ℕ)) (output : List ℕ → List ℕ) → IfSome given (λ script. AppendsPrefix a a (output script))
 nothing_written None a output = tt
 nothing_written (Some script) a output = (0, Appends-nil a)

@@ -1,4 +1,4 @@
--- What the message of a point prints, from what its parts print.
+-- The output of a point's message, from the outputs of its parts.
 use Rattle.std.proofs.Common.{◌≡◌, ℕ, List, ◌++◌, Option, sym, ap, ◌∙◌, append_assoc}
 use Rattle.messages.specs.declared.call.Call.{Call}
 use Rattle.replay.specs.declared.player.held.Held.{Held}

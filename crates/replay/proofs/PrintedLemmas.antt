@@ -1,4 +1,4 @@
--- What is printed, found again in the run that the script is.
+-- The output, found again in the run that the script is.
 use Rattle.std.proofs.Common.{◌≡◌, ◌⊎◌, inl, inr, ℕ, suc, Bool, true, false, cond, List, [], ◌∷◌}
 use Rattle.std.proofs.Common.{◌++◌, take, slice_get, append-nil, Some, Ok, Err, refl, sym, ap, ◌∙◌}
 use Rattle.std.proofs.Common.{subst}
@@ -63,7 +63,7 @@ hands_out_or_not : (unit : Unit) (step : Step) (reply : Reply)
 hands_out_or_not unit (acts.Answer number) reply = answer_hands_out unit number reply
 hands_out_or_not unit step reply = inl refl
 
--- the Answer that handed out the schedule after these
+-- the Answer that handed out the schedule after the earlier ones
 record IsHandedAt (unit : Unit) (steps : List Step) (outcomes : List Outcome)
     (earlier : List ScheduleResponse) (response : ScheduleResponse) : Type 0 where
   pub position : ℕ
@@ -77,7 +77,7 @@ record IsHandedAt (unit : Unit) (steps : List Step) (outcomes : List Outcome)
   pub before :
       earlier ≡ schedules_answered unit (history_of (take position steps) (take position outcomes))
 
--- one step more before it
+-- with one more step before it
 later : (unit : Unit) (step : Step) (steps : List Step) (outcome : Outcome)
     (outcomes : List Outcome) (front earlier : List ScheduleResponse) (response : ScheduleResponse)
     → ((n : ℕ)
@@ -118,14 +118,14 @@ found_here unit step steps reply outcomes response hands is = record {
   before = refl;
 }
 
--- wherever a schedule stands among those that a run hands out, there is its Answer
+-- each schedule that a run hands out, at any position, has its Answer
 abbrev AreHanded : Unit → List Step → List Outcome → Type 0
 AreHanded unit steps outcomes =
     (earlier : List ScheduleResponse) (response : ScheduleResponse) (after : List ScheduleResponse)
     → schedules_answered unit (history_of steps outcomes) ≡ earlier ++ response ∷ after
     → IsHandedAt unit steps outcomes earlier response
 
--- after a step that handed out one
+-- after a step that handed one out
 after_handed : (unit : Unit) (step : Step) (steps : List Step) (reply : Reply)
     (outcomes : List Outcome) → AreHanded unit steps outcomes → (hands : HandsOut unit step reply)
     → (earlier : List ScheduleResponse) (response : ScheduleResponse) (after : List ScheduleResponse)
@@ -217,7 +217,7 @@ printed_for site place (lines.Call point call ∷ others) =
 printed_for site place (lines.Held number ∷ others) = printed_for site place others
 printed_for site place (lines.Fault number fault ∷ others) = printed_for site place others
 
--- an event that sends nothing, among those of a point or not
+-- an event that sends nothing, whether it is one of a point or not
 no_call : (test : Bool) (event : Event) (others : List Event) → order.calls_by_event event ≡ []
     → flat_map order.calls_by_event (cond test (event ∷ others) others)
     ≡ flat_map order.calls_by_event others

@@ -1,4 +1,4 @@
--- The lines that are left up to the last that is wanted, one line after another.
+-- The lines that are left up to the last one that is wanted, line by line.
 use Rattle.std.proofs.Common.{◌≡◌, ℕ, ◌+◌, ◌-◌, ◌<◌, ◌≤◌, suc, zero, true, false, cond, List, [], ◌∷◌, take, Option, Some, None, refl, ap, sym, ◌∙◌, arith}
 use Rattle.std.specs.List.{fold}
 use Rattle.std.proofs.lemmas.Bool.{leb-true, leb-false}
@@ -10,7 +10,7 @@ use Rattle.replay.specs.Play.{said_on, line_played, LeadsTo}
 use Rattle.replay.specs.declared.script.played_line.PlayedLine.{PlayedLine}
 use Rattle.replay.specs.ByCases.Quiet.{lines_left}
 
--- at the first line all that are wanted are left
+-- before the first line all wanted lines are left
 pub first_lines : (last : Option ℕ) (lines : List (List ℕ)) → lines_left last 1 lines ≡ lines_up_to last lines
 first_lines None lines = refl
 first_lines (Some last) lines =
@@ -21,12 +21,12 @@ take_none : (n : ℕ) → take {A = List ℕ} n [] ≡ []
 take_none zero = refl
 take_none (suc n) = refl
 
--- of no lines none is left
+-- of an empty script no line is left
 pub no_lines_left : (last : Option ℕ) (number : ℕ) → lines_left last number [] ≡ []
 no_lines_left None number = refl
 no_lines_left (Some last) number = take_none (last + 1 - number)
 
--- a line that is wanted comes before those that are left behind it
+-- a wanted line comes before the lines that are left after it
 pub next_left : (last : Option ℕ) (number : ℕ) (line : List ℕ) (others : List (List ℕ))
     → is_up_to last number ≡ true
     → lines_left last number (line ∷ others) ≡ line ∷ lines_left last (number + 1) others
@@ -36,7 +36,7 @@ next_left (Some last) number line others wanted =
     let one : last + 1 - number ≡ suc (last + 1 - (number + 1)) = omega arith in
     ap (λ (n : ℕ). take n (line ∷ others)) one
 
--- past the last that is wanted none is left
+-- past the last wanted line none is left
 pub past_last : (last : Option ℕ) (number : ℕ) (lines : List (List ℕ)) → is_up_to last number ≡ false
     → lines_left last number lines ≡ []
 past_last None number lines past = absurd (cc past)
@@ -45,7 +45,7 @@ past_last (Some last) number lines past =
     let none : last + 1 - number ≡ 0 = omega arith in
     ap (λ (n : ℕ). take n lines) none
 
--- the next line was played, and the lines behind it are left
+-- the next line was played, and the lines after it are left
 pub next_played : (last : Option ℕ) (before all : Played) (rest line others : List ℕ)
     → is_up_to last before.number ≡ true → script_lines rest ≡ line ∷ script_lines others
     → fold played_more before (lines_left last before.number (script_lines rest)) ≡ all

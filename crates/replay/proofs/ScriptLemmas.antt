@@ -1,4 +1,4 @@
--- The first line of a text, cut off at its first line feed.
+-- The first line of a text, split off at its first line feed.
 use borrow.Author.Tests.{ltb-true, ltb-false, eqb-true}
 use Rattle.std.proofs.lemmas.List.{drop-drop, take_all, drop_all}
 use Rattle.std.proofs.lemmas.List.Sums.{prefix_len-le-length}
@@ -12,7 +12,7 @@ before_parts : (line : List ℕ) (parts : List (List ℕ)) → 0 < length parts 
 before_parts line [] some = absurd (omega arith)
 before_parts line (part ∷ parts) some = refl
 
--- a list in which nothing passes is one part
+-- a list without such an entry is one part
 one_part : (p : ℕ → Bool) (xs : List ℕ) → position_or_len p xs ≡ length xs → slice_split p xs ≡ xs ∷ []
 one_part p [] none = refl
 one_part p (x ∷ xs) none =
@@ -38,11 +38,11 @@ some_part part some =
       | false ↦ λ here. refl
     ] refl
 
--- a text without one
+-- a text without a line feed
 pub lines_last : (text : List ℕ) → position_or_len (λ b. b == 10) text ≡ length text → 0 < length text → lines text ≡ text ∷ []
 lines_last text none some = ap lines_of_parts (one_part (λ b. b == 10) text none) ∙ some_part text some
 
--- what the place of the first line feed says
+-- the meaning of a missing index of a line feed
 pub feed_none : (text : List ℕ) → None ≡ position (λ b. b == 10) text → position_or_len (λ b. b == 10) text ≡ length text
 feed_none text none =
     let most = prefix_len-le-length (λ b. not (b == 10)) text in
@@ -66,7 +66,7 @@ feed_some text end some =
       | false ↦ λ here e. absurd (cc)
     ] refl some
 
--- the text cut at its first line feed
+-- the text split at its first line feed
 pub cut_first : (text front line back rest : List ℕ) (end : ℕ) → Some end ≡ position (λ b. b == 10) text → front ≡ take end text → line ≡ strip_carriage_return front
     → back ≡ drop end text → rest ≡ drop 1 back → lines text ≡ line ∷ lines rest
 cut_first text front line back rest end some before stripped behind after =
@@ -77,7 +77,7 @@ cut_first text front line back rest end some before stripped behind after =
     ap (λ n. drop (n + 1) text) (sym found.1) ∙ sym (drop-drop 1 end text) ∙ ap (drop 1) (sym behind) ∙ sym after in
     lines_first text found.0 ∙ ap (λ l. l ∷ lines (after_first (λ b. b == 10) text)) same_line ∙ ap (λ r. line ∷ lines r) same_rest
 
--- the text where it has none
+-- the same for a text without a line feed
 pub cut_last : (text line rest : List ℕ) → None ≡ position (λ b. b == 10) text → 0 < length text → line ≡ take (length text) text → rest ≡ drop (length text) text
     → lines text ≡ line ∷ lines rest
 cut_last text line rest none some before after =

@@ -1,4 +1,4 @@
--- A script is a run of the machine, line after line, and prints what this run replied.
+-- A script is a run of the machine, line by line, and prints the replies of this run.
 use Rattle.std.proofs.Common.{◌≡◌, ℕ, Bool, true, false, cond, List, [], ◌∷◌, ◌++◌}
 use Rattle.std.proofs.Common.{Option, Some, None, Result, Ok, Err, IfOk, refl, sym, ap, ◌∙◌, subst}
 use Rattle.std.specs.List.{fold}
@@ -60,7 +60,7 @@ use Rattle.texts.specs.Asked.{IsOfCall, AsksByCall}
 use Rattle.texts.specs.Theory.Asked.{asks_by_call}
 use Rattle.replay.proofs.AskedLemmas.{no_schedule}
 
--- the laws that are cited
+-- the cited laws
 pub record Laws : Type 0 where
   pub join :
       (old middle new : MachineState) (steps more : List Step) (outcomes others : List Outcome)
@@ -73,7 +73,7 @@ pub record Laws : Type 0 where
   pub too_long : Law-too_long
   pub own : RepliesAreTheirSteps
 
--- ---- a part of a run, and what is printed of it
+-- ---- a part of a run, and its output
 
 pub record Part (old new : MachineState) (lines : List PrintedLine) : Type 0 where
   pub steps : List Step
@@ -171,7 +171,7 @@ no_calls step (Err refusal) is = refl
 no_calls (acts.Send point link) (Ok reply) is = absurd is
 no_calls step (Ok reply) is = refl
 
--- a step that hands out nothing and sends nothing, with lines that tell of neither
+-- a step that hands out nothing and sends nothing, with lines that have no schedule and no call
 quiet_step : Laws → (old : MachineState) (step : Step) (lines : List PrintedLine)
     → IsNoAnswer step → IsNoSend step → schedules_printed lines ≡ [] → calls_printed lines ≡ []
     → Part old (stepped_exactly old step).after lines

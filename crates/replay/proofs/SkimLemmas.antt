@@ -1,4 +1,4 @@
--- The answer to a request that is handed out at once makes no difference to what is known then.
+-- The answer to a request that is handed out at once makes no difference to the state after it.
 use Rattle.std.proofs.Common.{◌≡◌, ℕ, ◌==◌, Bool, true, false, cond, nat_lt, List, [], ◌∷◌, ◌++◌, ◌+◌, length, Option, Some, None, Result, Ok, Err, refl, sym, ap, ◌∙◌, arith}
 use Rattle.std.proofs.lemmas.Bool.Decides.{nat_tests}
 use Rattle.ocpp_scalars.specs.ResultSteps.{◌>>=◌}
@@ -18,7 +18,7 @@ use Rattle.replay.specs.PointChange.{change_of}
 use Rattle.replay.specs.MachineSteps.{Stepped, made_or_refused, exact_answer, stepped_exactly, handed_out, at_once, stepped_at_once}
 use Rattle.replay.specs.ByCases.MachineSteps.{MayBeSkimmed}
 
--- two steps that lead to the same state and change the same
+-- two steps with the same state and the same change
 pub record SameEnd (one other : Stepped) : Type 0 where
   pub after : one.after ≡ other.after
   pub change : change_of one.outcome ≡ change_of other.outcome
@@ -104,14 +104,14 @@ handed old place ask none =
       change = ap (λ (s : Stepped). change_of s.outcome) same ∙ second.change;
     }
 
--- what comes of it, by what is made of the Take
+-- the outcome of a Take, by the state after it or its refusal
 abbrev at_end : MachineState → Result Made Refusal → Stepped
 at_end old made = at_once (made_or_refused old made).outcome (made_or_refused old made).after
 
 abbrev first_second : Take → Take
 first_second take = record take { duration = 1 }
 
--- a request and another end alike
+-- a request and another one end in the same way
 by_refusal : (old : MachineState) (place : ℕ) (ask second : Ask) → old.requests ≡ []
     → (refusal : Option Refusal)
     → SameEnd
@@ -123,7 +123,7 @@ by_refusal old place ask second none None =
     let other = handed old place second none in
     record { after = one.after ∙ sym other.after; change = one.change ∙ sym other.change }
 
--- what a Take comes to at a place, by its request there
+-- the outcome of a Take at a place, by its request there
 abbrev taking_asked : MachineState → Take → ℕ → Result Ask Refusal → Result Made Refusal
 taking_asked old take place asked =
     asked >>= (λ ask. unless (refusal_to_take old take) (taking old place ask))
@@ -155,7 +155,7 @@ by_place old take may (Ok place) =
         rw (may.asks, may.asks_second)
         (by_refusal old place may.ask may.second may.alone (refusal_to_take old take))
 
--- the whole Take and that of its first second end alike
+-- the whole Take and that of its first second end in the same way
 pub skimmed : (old : MachineState) (take : Take) → MayBeSkimmed old take
     → SameEnd (stepped_at_once old (steps.Take take))
     (stepped_at_once old (steps.Take (first_second take)))

@@ -1,4 +1,4 @@
--- One exact step of the machine is a run of one step, and which steps hand out no schedule.
+-- One exact step of the machine is a run of one step; which steps hand out no schedule.
 use Rattle.std.proofs.Common.{◌≡◌, ℕ, ℤ, ◌<◌, nat_lt, Bool, true, false, cond, is_some}
 use Rattle.std.proofs.Common.{List, length, Option, Some, None, Result, Ok, Err, IfOk, refl, sym}
 use Rattle.std.proofs.Common.{ap, ◌∙◌, subst}
@@ -46,7 +46,7 @@ refused old step refusal is = record {
   back = refl;
 }
 
--- a step that no answer is given
+-- a step that needs no answer from outside
 plain : (old : MachineState) (step : Step)
     → ((reply : Reply) (new : MachineState)
     → stepped no_answer old step ≡ Ok (record { reply = reply; after = new })
@@ -129,7 +129,7 @@ steps_run answer too_long old step = by step (compile_or_other step)
         (sym (same (answer_given old one) old))
         (plain old one (makes old))
 
--- ---- the steps that are no Answer, and no Send
+-- ---- the steps other than Answer and Send
 
 abbrev pub IsNoAnswer : Step → Type 0
 IsNoAnswer (acts.Answer number) = ⊥
@@ -144,13 +144,13 @@ of_call_no_answer (acts.Answer number) never = absurd never
 of_call_no_answer (acts.Send point link) never = absurd never
 of_call_no_answer step is = (tt, tt)
 
--- ---- the steps that CALLs ask for, which hand out no schedule
+-- ---- the steps that CALLs request, which hand out no schedule
 
 abbrev pub HandsOutNone : Reply → Type 0
 HandsOutNone (Answered book ask answer) = ⊥
 HandsOutNone reply = Unit {0}
 
--- only an Answer's reply may
+-- only an Answer's reply may hand one out
 own_hands_out_none : (step : Step) (reply : Reply) → IsNoAnswer step
     → is_reply_to step reply ≡ true → HandsOutNone reply
 own_hands_out_none (acts.Answer number) reply never own = absurd never

@@ -1,4 +1,4 @@
--- The held requests of a script: those whose answers no line has asked for yet.
+-- The held requests of a script: those that no line has released yet.
 use Rattle.std.specs.Prelude.{ℕ, ◌==◌, if◌then◌else◌, List, [], ◌∷◌, Option, Some, None}
 use Rattle.replay.specs.declared.player.held.Held.{Held}
 
@@ -8,7 +8,7 @@ id_held number [] = None
 id_held number (held ∷ others) =
     if held.number == number then Some held.id else id_held number others
 
--- the request of this number is no longer held
+-- the request of this number is released
 abbrev pub let_go : ℕ → List Held → List Held
 let_go number [] = []
 let_go number (held ∷ others) =

@@ -1,4 +1,4 @@
--- What a line of a script says, or its first fault.
+-- The contents of a line of a script, or its first fault.
 use Rattle.std.specs.Prelude.{ℕ, Bool, false, not, is_none, nat_lt, if◌then◌else◌, List, length, codes, Option, Some, None, Result, Ok, Err}
 use Rattle.std.specs.Str.{is_utf8}
 use Rattle.ocpp_scalars.specs.ByCases.InstantText.{instant_of}
@@ -16,8 +16,8 @@ use Rattle.texts.specs.SentText.{sent}
 use Rattle.replay.specs.Form.{Form, text_line, release_line}
 use Rattle.replay.specs.ByCases.Form.{form_of}
 
--- A point's own message names a point of the site. Whether an operator's does is the central
--- system's to say.
+-- A point's own message names a point of the site. For an operator's message, the central system
+-- checks this.
 abbrev pub is_stranger : SiteState → LineWord → List ℕ → Bool
 is_stranger site Operator point = false
 is_stranger site Point point = is_none (place_of site point)
@@ -34,7 +34,7 @@ abbrev pub instant_in : Form → List ℕ
 instant_in (text_line instant word point frame) = instant
 instant_in (release_line instant number) = instant
 
--- what a line says at a moment, which makes no difference to a release
+-- the contents of a line with this moment, which a release ignores
 abbrev pub said_at : SiteState → ℕ → Form → Result ScriptLine LineFault
 said_at site moment (text_line instant word point frame) =
     if is_stranger site word point then Err UnknownPoint else Ok (text_of moment word point frame)
@@ -44,12 +44,12 @@ abbrev pub said_if : SiteState → Form → Result ℕ InstantFault → Result S
 said_if site form (Err fault) = Err BadInstant
 said_if site form (Ok moment) = said_at site moment form
 
--- what a line says by its form
+-- the contents of a line, by its form
 abbrev pub line_of_form : SiteState → Option Form → Result ScriptLine LineFault
 line_of_form site None = Err BadLine
 line_of_form site (Some form) = said_if site form (instant_of (instant_in form))
 
--- what a line says on a site
+-- the contents of a line on a site
 unfoldable pub line_of : SiteState → List ℕ → Result ScriptLine LineFault
 line_of site line =
     if nat_lt max_line_bytes (length line) then Err TooLong

@@ -1,5 +1,5 @@
--- What comes of the steps that a message asks for, where each compile gives the exact schedule or
--- ResultTooLong, and of those that its point's link and calls are for.
+-- The outcomes of the steps that a message requests, if each compile gives the exact schedule or
+-- ResultTooLong, and of the steps for its point's link and calls.
 use Rattle.std.specs.Prelude.{Bool, ℕ, List, false, Option, Some, None, Result, Ok, Err}
 use Rattle.ocpp_scalars.specs.declared.refusal.Refusal.{Refusal}
 use Rattle.ocpp_scalars.specs.declared.refusal.Refusal.TheVariants.{NothingInFlight}
@@ -21,8 +21,7 @@ use Rattle.site_core.specs.Step.{Made, stepped, no_answer}
 use Rattle.texts.specs.Said.{said_of}
 use Rattle.texts.specs.SentText as texts
 
--- what comes of a step: what it replies and the state after it, or why it is refused and the state
--- as it was
+-- the outcome of a step: its reply and the state after it, or its refusal and the state before it
 pub record Stepped : Type 0 where
   pub outcome : Result Reply Refusal
   pub after : MachineState
@@ -31,8 +30,8 @@ abbrev pub made_or_refused : MachineState → Result Made Refusal → Stepped
 made_or_refused old (Ok made) = record { outcome = Ok made.reply; after = made.after }
 made_or_refused old (Err refusal) = record { outcome = Err refusal; after = old }
 
--- what a compile answers: the exact schedule of what the request's point had when it was taken, or
--- that it is too long (OCPP 1.6, 5.7)
+-- the answer of a compile: the exact schedule for the state of the request's point when it was
+-- taken, or the refusal of one that is too long (OCPP 1.6, 5.7)
 abbrev pub exact_answer : Option Kept → ScheduleAnswer
 exact_answer None = no_answer
 exact_answer (Some kept) = exact_schedule
@@ -55,7 +54,7 @@ abbrev pub at_once : Result Reply Refusal → MachineState → Stepped
 at_once (Ok (Taken number book ask)) taken = handed_out taken number
 at_once outcome after = record { outcome = outcome; after = after }
 
--- one step, and where that takes a request, it is compiled and answered at once
+-- one step; if it takes a request, that is compiled and answered at once
 abbrev pub stepped_at_once : MachineState → Step → Stepped
 stepped_at_once old step =
     at_once (stepped_exactly old step).outcome (stepped_exactly old step).after
@@ -70,7 +69,7 @@ attached_unless None old point = (stepped_exactly old (steps.Attach point)).afte
 abbrev pub attached_once : MachineState → List ℕ → MachineState
 attached_once old point = attached_unless (link_of old point) old point
 
--- what a Send comes to: the call that goes out, if one does, and the state after it
+-- the outcome of a Send: the call that goes out, if any, and the state after it
 pub record Sending : Type 0 where
   pub call : Option Call
   pub after : MachineState
@@ -82,7 +81,7 @@ call_sent outcome = None
 abbrev pub sending_of : Stepped → Sending
 sending_of step = record { call = call_sent step.outcome; after = step.after }
 
--- a Send over a point's present link, if it has one, sends the first call that waits for it
+-- a Send over a point's present link, if it has one, sends the first waiting call
 abbrev pub sent_over : Option ℕ → MachineState → List ℕ → Sending
 sent_over None old point = record { call = None; after = old }
 sent_over (Some link) old point = sending_of (stepped_exactly old (steps.Send point link))
@@ -90,8 +89,8 @@ sent_over (Some link) old point = sending_of (stepped_exactly old (steps.Send po
 abbrev pub sent_first : MachineState → List ℕ → Sending
 sent_first old point = sent_over (link_of old point) old point
 
--- a point has answered the call of a number; where that isn't in flight, nothing changes, and none
--- is in flight to a point without a link
+-- a point has answered the call of a number; if that isn't in flight, nothing changes. Without a
+-- link no call is in flight
 abbrev pub confirmed_over : Option ℕ → MachineState → List ℕ → ℕ → Bool → Stepped
 confirmed_over None old point number accepted =
     record { outcome = Err NothingInFlight; after = old }
@@ -104,7 +103,7 @@ confirmed_by old point number accepted =
 
 -- ---- replies to audits (OCPP 1.6, 5.7)
 
--- an audit is judged by what the point said, where memory lasts
+-- an audit is judged by its point's reply, if memory lasts
 abbrev pub judged_exactly : AuditRequest → Said → Judgement
 judged_exactly asked said =
     record { audit = asked; verdict = verdict_of asked said; short = false }
@@ -114,19 +113,20 @@ abbrev pub verdict_kept : MachineState → List ℕ → ℕ → Judgement → Ma
 verdict_kept old point number judged =
     (stepped_exactly old (steps.Judge point number judged)).after
 
--- one state where a step was made, and another where it was refused
+-- one state if a step was made, and another if it was refused
 abbrev pub if_made : Result Reply Refusal → MachineState → MachineState → MachineState
 if_made (Ok reply) made refused = made
 if_made (Err refusal) made refused = refused
 
--- what a point said is judged once the call is confirmed, if that is its audit's
+-- a point's reply is judged once the call is confirmed, if it is the call of its audit
 abbrev pub reply_judged : List ℕ → ℕ → Option AuditRequest → Said → Stepped → MachineState
 reply_judged point number None said confirmed = confirmed.after
 reply_judged point number (Some asked) said confirmed =
     if_made confirmed.outcome
     (verdict_kept confirmed.after point number (judged_exactly asked said)) confirmed.after
 
--- a point has replied to the call of a number: that is confirmed, and the reply to an audit judged
+-- a point has replied to the call of a number: the call is confirmed, and a reply to an audit
+-- judged
 abbrev pub replied_by : MachineState → texts.Sent → List ℕ → ℕ → Bool → Stepped
 replied_by old text point number accepted = record {
   outcome = (confirmed_by old point number accepted).outcome;

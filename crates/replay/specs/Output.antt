@@ -1,4 +1,4 @@
--- What a writer took of a text.
+-- The texts that a writer took: a whole text, or a prefix of one.
 use Rattle.std.specs.Prelude.{ℕ, ◌<◌, List, length, take, Option}
 use Rattle.std.specs.Io.KnownBytes.{Appends}
 

@@ -1,4 +1,4 @@
--- What a line of a script prints, and what is known after it.
+-- The output of a line of a script, and the state after it.
 use Rattle.std.specs.Prelude.{ℕ, ◌≡◌, ◌==◌, Bool, true, false, if◌then◌else◌, List, [], ◌∷◌, ◌++◌, length, Option, Some, None, Result, Ok, Err}
 use Rattle.ocpp_scalars.specs.declared.refusal.Refusal.{Refusal}
 use Rattle.profile.specs.declared.unit.Unit.{Unit}
@@ -43,14 +43,14 @@ answer_if id (Some response) = lines.Answer id response ∷ []
 abbrev pub outcome_lines : Unit → List ℕ → ActionKind → Result Reply Refusal → List PrintedLine
 outcome_lines unit id kind outcome = answer_if id (response_of unit kind outcome)
 
--- the call that goes out to a point, if one does
+-- the call that goes out to a point, if there is one
 abbrev pub call_lines : List ℕ → Option Call → List PrintedLine
 call_lines point None = []
 call_lines point (Some call) = lines.Call point call ∷ []
 
 -- ---- messages
 
--- what is printed, what the message changes at its point, and what is known then
+-- the output, the message's change at its point, and the state after it
 pub record Handled : Type 0 where
   pub printed : List PrintedLine
   pub change : PointChange
@@ -71,7 +71,7 @@ replied old step = record {
   after = with_machine old step.after;
 }
 
--- a message is answered at once, for what it asks
+-- a message is answered at once, by its request
 abbrev pub asked_handled : PlayerState → texts.Sent → Asked → Handled
 asked_handled old text asked.Nothing = record { printed = []; change = Nothing; after = old }
 asked_handled old text (asked.Respond id response) =
@@ -83,7 +83,7 @@ asked_handled old text (asked.Confirm point number accepted) =
 
 -- ---- messages of points
 
--- after what was printed comes the call that goes out now
+-- after the output comes the call that goes out now
 abbrev pub call_handled : Handled → List ℕ → Sending → Handled
 call_handled text point sending = record {
   printed = text.printed ++ call_lines point sending.call;
@@ -94,7 +94,7 @@ call_handled text point sending = record {
 abbrev pub with_call : List ℕ → Handled → Handled
 with_call point text = call_handled text point (sent_first text.after.machine point)
 
--- the message of a point, which has a link then: its answer, and then a Send step
+-- the message of a point, which then has a link: its answer, and then a Send step
 abbrev pub point_handled : PlayerState → texts.Sent → Handled
 point_handled old text =
     with_call text.point
@@ -132,7 +132,7 @@ hold_handled old text (asked.Step id kind step) =
     hold_stepped old id kind (stepped_exactly old.machine step)
 hold_handled old text other = asked_handled old text other
 
--- the request of this number is answered, and no longer held
+-- the request of this number is answered and released
 abbrev pub release_handled : PlayerState → ℕ → List ℕ → Handled
 release_handled old number id =
     answered (record old { held = let_go number old.held }) id GetCompositeSchedule
@@ -140,7 +140,7 @@ release_handled old number id =
 
 -- ---- lines
 
--- what a line prints, whether it has a fault, what it changes at its point, and what it leads to
+-- the output of a line, whether it has a fault, its change at its point, and the state after it
 pub record LineStep : Type 0 where
   pub printed : List PrintedLine
   pub is_fault : Bool
@@ -171,7 +171,7 @@ abbrev pub release_played : PlayerState → ℕ → ℕ → Option (List ℕ) �
 release_played old line number None = fault_played old line UnknownRequest
 release_played old line number (Some id) = text_played (release_handled old number id)
 
--- the line of this number in its script
+-- the outcome of the line of this number in its script
 abbrev pub said_played : PlayerState → ℕ → ScriptLine → LineStep
 said_played old line (Text text) = text_played (text_handled old text.sender text)
 said_played old line (Hold text) = hold_played old line text (hold_of text)
@@ -181,7 +181,7 @@ abbrev pub read_played : PlayerState → ℕ → Result ScriptLine LineFault →
 read_played old line (Ok said) = said_played old line said
 read_played old line (Err fault) = fault_played old line fault
 
--- what a line says on a site, or its fault; an empty line says nothing
+-- the contents of a line on a site, or its fault; an empty line has no contents
 abbrev pub said_on : SiteState → List ℕ → Option (Result ScriptLine LineFault)
 said_on site line = if length line == 0 then None else Some (line_of site line)
 
@@ -193,17 +193,17 @@ played_as old number (Some read) = read_played old number read
 abbrev pub line_played : PlayerState → ℕ → List ℕ → LineStep
 line_played old number line = played_as old number (said_on old.machine.site line)
 
--- a line led to this; what it printed is left open
+-- a line led to this outcome, whatever it printed
 pub record LeadsTo (line : LineStep) (outcome : LineOutcome) (new : PlayerState) : Type 0 where
   pub is_fault : line.is_fault ≡ outcome.is_fault
   pub change : line.change ≡ outcome.change
   pub after : line.after ≡ new
 
--- a line was played so
+-- a line was played with this outcome
 pub record IsPlayed (line : LineStep) (outcome : LineOutcome) (new : PlayerState) : Type 0 where
   pub printed : line.printed ≡ outcome.printed.items
   pub led : LeadsTo line outcome new
 
--- a message was handled so
+-- a message was handled with this outcome
 abbrev pub IsHandled : Handled → LineOutcome → PlayerState → Type 0
 IsHandled text outcome new = IsPlayed (text_played text) outcome new

@@ -1,13 +1,13 @@
--- What is known between two lines of a script.
+-- The state between two lines of a script.
 use Rattle.std.specs.Prelude.{List, []}
 use Rattle.site_rules.specs.Site.{SiteState}
 use Rattle.site_core.specs.State.{MachineState, opening}
 use Rattle.replay.specs.declared.player.held.Held.{Held}
 
 pub record PlayerState : Type 0 where
-  -- what the central system knows
+  -- the central system's machine
   pub machine : MachineState
-  -- the requests that are held, in the order of their lines
+  -- the held requests, in the order of their lines
   pub held : List Held
 
 abbrev pub with_machine : PlayerState → MachineState → PlayerState

@@ -6,11 +6,11 @@ use Rattle.replay.specs.Player.{PlayerState, first_state}
 pub record PlayingState : Type 0 where
   -- the number of the next line
   pub number : ℕ
-  -- how many lines had a fault
+  -- how many lines so far had a fault
   pub faults : ℕ
-  -- what is known
+  -- the player's state
   pub state : PlayerState
-  -- what is left of the script
+  -- the rest of the script
   pub rest : List ℕ
 
 abbrev pub before_first_line : SiteState → List ℕ → PlayingState

@@ -1,4 +1,4 @@
--- What a line of a script changes at its point.
+-- The change that a line of a script makes at its point.
 use Rattle.std.specs.Prelude.{Result, Ok, Err}
 use Rattle.ocpp_scalars.specs.declared.refusal.Refusal.{Refusal}
 use Rattle.site_core.specs.declared.reply.Reply.{Reply}
@@ -6,10 +6,9 @@ use Rattle.site_core.specs.declared.reply.Reply.TheVariants as replies
 use Rattle.replay.specs.declared.script.point_change.PointChange.{PointChange}
 use Rattle.replay.specs.declared.script.point_change.PointChange.TheVariants.{Nothing, Profiles, Transaction, Audit, RemoteStart, Confirmed}
 
--- What a step changes that is made for the message of a line, by its reply. An install, a clear that
--- removes profiles, an audit and a remote start each add a call to the point. TxProfiles may go with
--- a transaction, and one may come.
--- A verdict comes with the reply that confirms the audit's call.
+-- The change by a step for the message of a line, from its reply. An install, a clear that removes
+-- profiles, an audit and a remote start each add a call to the point. A start or stop may remove
+-- TxProfiles or install one. A verdict comes with the reply that confirms the audit's call.
 abbrev pub change_by : Reply → PointChange
 change_by replies.Accepted = Profiles
 change_by replies.Unknown = Nothing

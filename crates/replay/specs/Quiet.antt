@@ -1,4 +1,4 @@
--- What stands after the first lines of a script, and what one line more leads to.
+-- The state after the first lines of a script, and the effect of the next line.
 use Rattle.std.specs.Prelude.{ℕ, ◌≡◌, ◌+◌, nat_le, Bool, true, if◌then◌else◌, List, [], ◌∷◌, take, Option, Some, None}
 use Rattle.std.specs.List.{fold}
 use Rattle.site_rules.specs.Site.{SiteState}
@@ -8,7 +8,7 @@ use Rattle.replay.specs.Run.{Played, first_played, played_more}
 use Rattle.replay.specs.Playing.{PlayingState}
 use Rattle.replay.specs.declared.script.played_line.PlayedLine.{PlayedLine}
 
--- the lines up to the one of this number, the first having the number 1, or all of them
+-- the lines up to the one of this number, counted from 1, or all of them
 abbrev pub lines_up_to : Option ℕ → List (List ℕ) → List (List ℕ)
 lines_up_to None lines = lines
 lines_up_to (Some last) lines = take last lines
@@ -18,20 +18,20 @@ unfoldable pub played_up_to : SiteState → List ℕ → Option ℕ → Played
 played_up_to site script last =
     fold played_more (first_played site) (lines_up_to last (script_lines script))
 
--- whether the line of a number is no later one than the last that is wanted
+-- whether the line of a number is at most the last one that is wanted
 abbrev pub is_up_to : Option ℕ → ℕ → Bool
 is_up_to None number = true
 is_up_to (Some last) number = nat_le number last
 
--- The next line was played, or skimmed, which leaves open what it printed:
+-- The next line was played, or was skimmed, which leaves its output open:
 pub record IsNextLine (old : PlayingState) (line : PlayedLine) (new : PlayingState) : Type 0 where
-  -- it is the first that was left,
+  -- it is the first of those that were left,
   pub first : script_lines old.rest ≡ line.line.now ∷ script_lines new.rest
   pub number : line.number ≡ old.number
   pub next : new.number ≡ old.number + 1
-  -- says what it says on the site,
+  -- has its contents on the site,
   pub said : line.said ≡ said_on old.state.machine.site line.line.now
-  -- led to what it leads to,
+  -- led to its outcome apart from the output,
   pub led : LeadsTo (line_played old.state old.number line.line.now) line.outcome new.state
   -- and its fault counts.
   pub faults :
@@ -44,7 +44,7 @@ abbrev pub IsNext : PlayingState → Option PlayedLine → PlayingState → Type
 IsNext old None new = (script_lines old.rest ≡ []) × (new ≡ old)
 IsNext old (Some line) new = IsNextLine old line new
 
--- the line printed what it prints
+-- the line printed its output
 abbrev pub HasPrinted : PlayingState → Option PlayedLine → Type 0
 HasPrinted old None = Unit {0}
 HasPrinted old (Some line) =

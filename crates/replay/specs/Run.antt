@@ -1,4 +1,4 @@
--- What a script prints, and which faults of a replay come before its first output.
+-- The output of a script, and the faults of a replay that come before its first output.
 use Rattle.std.specs.Prelude.{ℕ, ◌+◌, ◌++◌, List, [], if◌then◌else◌}
 use Rattle.std.specs.List.{fold}
 use Rattle.replay.specs.declared.script.input.InputFault.{InputFault}
@@ -11,15 +11,15 @@ use Rattle.replay.specs.Player.{PlayerState, first_state}
 use Rattle.replay.specs.PrintedLine.{PrintedLine, printed_texts}
 use Rattle.replay.specs.Play.{LineStep, line_played}
 
--- how far a script was played
+-- the part of a script that was played
 pub record Played : Type 0 where
   -- the number of the next line
   pub number : ℕ
   -- how many lines had a fault
   pub faults : ℕ
-  -- what they printed
+  -- their output
   pub lines : List PrintedLine
-  -- what is known
+  -- the player's state
   pub state : PlayerState
 
 abbrev pub first_played : SiteState → Played
@@ -33,7 +33,7 @@ with_line before line = record {
   state = line.after;
 }
 
--- one line more
+-- one line more is played
 abbrev pub played_more : Played → List ℕ → Played
 played_more before line = with_line before (line_played before.state before.number line)
 
@@ -41,7 +41,7 @@ played_more before line = with_line before (line_played before.state before.numb
 unfoldable pub played : SiteState → List ℕ → Played
 played site script = fold played_more (first_played site) (script_lines script)
 
--- what a script prints, line by line
+-- the output of a script, line by line
 abbrev pub lines_of : SiteState → List ℕ → List PrintedLine
 lines_of site script = (played site script).lines
 
@@ -53,13 +53,13 @@ output_of site script = printed_texts (lines_of site script)
 abbrev pub fault_count : SiteState → List ℕ → ℕ
 fault_count site script = (played site script).faults
 
--- why a script that isn't read stops its replay
+-- the fault of a replay whose script isn't read
 abbrev pub replay_fault : InputFault → ReplayFault
 replay_fault input.Read = Read
 replay_fault input.TooLong = ScriptTooLong
 replay_fault input.OutOfMemory = OutOfMemory
 
--- the script was not read whole
+-- the script wasn't read whole
 abbrev pub IsReading : ReplayFault → Type 0
 IsReading Read = Unit {0}
 IsReading ScriptTooLong = Unit {0}

@@ -1,4 +1,4 @@
--- The run of the central system that a script is, and that what it prints is what this run replied.
+-- A script is a run of the central system, whose replies are the output.
 use Rattle.std.specs.Prelude.{ℕ, ◌≡◌, Bool, if◌then◌else◌, Some, Ok}
 use Rattle.std.specs.Prelude.{List, [], ◌∷◌, ◌++◌, take, slice_get}
 use Rattle.std.specs.List.{flat_map, AllByRecursion}
@@ -32,7 +32,7 @@ use Rattle.replay.specs.Run.{played, lines_of}
 
 -- ---- schedules
 
--- the schedule that a line prints, if it is the answer to a CALL with one
+-- the schedule that a line prints, if it answers a CALL with one
 abbrev pub schedules_on : PrintedLine → List ScheduleResponse
 schedules_on (printed.Answer id (responses.Schedule response)) = response ∷ []
 schedules_on line = []
@@ -61,7 +61,7 @@ schedules_answered unit history = flat_map (schedules_by_event unit) history
 
 -- ---- calls
 
--- the call that a line prints, if it does, with the identity of the point that it goes out to
+-- the call that a line prints, if any, with the identity of its point
 abbrev pub calls_on : PrintedLine → List (List ℕ × Call)
 calls_on (printed.Call point sent) = (point, sent) ∷ []
 calls_on line = []
@@ -70,7 +70,7 @@ calls_on line = []
 abbrev pub calls_printed : List PrintedLine → List (List ℕ × Call)
 calls_printed lines = flat_map calls_on lines
 
--- the call that a Send sends, if it does, with the identity of the point that it names
+-- the call that a Send sends, if any, with the identity of the point that it names
 abbrev pub calls_of_step : Step → Reply → List (List ℕ × Call)
 calls_of_step (Send point link) (Sent sent) = (point, sent) ∷ []
 calls_of_step step reply = []
@@ -82,7 +82,7 @@ calls_of_event event = calls_of_step event.step event.reply
 abbrev pub calls_replied : List Event → List (List ℕ × Call)
 calls_replied history = flat_map calls_of_event history
 
--- the call that a line prints, if that goes out to the point at a place
+-- the call that a line prints, if it goes to the point at a place
 abbrev pub calls_to : SiteState → ℕ → PrintedLine → List Call
 calls_to site place (printed.Call point sent) = if is_at site place point then sent ∷ [] else []
 calls_to site place line = []
@@ -97,7 +97,7 @@ calls_printed_to site place lines = flat_map (calls_to site place) lines
 pub record ScriptRun (site : SiteState) (script : List ℕ) : Type 0 where
   -- there are steps,
   pub steps : List Step
-  -- and what came of each,
+  -- and the outcome of each,
   pub outcomes : List Outcome
   -- which lead from the opening state to the one at the script's end.
   pub run : Runs (opening site) steps outcomes (played site script).state.machine
@@ -120,9 +120,10 @@ abbrev pub history_of_run : (site : SiteState) (script : List ℕ) → ScriptRun
     → List Event
 history_of_run site script run = history_of run.steps run.outcomes
 
--- ---- what holds of what is printed
+-- ---- facts about the output
 
--- A schedule that is printed after these lines is right for what its point had when it was asked:
+-- A schedule that is printed after these lines is right for the state of its point when it was
+-- requested:
 pub record IsPrintedRight (site : SiteState) (script : List ℕ) (run : ScriptRun site script)
     (earlier : List PrintedLine) (response : ScheduleResponse) : Type 0 where
   -- at a position of the run
@@ -136,7 +137,7 @@ pub record IsPrintedRight (site : SiteState) (script : List ℕ) (run : ScriptRu
   pub schedule : CompositeSchedule
   pub handed :
       slice_get run.outcomes position ≡ Some (Done (Answered book ask (Ok schedule)))
-  -- and what is printed is that schedule, for that ask.
+  -- and the output has that schedule, for that `Ask`.
   pub is : response ≡ response_of_schedule site.unit ask schedule
   -- The Answers before it handed out the schedules that are printed before.
   pub before :
@@ -157,23 +158,23 @@ PrintedSchedulesAreRight site script run =
     → lines_of site script ≡ earlier ++ printed.Answer id (responses.Schedule response) ∷ later
     → IsPrintedRight site script run earlier response
 
--- the calls that are printed for a point are in sending order
+-- the calls that are printed for a point are in the order of sending
 abbrev pub PrintedCallsAreInOrder : SiteState → List ℕ → Type 0
 PrintedCallsAreInOrder site script =
     (point : List ℕ) (place : ℕ) → place_of site point ≡ Some place
     → AreInSendingOrder (numbers_of_calls (calls_printed_to site place (lines_of site script)))
 
--- the numbers of the calls that the point at a place obeys, where for each call that is printed for
--- it in turn it is said whether the point does
+-- the numbers of the calls that the point at a place obeys: for each call that is printed for it in
+-- turn, `are_obeyed` says whether the point does
 abbrev pub printed_numbers_obeyed : SiteState → List ℕ → ℕ → List Bool → List ℕ
 printed_numbers_obeyed site script place are_obeyed =
     obeyed_numbers are_obeyed
     (numbers_of_calls (calls_printed_to site place (lines_of site script)))
 
--- A point obeys what is printed for it, in the order of the lines. Any of it may be lost, but it
--- obeys each confirmed call at least once. Its lasting rows are then those that the central system
--- had for it at a moment of the last call that it obeyed, unless a transaction began there with a
--- profile of its own.
+-- A point obeys the calls that are printed for it, in the order of the lines. Any of them may be
+-- lost, but it obeys each confirmed call at least once. Its lasting rows are then those that the
+-- central system had for it at a moment of the last call that it obeyed, unless a transaction began
+-- there with a profile of its own.
 abbrev pub PrintedCallsKeepPointsInStep : (site : SiteState) (script : List ℕ)
     → ScriptRun site script → Type 0
 PrintedCallsKeepPointsInStep site script run =

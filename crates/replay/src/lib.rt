@@ -1,6 +1,6 @@
-//! Scripts of messages, played on a site. Each message is read as what its sender asks for, done by
-//! steps of the central system, and answered. The calls that wait for a point go out after its
-//! messages. What a replay writes is the output of its script.
+//! Scripts of messages, played on a site. Each message is read as its sender's request, done by
+//! steps of the central system, and answered. After a point's messages, the calls that wait for it
+//! go out. A replay writes the output of its script.
 #![tactic(auto)]
 
 mod player;

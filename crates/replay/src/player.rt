@@ -1,5 +1,4 @@
-//! What plays the lines of a script: the central system's machine, its steps, and the requests that
-//! are held.
+//! The player of a script: the central system's machine, its steps, and the held requests.
 
 pub mod held;
 pub mod machine_steps;

@@ -1,25 +1,25 @@
-//! How far work has come that takes long, for whoever waits.
+//! The progress of long work, for a user who waits.
 
 use std::rt::Clock;
 use std::time::Instant;
 
-/// From the first time on it is told no more often than each so many seconds.
+/// The fewest seconds between two reports.
 const SECONDS_BETWEEN: u64 = 1;
 
-/// After so many seconds it is told first how many lines were read.
+/// The seconds before the first report of how many lines were read.
 const SILENT_SECONDS: u64 = 2;
 
-/// When it is told next how far the work has come.
+/// The time of the next report.
 #[derive(Drop)]
 pub struct Progress {
-    /// When it was told last, or the work began.
+    /// The time of the last report, or of the beginning of the work.
     told: Option<Instant>,
-    /// How many seconds later it is told next.
+    /// The seconds from then to the next report.
     pause: u64,
 }
 
 impl Progress {
-    /// Work begins now whose progress is told each second. Without a clock it never is.
+    /// Begins work whose progress is reported each second, or never without a clock.
     pub fn begin<R: Clock>(rt: &R) -> Progress {
         Progress {
             told: Instant::now(rt).ok(),
@@ -27,7 +27,7 @@ impl Progress {
         }
     }
 
-    /// The reading of lines begins now, which mostly takes less than two seconds.
+    /// Begins the reading of lines, which mostly takes less than two seconds.
     pub fn of_lines<R: Clock>(rt: &R) -> Progress {
         Progress {
             told: Instant::now(rt).ok(),
@@ -35,7 +35,7 @@ impl Progress {
         }
     }
 
-    /// Whether it is to be told now, after which it counts as told.
+    /// Returns whether a report is due now. If so, it counts as made.
     pub fn is_due<R: Clock>(&mut self, rt: &R) -> bool {
         let (Some(before), Ok(now)) = (self.told, Instant::now(rt)) else {
             return false;
@@ -51,9 +51,10 @@ impl Progress {
         is_due
     }
 
-    /// Says on standard error how many lines were read by now, if it is to be told.
+    /// Prints on standard error how many lines were read by now, if a report is due.
     pub fn say_lines<R: Clock + Eprint>(&mut self, rt: &R, lines: u64) {
         if self.is_due(rt) {
+            // A failing standard error doesn't stop the work.
             let _ = eprintln!(rt; "central: {lines} lines read");
         }
     }

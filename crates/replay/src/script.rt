@@ -1,4 +1,5 @@
-//! A script: its lines, what each says and prints, and the whole of it from a reader to a writer.
+//! A script: its lines, the contents and the output of each, and the whole of it from a reader to a
+//! writer.
 
 pub mod form;
 pub mod input;

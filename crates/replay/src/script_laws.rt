@@ -1,5 +1,5 @@
-//! What scripts print, as runs of the central system: a law, a public function whose clauses range
-//! over all sites and scripts.
+//! The output of scripts, as runs of the central system: a law, a public function whose clauses
+//! range over all sites and scripts.
 
 ghost use Rattle.std.specs.Prelude.{ℕ, List};
 ghost use Rattle.site_rules.specs.Site.{SiteState};
@@ -12,15 +12,15 @@ use site_core::{
     replies_are_their_steps, runs_are_legal, runs_join, runs_keep_the_site,
 };
 
-/// The laws that tie what is printed to the runs of the central system, for every site and every
-/// script, of whatever bytes. A script is such a run from the opening state. The schedules that are
-/// printed are those that the run's Answers handed out. The calls that are printed are those that
-/// its Sends sent, all of them and in the same order. In each such run every schedule that is
-/// printed is right for what its point had when it was asked. The calls that are printed for a
-/// point have the numbers 0, 1, .., each perhaps several times before the next. A point may obey
-/// what is printed for it, and each confirmed call at least once. Then it has the
-/// ChargePointMaxProfiles and TxDefaultProfiles that the central system had for it after that call,
-/// but for when they were installed, unless a transaction began there with a profile of its own.
+/// Ties the output to a run of the central system, for every site and every script of any bytes.
+/// The run begins in the opening state. The printed schedules are those that the run's Answers
+/// handed out. The printed calls are those that its Sends sent, all of them and in the same order.
+/// In each such run every printed schedule is right for the state of its point when it was
+/// requested. The printed calls for a point have the numbers 0, 1, .., each perhaps several times
+/// before the next. A point may obey any of these calls, but each confirmed one at least once. Then
+/// it has the ChargePointMaxProfiles and TxDefaultProfiles that the central system had for it after
+/// the last call that it obeyed, apart from the moments of their installs, unless a transaction
+/// began there with a profile of its own.
 pub fn scripts_are_runs()
     ensures runs { (site : SiteState) (script : List ℕ) → ScriptRun site script }
     ensures right { (site : SiteState) (script : List ℕ) (run : ScriptRun site script)
@@ -29,7 +29,7 @@ pub fn scripts_are_runs()
     ensures obeying { (site : SiteState) (script : List ℕ) (run : ScriptRun site script)
         → PrintedCallsKeepPointsInStep site script run }
 {
-    // Laws that this one stands on: nothing runs.
+    // Laws that the proof of this one uses: nothing runs.
     exact_schedules();
     runs_join();
     runs_keep_the_site();

@@ -1,5 +1,5 @@
-//! What tests are made of: instants, profiles and their rows in words, starts of transactions, site
-//! files. Tables in words are data, which nothing has to be proved of.
+//! Test data: instants, profiles and their rows in words, starts of transactions, site files.
+//! Tables in words are data, of which nothing has to be proved.
 
 use crate::words::{KeyedWords, instant_of};
 use ocpp_scalars::{IdTag, Instant, Refusal};
@@ -11,15 +11,16 @@ use std::alloc::{AllocError, AllocFailed, Global};
 use std::fmt;
 use transactions::Begin;
 
-/// As long as an idTag may be, of characters of four bytes.
+/// An idTag of the maximum length, in characters of four bytes.
+// An idTag has at most 20 characters, and UTF-8 needs at most four bytes for each.
 pub const LONGEST_TAG: &str = "🔌🔌🔌🔌🔌🔌🔌🔌🔌🔌🔌🔌🔌🔌🔌🔌🔌🔌🔌🔌";
 
-/// Why there isn't what words tell of.
+/// The reason why words can't be turned into a value.
 #[derive(Clone, Copy, Debug, PartialEq, Eq)]
 pub enum UnreadWords {
-    /// They can't be read.
+    /// The words can't be read.
     Words,
-    /// It is no profile.
+    /// They describe no well-formed profile.
     Refused(Refusal),
     /// Memory ran out.
     OutOfMemory,
@@ -37,19 +38,19 @@ impl<T: Drop> From<AllocFailed<T>> for UnreadWords {
     }
 }
 
-/// Of a text in memory that is written.
+/// A write to a text in memory fails only if memory runs out.
 impl From<fmt::Error> for UnreadWords {
     fn from(_error: fmt::Error) -> UnreadWords {
         UnreadWords::OutOfMemory
     }
 }
 
-/// The instant a number of seconds after midnight.
+/// Returns the instant a number of seconds after midnight.
 pub fn instant_at(second: u64) -> Result<Instant, UnreadWords> {
     instant_of(second).ok_or(UnreadWords::Words)
 }
 
-/// The criteria in words: `id=`, `connector=`, `purpose=`, `level=`. What isn't said isn't given.
+/// Reads criteria: `id=`, `connector=`, `purpose=`, `level=`. An absent key gives no criterion.
 pub fn criteria_of(words: &str) -> Result<Criteria, UnreadWords> {
     let mut keyed = KeyedWords::of(words);
     let criteria = Criteria {
@@ -73,7 +74,7 @@ fn period(start: u32, limit: u32) -> Period {
     }
 }
 
-/// The period of `3600:80`, its start and its limit.
+/// Reads the period `3600:80`: its start and its limit.
 fn period_of_word(word: &str) -> Option<Period> {
     let (start, limit) = word.split_once(':')?;
     let start = start.parse::<u32>().ok()?;
@@ -81,7 +82,7 @@ fn period_of_word(word: &str) -> Option<Period> {
     Some(period(start, limit))
 }
 
-/// The periods of `periods=0:160,3600:80`.
+/// Reads the value of `periods=0:160,3600:80`.
 fn periods_of_words(alloc: Global, keyed: &str) -> Result<Vec<Period>, UnreadWords> {
     let mut periods = Vec::new(alloc);
     for word in keyed.split(',') {
@@ -93,7 +94,7 @@ fn periods_of_words(alloc: Global, keyed: &str) -> Result<Vec<Period>, UnreadWor
     Ok(periods)
 }
 
-/// 200 periods of a number of seconds, of 6 A and 10 A by turns.
+/// Returns 200 periods of a number of seconds, alternating between 6 A and 10 A.
 fn periods_by_turns(alloc: Global, seconds: u32) -> Result<Vec<Period>, UnreadWords> {
     let mut periods = Vec::new(alloc);
     for index in 0..200u32 {
@@ -144,16 +145,17 @@ fn keyed_profile(alloc: Global, keyed: &mut KeyedWords<'_>) -> Result<Profile, U
     }
 }
 
-/// The profile in words: `id=`, `purpose=`, `level=`, `transaction=`, `kind=`, `recurrency=`, `from=`
-/// and `to=` (its validity), `duration=`, `start=`, `unit=`, and `periods=0:160,3600:80` or `turns=432`: 200
-/// periods of a number of seconds, of 6 A and 10 A by turns. Instants count from midnight. What isn't said is
-/// that of an Absolute TxDefaultProfile of 16 A without a start, of id 1 and level 0.
+/// Reads a profile: `id=`, `purpose=`, `level=`, `transaction=`, `kind=`, `recurrency=`, `from=`
+/// and `to=` (its validity), `duration=`, `start=`, `unit=`, and `periods=0:160,3600:80` or
+/// `turns=432`: 200 periods of a number of seconds, alternating between 6 A and 10 A. Instants
+/// count from midnight. By default it is an Absolute TxDefaultProfile of 16 A without a start, of
+/// id 1 and level 0.
 pub fn profile_of(alloc: Global, words: &str) -> Result<Profile, UnreadWords> {
     keyed_profile(alloc, &mut KeyedWords::of(words))
 }
 
-/// The row of a profile in words, with `connector=` and `moment=`, of the whole point and from
-/// midnight where these aren't said.
+/// Reads the row of a profile, with `connector=` and `moment=`: by default the whole point, and
+/// midnight.
 pub fn row_of(alloc: Global, words: &str) -> Result<Row, UnreadWords> {
     let midnight = instant_at(0)?;
     let mut keyed = KeyedWords::of(words);
@@ -166,7 +168,7 @@ pub fn row_of(alloc: Global, words: &str) -> Result<Row, UnreadWords> {
     })
 }
 
-/// A start by an idTag, a number of seconds after midnight.
+/// Returns a start by an idTag, a number of seconds after midnight.
 pub fn begin_of(
     alloc: Global,
     tag: &str,
@@ -184,7 +186,7 @@ pub fn begin_of(
     }
 }
 
-/// The limits of a number of connectors of 32 A, as a site file has them.
+/// Returns the limits of a number of connectors of 32 A, as they are in a site file.
 fn limits_text(alloc: Global, connectors: usize) -> Result<String, UnreadWords> {
     let mut text = String::from_str(alloc, "32")?;
     for _ in 1..connectors {
@@ -193,8 +195,8 @@ fn limits_text(alloc: Global, connectors: usize) -> Result<String, UnreadWords> 
     Ok(text)
 }
 
-/// A site file of a number of points of 1,000 A, each with a number of connectors of 32 A. Its identity is its
-/// place, with zeros before it up to a number of characters.
+/// Returns a site file of a number of points of 1,000 A, each with a number of connectors of 32 A.
+/// A point's identity is its place, zero-padded to a number of characters.
 pub fn site_text(
     alloc: Global,
     points: usize,

@@ -1,5 +1,5 @@
-//! What tests are made of, in words: rows and profiles, starts of transactions, site files. It has no tests of its
-//! own, and so is proved once. Other crates of tests have it by `test_books`.
+//! Test data in words: rows and profiles, starts of transactions, site files. This crate has no
+//! tests of its own, and so is proved once. Other test crates get it from `test_books`.
 #![tactic(auto)]
 
 mod fixtures;

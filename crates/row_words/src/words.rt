@@ -1,5 +1,6 @@
-//! Lines of words: read one after another, or looked for by their keys. Nothing here is left by an error: what
-//! can't be read is noted, or is none, so that reading many words is no more to prove than reading one.
+//! Lines of words, read one after another or looked up by their keys. No function returns an error:
+//! a word that can't be read is noted, or is `None`. So reading many words takes no more proof than
+//! reading one.
 
 use ocpp_scalars::Instant;
 use profile::Named;
@@ -7,12 +8,12 @@ use profile::Named;
 /// 2025-01-01T00:00:00Z, a Wednesday.
 pub const MIDNIGHT: u64 = 1_735_689_600;
 
-/// The instant a number of seconds after midnight.
+/// Returns the instant a number of seconds after midnight.
 pub(crate) fn instant_of(second: u64) -> Option<Instant> {
     Instant::try_new(MIDNIGHT.saturating_add(second))
 }
 
-/// What is left of a line.
+/// The rest of a line.
 #[derive(Clone, Copy)]
 pub struct Words<'a> {
     rest: &'a str,
@@ -23,14 +24,14 @@ impl<'a> Words<'a> {
         Words { rest: line }
     }
 
-    /// The next word, an empty one where none is left.
+    /// Returns the next word, or an empty one if none is left.
     pub fn word(&mut self) -> &'a str {
         let (word, rest) = self.rest.split_once(' ').unwrap_or((self.rest, ""));
         self.rest = rest;
         word
     }
 
-    /// All words that are left.
+    /// Returns all remaining words.
     pub fn rest(&self) -> &'a str {
         self.rest
     }
@@ -47,7 +48,7 @@ impl<'a> Words<'a> {
         self.word().parse::<i32>().ok()
     }
 
-    /// The instant a number of seconds after midnight.
+    /// Reads the instant a number of seconds after midnight.
     pub fn instant(&mut self) -> Option<Instant> {
         instant_of(self.long()?)
     }
@@ -68,12 +69,12 @@ impl<'a> KeyedWords<'a> {
         }
     }
 
-    /// Whether each value that was looked for so far could be read, or isn't said.
+    /// Returns whether each value looked up so far could be read or is absent.
     pub(crate) fn is_read(&self) -> bool {
         self.is_read
     }
 
-    /// What follows a key in the first of the words that begins with it.
+    /// Returns the text after a key, in the first word that begins with the key.
     pub(crate) fn value(&self, key: &str) -> Option<&'a str> {
         for word in self.words.split(' ') {
             if let Some(value) = word.strip_prefix(key) {
@@ -83,8 +84,9 @@ impl<'a> KeyedWords<'a> {
         None
     }
 
-    /// Notes whether a value could be read.
+    /// Notes whether a value could be read, and returns it.
     fn noted<T: Copy>(&mut self, read: Option<T>) -> Option<T> {
+        // An unreadable value and an absent one are both `None`: this flag distinguishes them.
         self.is_read = self.is_read && read.is_some();
         read
     }

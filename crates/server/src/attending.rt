@@ -50,16 +50,9 @@ struct SentMoment {
 
 /// Serves messages until the socket is closed or fails, the client is silent for too long, or a call
 /// to it has no reply in time. Returns how it ended.
-pub(crate) fn run_session<
-    C: Ledger,
-    A: Ledger,
-    R: Wait + Clock,
-    M: Moments,
-    J: Journal<N>,
-    N: ListName,
->(
-    context: &Context<'_, SeatWorld<C, A, R, M, J, N>>,
-    watch: &SessionWatch<'_, C, A, R, M, J, N>,
+pub(crate) fn run_session<C: Ledger, A: Ledger, R: Wait + Clock, J: Journal<N>, N: ListName>(
+    context: &Context<'_, SeatWorld<C, A, R, J, N>>,
+    watch: &SessionWatch<'_, C, A, R, J, N>,
     socket: &mut WebSocket<IncomingStream<'_, R>, NoMask>,
     core: &SessionCore,
     pass: &mut Pass<C, A>,
@@ -92,9 +85,9 @@ pub(crate) fn run_session<
 }
 
 /// Serves the next message, or does what is due where none comes. An error ends the session.
-fn attend_next<C: Ledger, A: Ledger, R: Wait + Clock, M: Moments, J: Journal<N>, N: ListName>(
-    context: &Context<'_, SeatWorld<C, A, R, M, J, N>>,
-    watch: &SessionWatch<'_, C, A, R, M, J, N>,
+fn attend_next<C: Ledger, A: Ledger, R: Wait + Clock, J: Journal<N>, N: ListName>(
+    context: &Context<'_, SeatWorld<C, A, R, J, N>>,
+    watch: &SessionWatch<'_, C, A, R, J, N>,
     watched: &mut WatchedSocket<'_, IncomingStream<'_, R>, NoMask, R>,
     core: &SessionCore,
     attention: &mut Attention,
@@ -168,8 +161,8 @@ fn keep_alive<R: Wait + Clock>(
 
 /// Sends the call that waits for a point, which has nothing to say itself. Returns which. A
 /// point that has just connected is left the time for its BootNotification.
-fn send_to_silent<C: Ledger, A: Ledger, R: Wait + Clock, M: Moments, J: Journal<N>, N: ListName>(
-    context: &Context<'_, SeatWorld<C, A, R, M, J, N>>,
+fn send_to_silent<C: Ledger, A: Ledger, R: Wait + Clock, J: Journal<N>, N: ListName>(
+    context: &Context<'_, SeatWorld<C, A, R, J, N>>,
     socket: &mut WebSocket<IncomingStream<'_, R>, NoMask>,
     core: &SessionCore,
     attention: &mut Attention,
@@ -196,9 +189,9 @@ impl Attention {
     }
 
     /// The number of the last call, where it has no reply, though it was sent long enough ago.
-    fn overdue<C: Ledger, A: Ledger, R: Wait + Clock, M: Moments, J: Journal<N>, N: ListName>(
+    fn overdue<C: Ledger, A: Ledger, R: Wait + Clock, J: Journal<N>, N: ListName>(
         &mut self,
-        context: &Context<'_, SeatWorld<C, A, R, M, J, N>>,
+        context: &Context<'_, SeatWorld<C, A, R, J, N>>,
         core: &SessionCore,
     ) -> Option<u64> {
         let call = self.sent?;

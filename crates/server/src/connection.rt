@@ -2,29 +2,21 @@
 
 ghost use Rattle.session.specs.Serving.{KeepsPass};
 
-use ghost_list::ListName;
-use journal::Journal;
-use ocpp_scalars::Moments;
-use server_ports::{ClientRequest, Entry, PathPeer, SeatWorld, peer_of_path, shake_hands};
+use server_ports::{ClientRequest, Entry, PathPeer, peer_of_path, shake_hands};
 use session::{Context, SessionCore, serve_session};
 use std::alloc::AllocError;
 use std::io::{Read, Write};
-use std::sync::Wait;
-use std::sync::ledger::Ledger;
 use tungstenite::{CloseCode, CloseFrame, NoMask, Utf8Bytes, WebSocket};
 use version_store::Pass;
+use world::World;
 
 /// Serves a connection from its handshake until it ends. Gives back the pass, which counts no less
 /// than before.
-pub(crate) fn run_connection<
-    S: Read + Write + Drop,
-    C: Ledger,
-    A: Ledger,
-    R: Wait,
-    M: Moments,
-    J: Journal<N>,
-    N: ListName,
->(context: &Context<'_, SeatWorld<C, A, R, M, J, N>>, stream: S, pass: Pass<C, A>) -> Pass<C, A>
+pub(crate) fn run_connection<W: World, S: Read + Write + Drop>(
+    context: &Context<'_, W>,
+    stream: S,
+    pass: Pass<W::Changes, W::Answers>,
+) -> Pass<W::Changes, W::Answers>
     ensures { KeepsPass pass result }
 {
     let Ok((socket, asked)) = shake_hands(context.alloc, Entry::Open, stream) else {
@@ -52,8 +44,8 @@ pub(crate) struct Admitted {
 }
 
 /// The session that a client asks for, if it speaks OCPP 1.6 and names a point of the site.
-pub(crate) fn admit<C: Ledger, A: Ledger, R: Wait, M: Moments, J: Journal<N>, N: ListName>(
-    context: &Context<'_, SeatWorld<C, A, R, M, J, N>>,
+pub(crate) fn admit<W: World>(
+    context: &Context<'_, W>,
     asked: &ClientRequest,
 ) -> Result<Option<Admitted>, AllocError> {
     let peer = peer_of_path(asked.path.as_str());

@@ -3,10 +3,7 @@
 ghost use Rattle.std.specs.Prelude.{◌≡◌, ◌≤◌, IfOk, length, vec_len, vec_capacity};
 
 use crate::connection::run_connection;
-use ghost_list::ListName;
-use journal::Journal;
 use ocpp_scalars::Moments;
-use server_ports::SeatWorld;
 use session::Context;
 use std::alloc::AllocError;
 use std::marker::{Send, Sync};
@@ -16,6 +13,7 @@ use std::sync::ledger::Ledger;
 use std::thread;
 use std::thread::{JoinHandle, Scope, Threads};
 use version_store::Pass;
+use world::Unrecorded;
 
 /// The passes of all sessions, once these have ended.
 #[derive(Drop)]
@@ -49,10 +47,8 @@ pub(crate) fn run_connections<
     A: Ledger + Send + Sync,
     R: Threads + Wait + Sync,
     M: Moments + Sync,
-    J: Journal<N> + Sync,
-    N: ListName + Send + Sync,
 >(
-    context: &Context<'_, SeatWorld<C, A, R, M, J, N>>,
+    context: &Context<'_, Unrecorded<C, A, R, M>>,
     listener: TcpListener,
     passes: Vec<Pass<C, A>>,
 ) -> Result<Served<C, A>, AllocError>
@@ -88,11 +84,9 @@ fn begin_all<
     A: Ledger + Send + Sync,
     R: Wait + Sync,
     M: Moments + Sync,
-    J: Journal<N> + Sync,
-    N: ListName + Send + Sync,
 >(
     scope: &Scope<'s, E>,
-    context: &'s Context<'_, SeatWorld<C, A, R, M, J, N>>,
+    context: &'s Context<'_, Unrecorded<C, A, R, M>>,
     listener: TcpListener,
     passes: Vec<Pass<C, A>>,
     room: Vec<Session<C, A>>,
@@ -120,11 +114,9 @@ fn begin<
     A: Ledger + Send + Sync,
     R: Wait + Sync,
     M: Moments + Sync,
-    J: Journal<N> + Sync,
-    N: ListName + Send + Sync,
 >(
     scope: &Scope<'s, E>,
-    context: &'s Context<'_, SeatWorld<C, A, R, M, J, N>>,
+    context: &'s Context<'_, Unrecorded<C, A, R, M>>,
     listener: &TcpListener,
     pass: Pass<C, A>,
     is_accepting: &mut bool,

@@ -9,7 +9,6 @@ use compile_pool::Jobs;
 use crossbeam_channel::Receiver;
 use ghost_list::ListName;
 use journal::Journal;
-use ocpp_scalars::Moments;
 use server_ports::{
     ClientRequest, Entry, IncomingStream, SeatContext, SeatWorld, Unshaken, note_operator,
     note_unknown, note_unshaken, shake_hands,
@@ -41,11 +40,10 @@ pub fn keep_seat<
     C: Ledger,
     A: Ledger,
     R: Threads + Wait + Clock + Sync,
-    M: Moments,
     J: Journal<N>,
     N: ListName,
 >(
-    seats: &SeatContext<C, A, R, M, J, N>,
+    seats: &SeatContext<C, A, R, J, N>,
     jobs: Jobs<'_>,
     streams: &Receiver<TcpStream>,
     pass: Pass<C, A>,
@@ -70,13 +68,9 @@ fn context_of<
     C: Ledger + 's,
     A: Ledger + 's,
     R: Wait + 's,
-    M: Moments + 's,
     J: Journal<N> + 's,
     N: ListName + 's,
->(
-    seats: &'s SeatContext<C, A, R, M, J, N>,
-    jobs: Jobs<'s>,
-) -> Context<'s, SeatWorld<C, A, R, M, J, N>> {
+>(seats: &'s SeatContext<C, A, R, J, N>, jobs: Jobs<'s>) -> Context<'s, SeatWorld<C, A, R, J, N>> {
     Context {
         rt: &seats.rt,
         alloc: seats.alloc,
@@ -89,16 +83,9 @@ fn context_of<
 }
 
 /// Serves a connection from its handshake until it ends. Gives back the pass.
-fn run_incoming<
-    C: Ledger,
-    A: Ledger,
-    R: Threads + Wait + Clock + Sync,
-    M: Moments,
-    J: Journal<N>,
-    N: ListName,
->(
-    seats: &SeatContext<C, A, R, M, J, N>,
-    context: &Context<'_, SeatWorld<C, A, R, M, J, N>>,
+fn run_incoming<C: Ledger, A: Ledger, R: Threads + Wait + Clock + Sync, J: Journal<N>, N: ListName>(
+    seats: &SeatContext<C, A, R, J, N>,
+    context: &Context<'_, SeatWorld<C, A, R, J, N>>,
     stream: TcpStream,
     pass: Pass<C, A>,
 ) -> Pass<C, A>
@@ -137,8 +124,8 @@ fn run_incoming<
 }
 
 /// Shakes hands with a client. While that lasts, it may have to give way.
-fn shake_in_time<'a, C: Ledger, A: Ledger, R: Threads + Wait + Clock + Sync, M, J, N: ListName>(
-    seats: &SeatContext<C, A, R, M, J, N>,
+fn shake_in_time<'a, C: Ledger, A: Ledger, R: Threads + Wait + Clock + Sync, J, N: ListName>(
+    seats: &SeatContext<C, A, R, J, N>,
     stream: IncomingStream<'a, R>,
 ) -> Result<(SeatSocket<'a, R>, ClientRequest), Unshaken> {
     let entry = Entry::Guarded {
@@ -179,9 +166,9 @@ fn limits() -> WebSocketConfig {
 
 /// Serves a session after its handshake. A point's older connection is shut once this one has its
 /// link, and this one is shut once a later one has. Gives back the pass.
-fn run_admitted<C: Ledger, A: Ledger, R: Wait + Clock, M: Moments, J: Journal<N>, N: ListName>(
-    seats: &SeatContext<C, A, R, M, J, N>,
-    context: &Context<'_, SeatWorld<C, A, R, M, J, N>>,
+fn run_admitted<C: Ledger, A: Ledger, R: Wait + Clock, J: Journal<N>, N: ListName>(
+    seats: &SeatContext<C, A, R, J, N>,
+    context: &Context<'_, SeatWorld<C, A, R, J, N>>,
     socket: SeatSocket<'_, R>,
     admitted: Admitted,
     pass: Pass<C, A>,

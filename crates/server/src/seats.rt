@@ -6,11 +6,9 @@ use crate::seat::keep_seat;
 use crossbeam_channel::{Receiver, bounded};
 use ghost_list::{ListName, Unnamed};
 use journal::Journal;
-use ocpp_scalars::Moments;
 use server_ports::{JobSenders, SeatContext, ServeFault, accept_connections, begin_workers};
 use site_rules::Site;
 use std::alloc::{AllocError, Global};
-use std::marker::{Send, Sync};
 use std::net::{TcpListener, TcpStream};
 use std::rt::Clock;
 use std::sync::ledger::{Blank, Ledger};
@@ -18,6 +16,7 @@ use std::sync::{Arc, Wait};
 use std::thread;
 use std::thread::Threads;
 use version_store::{Pass, Shared};
+use world::Shareable;
 
 /// The most connections at a time.
 pub const MAX_SEATS: u64 = 1_000;
@@ -76,14 +75,13 @@ impl<C: Ledger, A: Ledger, N: ListName> SeatedBook<C, A, N> {
 /// returns, for as long as the program runs. Returns how many seats there are: fewer where a thread
 /// couldn't be made, and one at least.
 pub fn run_seats<
-    C: Ledger + Send + Sync + Drop + 'static,
-    A: Ledger + Send + Sync + Drop + 'static,
-    R: Threads + Wait + Clock + Eprint + Copy + Send + Sync + Drop + 'static,
-    M: Moments + Send + Sync + Drop + 'static,
-    J: Journal<N> + Send + Sync + Drop + 'static,
-    N: ListName + Send + Sync + Drop + 'static,
+    C: Ledger + Shareable,
+    A: Ledger + Shareable,
+    R: Threads + Wait + Clock + Eprint + Copy + Shareable,
+    J: Journal<N> + Shareable,
+    N: ListName + Shareable,
 >(
-    context: &Arc<SeatContext<C, A, R, M, J, N>, Global>,
+    context: &Arc<SeatContext<C, A, R, J, N>, Global>,
     listener: TcpListener,
     passes: Vec<Pass<C, A>>,
     workers: usize,
@@ -118,13 +116,12 @@ pub fn run_seats<
 
 /// Begins the thread that writes lines for people to standard error.
 fn begin_writer<
-    C: Ledger + Send + Sync + Drop + 'static,
-    A: Ledger + Send + Sync + Drop + 'static,
-    R: Wait + Threads + Eprint + Send + Sync + Drop + 'static,
-    M: Send + Sync + Drop + 'static,
-    J: Send + Sync + Drop + 'static,
-    N: ListName + Send + Sync + Drop + 'static,
->(context: &Arc<SeatContext<C, A, R, M, J, N>, Global>) -> Result<(), ServeFault> {
+    C: Ledger + Shareable,
+    A: Ledger + Shareable,
+    R: Wait + Threads + Eprint + Shareable,
+    J: Shareable,
+    N: ListName + Shareable,
+>(context: &Arc<SeatContext<C, A, R, J, N>, Global>) -> Result<(), ServeFault> {
     let own = Arc::try_clone(context)?;
     let writer = thread::Builder::new().spawn(&context.rt, move || own.notices.write_all(&own.rt));
     match writer {
@@ -135,14 +132,13 @@ fn begin_writer<
 
 /// Begins a seat for each pass. Returns how many threads could be made for them.
 fn begin_seats<
-    C: Ledger + Send + Sync + Drop + 'static,
-    A: Ledger + Send + Sync + Drop + 'static,
-    R: Threads + Wait + Clock + Copy + Send + Sync + Drop + 'static,
-    M: Moments + Send + Sync + Drop + 'static,
-    J: Journal<N> + Send + Sync + Drop + 'static,
-    N: ListName + Send + Sync + Drop + 'static,
+    C: Ledger + Shareable,
+    A: Ledger + Shareable,
+    R: Threads + Wait + Clock + Copy + Shareable,
+    J: Journal<N> + Shareable,
+    N: ListName + Shareable,
 >(
-    context: &Arc<SeatContext<C, A, R, M, J, N>, Global>,
+    context: &Arc<SeatContext<C, A, R, J, N>, Global>,
     jobs: &JobSenders,
     queue: &Receiver<TcpStream>,
     passes: Vec<Pass<C, A>>,
@@ -162,14 +158,13 @@ fn begin_seats<
 
 /// Begins a seat. False where no thread can be made for it.
 fn begin_seat<
-    C: Ledger + Send + Sync + Drop + 'static,
-    A: Ledger + Send + Sync + Drop + 'static,
-    R: Threads + Wait + Clock + Copy + Send + Sync + Drop + 'static,
-    M: Moments + Send + Sync + Drop + 'static,
-    J: Journal<N> + Send + Sync + Drop + 'static,
-    N: ListName + Send + Sync + Drop + 'static,
+    C: Ledger + Shareable,
+    A: Ledger + Shareable,
+    R: Threads + Wait + Clock + Copy + Shareable,
+    J: Journal<N> + Shareable,
+    N: ListName + Shareable,
 >(
-    context: &Arc<SeatContext<C, A, R, M, J, N>, Global>,
+    context: &Arc<SeatContext<C, A, R, J, N>, Global>,
     jobs: &JobSenders,
     queue: &Receiver<TcpStream>,
     pass: Pass<C, A>,

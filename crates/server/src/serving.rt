@@ -3,11 +3,11 @@
 ghost use Rattle.std.specs.Prelude.{◌≡◌, ◌≤◌, IfOk, length};
 
 use crate::connections::{Served, run_connections};
-use compile_pool::{Jobs, MAX_JOBS, Open, run_pool};
-use crossbeam_channel::{Sender, bounded};
+use compile_pool::{MAX_JOBS, Open, run_pool};
+use crossbeam_channel::bounded;
 use journal::NoJournal;
 use ocpp_scalars::Moments;
-use server_ports::{SeatWorld, ServeFault};
+use server_ports::ServeFault;
 use session::Context;
 use site_rules::Site;
 use std::alloc::{AllocError, Global};
@@ -17,7 +17,7 @@ use std::sync::ledger::{Blank, Ledger};
 use std::sync::{Mutex, Wait};
 use std::thread;
 use std::thread::Threads;
-use version_store::{Job, NoName, Pass, Shared, Totals};
+use version_store::{Pass, Shared, Totals};
 
 /// The most workers.
 pub const MAX_WORKERS: usize = 8;
@@ -142,7 +142,7 @@ fn run_beside_workers<
             );
             drop(pool);
             let (journal, reading) = (NoJournal, Mutex::new(()));
-            let context = unnoted(rt, alloc, shared, &jobs, clock, &journal, &reading);
+            let context = Context::unrecorded(rt, alloc, shared, &jobs, clock, &journal, &reading);
             let served = run_connections(&context, listener, passes);
             shared.lock(rt).finish();
             shared.wake();
@@ -150,25 +150,4 @@ fn run_beside_workers<
             served
         },
     )
-}
-
-/// What sessions have at hand whose changes aren't noted.
-fn unnoted<'a, C: Ledger + 'a, A: Ledger + 'a, R: Wait + 'a, M: Moments + 'a>(
-    rt: &'a R,
-    alloc: Global,
-    shared: &'a Shared<C, A>,
-    jobs: &'a Sender<Job>,
-    clock: &'a M,
-    journal: &'a NoJournal,
-    reading: &'a Mutex<()>,
-) -> Context<'a, SeatWorld<C, A, R, M, NoJournal, NoName>> {
-    Context {
-        rt,
-        alloc,
-        shared,
-        jobs: Jobs::one(jobs),
-        clock,
-        journal,
-        reading,
-    }
 }

@@ -15,20 +15,19 @@ use std::sync::ledger::Ledger;
 
 /// Whoever watches a session of a point or of an operator.
 #[derive(Drop)]
-pub(crate) struct SessionWatch<'a, C: Ledger, A: Ledger, R, M, J, N: ListName> {
-    pub(crate) seats: &'a SeatContext<C, A, R, M, J, N>,
+pub(crate) struct SessionWatch<'a, C: Ledger, A: Ledger, R, J, N: ListName> {
+    pub(crate) seats: &'a SeatContext<C, A, R, J, N>,
     /// The place of its point in the site.
     pub(crate) place: usize,
     /// The link of a point. An operator has none.
     pub(crate) link: Option<u64>,
 }
 
-impl<C: Ledger, A: Ledger, R: Wait + Clock, M: Moments, J: Journal<N>, N: ListName> SessionWatch<
+impl<C: Ledger, A: Ledger, R: Wait + Clock, J: Journal<N>, N: ListName> SessionWatch<
     '_,
     C,
     A,
     R,
-    M,
     J,
     N,
 > {
@@ -64,7 +63,9 @@ impl<C: Ledger, A: Ledger, R: Wait + Clock, M: Moments, J: Journal<N>, N: ListNa
             return;
         };
         if self.link.is_none() {
-            self.hear_operator(core, moment);
+            if let Told::Added = told {
+                self.see_calls(core, moment);
+            }
             return;
         }
         self.see(Sighting::Heard { moment });
@@ -78,7 +79,7 @@ impl<C: Ledger, A: Ledger, R: Wait + Clock, M: Moments, J: Journal<N>, N: ListNa
                 };
                 self.hear_reply(core, reply);
             }
-            Told::Other => {}
+            Told::Added | Told::Other => {}
         }
     }
 
@@ -98,8 +99,8 @@ impl<C: Ledger, A: Ledger, R: Wait + Clock, M: Moments, J: Journal<N>, N: ListNa
         self.say_made(core, without_reply(self.seats.alloc, call));
     }
 
-    /// An operator's message may have added a call.
-    fn hear_operator(&self, core: &SessionCore, moment: Instant) {
+    /// Records when the last call of the point was added.
+    fn see_calls(&self, core: &SessionCore, moment: Instant) {
         let seats = self.seats;
         let book = seats.shared.lock(&seats.rt);
         let numbers = match book.present().outbox_of(core.point_id().as_str()) {

@@ -4,13 +4,12 @@ ghost use Rattle.std.specs.Prelude.{◌≡◌, ◌≤◌, ◌+◌, true};
 
 use crate::kept_boots::KeptBoots;
 use crate::serving::stop_of;
-use ghost_list::{ListName, Unnamed};
 use command_io::{ProgramFault, read_digested_site, read_key_file};
-use journal_file::{
-    FolderFault, JournalFile, OpenJournal, Resumed, SystemClock, open_journal, or_stop,
-    restore_shared,
-};
+use ghost_list::{ListName, Unnamed};
 use jobs::{MAX_SEATS, MAX_WORKERS, Running};
+use journal_file::{
+    FolderFault, JournalFile, OpenJournal, Resumed, open_journal, or_stop, restore_shared,
+};
 use server::{
     SeatContext, SeatOptions, SeatedBook, StatusPort, begin_boots, begin_status, run_seats,
 };
@@ -19,7 +18,7 @@ use site_rules::Site;
 use std::alloc::{AllocError, AllocGlobal, Global};
 use std::fs::File;
 use std::io::ErrorKind;
-use std::marker::{Brand, Send, Sync};
+use std::marker::Brand;
 use std::net::{Net, TcpListener, TcpStream};
 use std::random::RandomSource;
 use std::rt::{Clock, Files};
@@ -28,6 +27,7 @@ use std::sync::{Arc, Wait};
 use std::thread;
 use std::thread::Threads;
 use version_store::Shared;
+use world::Shareable;
 
 // The command line lets in as many as the server does.
 const _: () = prove!(MAX_SEATS == server::MAX_SEATS);
@@ -66,10 +66,7 @@ pub fn run_file<
         + Threads
         + Wait
         + Copy
-        + Send
-        + Sync
-        + Drop
-        + 'static,
+        + Shareable,
 >(rt: &R, running: Running<'_>) -> Result<(), ProgramFault>
     requires workers { 1 ≤ running.workers }
     requires seats { 1 ≤ running.seats }
@@ -164,9 +161,9 @@ fn listen<R: Eprint + Net<Listener = TcpListener, Stream = TcpStream>>(
 /// Runs a site, whose changes and answers these two ledgers count, and whose states and syncs are
 /// recorded in these two ghost lists.
 fn run_counted<
-    C: Ledger + Send + Sync + Drop + 'static,
-    A: Ledger + Send + Sync + Drop + 'static,
-    N: ListName + Send + Sync + Drop + 'static,
+    C: Ledger + Shareable,
+    A: Ledger + Shareable,
+    N: ListName + Shareable,
     R: Files<File = File>
         + Print
         + Eprint
@@ -177,10 +174,7 @@ fn run_counted<
         + Threads
         + Wait
         + Copy
-        + Send
-        + Sync
-        + Drop
-        + 'static,
+        + Shareable,
 >(
     rt: &R,
     plan: Plan<'_>,
@@ -235,25 +229,15 @@ fn run_counted<
 
 /// Begins to tell how the site is, where that is wanted. It is told that it is being restored, too.
 fn begin_port<
-    C: Ledger + Send + Sync + Drop + 'static,
-    A: Ledger + Send + Sync + Drop + 'static,
-    N: ListName + Send + Sync + Drop + 'static,
-    R: Eprint
-        + AllocGlobal
-        + Clock
-        + RandomSource
-        + Threads
-        + Wait
-        + Copy
-        + Send
-        + Sync
-        + Drop
-        + 'static,
+    C: Ledger + Shareable,
+    A: Ledger + Shareable,
+    N: ListName + Shareable,
+    R: Eprint + AllocGlobal + Clock + RandomSource + Threads + Wait + Copy + Shareable,
 >(
     rt: &R,
     status: Option<TcpListener>,
     address: Option<&str>,
-) -> Result<Arc<StatusPort<C, A, R, SystemClock<R>, JournalFile<R, N>, N>, Global>, ProgramFault> {
+) -> Result<Arc<StatusPort<C, A, R, JournalFile<R, N>, N>, Global>, ProgramFault> {
     let address = owned(rt.alloc(), address)?;
     let port = Arc::new(rt.alloc(), StatusPort::new(*rt, rt.alloc(), address))?;
     if let Some(listener) = status {
@@ -274,13 +258,13 @@ fn owned(alloc: Global, text: Option<&str>) -> Result<Option<String>, AllocError
 
 /// Begins the thread that writes what is said of the journal.
 fn begin_lines<
-    C: Ledger + Send + Sync + Drop + 'static,
-    A: Ledger + Send + Sync + Drop + 'static,
-    N: ListName + Send + Sync + Drop + 'static,
-    R: Eprint + AllocGlobal + Clock + Threads + Wait + Copy + Send + Sync + Drop + 'static,
+    C: Ledger + Shareable,
+    A: Ledger + Shareable,
+    N: ListName + Shareable,
+    R: Eprint + AllocGlobal + Clock + Threads + Wait + Copy + Shareable,
 >(
     rt: &R,
-    context: &Arc<SeatContext<C, A, R, SystemClock<R>, JournalFile<R, N>, N>, Global>,
+    context: &Arc<SeatContext<C, A, R, JournalFile<R, N>, N>, Global>,
 ) -> Result<(), ProgramFault> {
     let own = Arc::try_clone(context)?;
     let writer = thread::Builder::new().spawn(rt, move || own.journal().write_lines());
@@ -292,12 +276,12 @@ fn begin_lines<
 
 /// Goes on with the boots that the folder keeps, and begins to keep those that come.
 fn keep_boots<
-    C: Ledger + Send + Sync + Drop + 'static,
-    A: Ledger + Send + Sync + Drop + 'static,
-    N: ListName + Send + Sync + Drop + 'static,
-    R: Eprint + AllocGlobal + Clock + Threads + Wait + Copy + Send + Sync + Drop + 'static,
+    C: Ledger + Shareable,
+    A: Ledger + Shareable,
+    N: ListName + Shareable,
+    R: Eprint + AllocGlobal + Clock + Threads + Wait + Copy + Shareable,
 >(
-    context: &Arc<SeatContext<C, A, R, SystemClock<R>, JournalFile<R, N>, N>, Global>,
+    context: &Arc<SeatContext<C, A, R, JournalFile<R, N>, N>, Global>,
     kept: KeptBoots,
 ) -> Result<(), ProgramFault> {
     let KeptBoots { boots, file } = kept;
@@ -322,10 +306,9 @@ fn context_of<
     shared: Shared<C, A, N>,
     journal: JournalFile<R, N>,
     options: SeatOptions,
-) -> Result<Arc<SeatContext<C, A, R, SystemClock<R>, JournalFile<R, N>, N>, Global>, AllocError> {
+) -> Result<Arc<SeatContext<C, A, R, JournalFile<R, N>, N>, Global>, AllocError> {
     let alloc = rt.alloc();
-    let clock = SystemClock { rt: *rt };
-    let context = SeatContext::make(*rt, alloc, shared, clock, journal, options)?;
+    let context = SeatContext::make(*rt, alloc, shared, journal, options)?;
     Ok(Arc::new(alloc, context)?)
 }
 

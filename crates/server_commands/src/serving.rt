@@ -3,8 +3,8 @@
 ghost use Rattle.std.specs.Prelude.{◌≤◌};
 
 use command_io::{ProgramFault, read_site_file};
-use journal_file::SystemClock;
 use jobs::{MAX_SESSIONS, Serving};
+use ocpp_scalars::SystemClock;
 use server::{ServeFault, serve};
 use site_rules::Site;
 use std::alloc::AllocGlobal;

@@ -3,7 +3,6 @@
 use crate::seat_context::SeatContext;
 use crossbeam_channel::Sender;
 use ghost_list::ListName;
-use ocpp_scalars::Moments;
 use server_core::Seldom;
 use std::io::{Read, Write};
 use std::net::{Shutdown, TcpListener, TcpStream};
@@ -32,8 +31,8 @@ const NO_SEAT: &[u8] =
 
 /// Accepts connections for ever, and sends each to a free seat. Where none is free, it is answered
 /// so and closed.
-pub fn accept_connections<C: Ledger, A: Ledger, R: Wait + Clock, M: Moments, J, N: ListName>(
-    seats: &SeatContext<C, A, R, M, J, N>,
+pub fn accept_connections<C: Ledger, A: Ledger, R: Wait + Clock, J, N: ListName>(
+    seats: &SeatContext<C, A, R, J, N>,
     listener: &TcpListener,
     streams: &Sender<TcpStream>,
 ) {
@@ -58,8 +57,8 @@ pub fn accept_connections<C: Ledger, A: Ledger, R: Wait + Clock, M: Moments, J, 
 
 /// Takes a seat for a connection. Where none is free, the handshake that lasts longest gives way, once
 /// it has had its time.
-fn take_seat<C: Ledger, A: Ledger, R: Wait + Clock, M, J, N: ListName>(
-    seats: &SeatContext<C, A, R, M, J, N>,
+fn take_seat<C: Ledger, A: Ledger, R: Wait + Clock, J, N: ListName>(
+    seats: &SeatContext<C, A, R, J, N>,
 ) -> bool {
     let rt = &seats.rt;
     if seats.free.take(rt) {
@@ -80,8 +79,8 @@ fn take_seat<C: Ledger, A: Ledger, R: Wait + Clock, M, J, N: ListName>(
 
 /// The next connection. None where it couldn't be accepted, after a pause: a file descriptor may be
 /// free then.
-fn accept_next<C: Ledger, A: Ledger, R: Wait + Clock, M: Moments, J, N: ListName>(
-    seats: &SeatContext<C, A, R, M, J, N>,
+fn accept_next<C: Ledger, A: Ledger, R: Wait + Clock, J, N: ListName>(
+    seats: &SeatContext<C, A, R, J, N>,
     listener: &TcpListener,
     failed: &mut Seldom,
 ) -> Option<TcpStream> {
@@ -101,8 +100,8 @@ fn accept_next<C: Ledger, A: Ledger, R: Wait + Clock, M: Moments, J, N: ListName
 }
 
 /// Says that all seats are taken.
-fn say_full<C: Ledger, A: Ledger, R: Wait + Clock, M: Moments, J, N: ListName>(
-    seats: &SeatContext<C, A, R, M, J, N>,
+fn say_full<C: Ledger, A: Ledger, R: Wait + Clock, J, N: ListName>(
+    seats: &SeatContext<C, A, R, J, N>,
     full: &mut Seldom,
 ) {
     if full.is_due(&seats.rt) {

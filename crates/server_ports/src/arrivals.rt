@@ -4,7 +4,6 @@ use crate::handshake::{ClientRequest, Unshaken};
 use crate::request_words::{push_path, said_of_operator};
 use crate::seat_context::SeatContext;
 use ghost_list::ListName;
-use ocpp_scalars::Moments;
 use std::alloc::{AllocError, Global};
 use std::net::SocketAddr;
 use std::rt::Clock;
@@ -13,8 +12,8 @@ use std::sync::ledger::Ledger;
 
 /// Says that a connection wasn't let in. One that failed by itself, as a probe of the port does, is
 /// none of these.
-pub fn note_unshaken<C: Ledger, A: Ledger, R: Wait + Clock, M: Moments, J, N: ListName>(
-    seats: &SeatContext<C, A, R, M, J, N>,
+pub fn note_unshaken<C: Ledger, A: Ledger, R: Wait + Clock, J, N: ListName>(
+    seats: &SeatContext<C, A, R, J, N>,
     unshaken: Unshaken,
     from: Option<SocketAddr>,
 ) {
@@ -25,8 +24,8 @@ pub fn note_unshaken<C: Ledger, A: Ledger, R: Wait + Clock, M: Moments, J, N: Li
 
 /// Says that a connection was closed since the site has no point of its path, or since its client
 /// didn't offer OCPP 1.6.
-pub fn note_unknown<C: Ledger, A: Ledger, R: Wait + Clock, M: Moments, J, N: ListName>(
-    seats: &SeatContext<C, A, R, M, J, N>,
+pub fn note_unknown<C: Ledger, A: Ledger, R: Wait + Clock, J, N: ListName>(
+    seats: &SeatContext<C, A, R, J, N>,
     asked: &ClientRequest,
     from: Option<SocketAddr>,
 ) {
@@ -37,8 +36,8 @@ pub fn note_unknown<C: Ledger, A: Ledger, R: Wait + Clock, M: Moments, J, N: Lis
 
 /// Says that an operator has come, from where and as whom: what is in the journal by then tells no
 /// more than that it was an operator.
-pub fn note_operator<C: Ledger, A: Ledger, R: Wait + Clock, M: Moments, J, N: ListName>(
-    seats: &SeatContext<C, A, R, M, J, N>,
+pub fn note_operator<C: Ledger, A: Ledger, R: Wait + Clock, J, N: ListName>(
+    seats: &SeatContext<C, A, R, J, N>,
     asked: &ClientRequest,
     from: Option<SocketAddr>,
 ) {
@@ -55,8 +54,8 @@ fn push_unknown(what: &mut String, asked: &ClientRequest) -> Result<(), AllocErr
     push_path(what, asked.path.as_str())
 }
 
-fn note_refused<C: Ledger, A: Ledger, R: Wait + Clock, M: Moments, J, N: ListName>(
-    seats: &SeatContext<C, A, R, M, J, N>,
+fn note_refused<C: Ledger, A: Ledger, R: Wait + Clock, J, N: ListName>(
+    seats: &SeatContext<C, A, R, J, N>,
     from: Option<SocketAddr>,
     what: Result<String, AllocError>,
 ) {
@@ -65,8 +64,8 @@ fn note_refused<C: Ledger, A: Ledger, R: Wait + Clock, M: Moments, J, N: ListNam
 }
 
 /// Says what became of whoever has this address.
-fn say_from<C: Ledger, A: Ledger, R: Wait + Clock, M: Moments, J, N: ListName>(
-    seats: &SeatContext<C, A, R, M, J, N>,
+fn say_from<C: Ledger, A: Ledger, R: Wait + Clock, J, N: ListName>(
+    seats: &SeatContext<C, A, R, J, N>,
     from: Option<SocketAddr>,
     what: Result<String, AllocError>,
 ) {

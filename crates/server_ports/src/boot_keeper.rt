@@ -4,17 +4,17 @@ use crate::seat_context::SeatContext;
 use crate::serve_fault::ServeFault;
 use ghost_list::ListName;
 use journal::Journal;
-use ocpp_scalars::Moments;
 use site_rules::Site;
 use site_status::{Boot, BootLine, push_boot_line};
 use std::alloc::{AllocError, Global};
-use std::marker::{Send, Sync};
+use std::marker::Send;
 use std::rt::Clock;
 use std::sync::ledger::Ledger;
 use std::sync::{Arc, Wait};
 use std::thread::Threads;
 use std::time::Duration;
 use std::{io, thread};
+use world::Shareable;
 
 /// So many seconds pass at least from one file of boots to the next.
 const SECONDS_BETWEEN: u64 = 1;
@@ -28,14 +28,13 @@ pub trait BootKeeper {
 /// Begins the thread that keeps the boots of points, each time that they change. No session waits for
 /// it. It goes on when this returns, for as long as the program runs.
 pub fn begin_boots<
-    C: Ledger + Send + Sync + Drop + 'static,
-    A: Ledger + Send + Sync + Drop + 'static,
-    R: Threads + Wait + Clock + Send + Sync + Drop + 'static,
-    M: Moments + Send + Sync + Drop + 'static,
-    J: Journal<N> + Send + Sync + Drop + 'static,
+    C: Ledger + Shareable,
+    A: Ledger + Shareable,
+    R: Threads + Wait + Clock + Shareable,
+    J: Journal<N> + Shareable,
     K: BootKeeper + Send + Drop + 'static,
-    N: ListName + Send + Sync + Drop + 'static,
->(context: &Arc<SeatContext<C, A, R, M, J, N>, Global>, keeper: K) -> Result<(), ServeFault> {
+    N: ListName + Shareable,
+>(context: &Arc<SeatContext<C, A, R, J, N>, Global>, keeper: K) -> Result<(), ServeFault> {
     let own = Arc::try_clone(context)?;
     let begun = thread::Builder::new().spawn(&context.rt, move || keep_boots(&own, &keeper));
     match begun {
@@ -46,15 +45,10 @@ pub fn begin_boots<
 
 /// Keeps the boots of points for ever. Where they can't be kept, that is said once until they are, and
 /// it is tried again at the next change.
-fn keep_boots<
-    C: Ledger,
-    A: Ledger,
-    R: Wait + Clock,
-    M: Moments,
-    J: Journal<N>,
-    K: BootKeeper,
-    N: ListName,
->(seats: &SeatContext<C, A, R, M, J, N>, keeper: &K) {
+fn keep_boots<C: Ledger, A: Ledger, R: Wait + Clock, J: Journal<N>, K: BootKeeper, N: ListName>(
+    seats: &SeatContext<C, A, R, J, N>,
+    keeper: &K,
+) {
     let mut is_said = false;
     for _change in seats.rt.forever() {
         seats.watch.changed_boots().wait(&seats.rt);
@@ -72,8 +66,8 @@ fn keep_boots<
 
 /// Keeps the boots of points as they are now. The book is locked to be copied, and nothing is locked
 /// while the lines are made and kept.
-fn keep_now<C: Ledger, A: Ledger, R: Wait, M, J, K: BootKeeper, N: ListName>(
-    seats: &SeatContext<C, A, R, M, J, N>,
+fn keep_now<C: Ledger, A: Ledger, R: Wait, J, K: BootKeeper, N: ListName>(
+    seats: &SeatContext<C, A, R, J, N>,
     keeper: &K,
 ) -> io::Result<()> {
     let boots = seats.watch.boots(&seats.rt, seats.alloc)?;
@@ -101,8 +95,8 @@ fn boot_lines(alloc: Global, site: &Site, boots: &[Option<Boot>]) -> Result<Stri
 }
 
 /// Says that the boots can't be kept.
-fn say_unkept<C: Ledger, A: Ledger, R: Wait, M: Moments, J, N: ListName>(
-    seats: &SeatContext<C, A, R, M, J, N>,
+fn say_unkept<C: Ledger, A: Ledger, R: Wait, J, N: ListName>(
+    seats: &SeatContext<C, A, R, J, N>,
     error: &io::Error,
 ) {
     let what = format!(in seats.alloc; "they can't be kept over a restart: {error}");

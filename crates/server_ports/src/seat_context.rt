@@ -2,7 +2,7 @@
 
 use ghost_list::ListName;
 use journal::Journal;
-use ocpp_scalars::Moments;
+use ocpp_scalars::{Moments, SystemClock};
 use server_core::{
     AheadClients, FreeSeats, LongMessages, Notices, PresentStreams, SiteWatch, UnfinishedHandshakes,
 };
@@ -28,11 +28,11 @@ pub struct SeatOptions {
 
 /// What all threads share that serve a site.
 #[derive(Drop)]
-pub struct SeatContext<C: Ledger, A: Ledger, R, M, J, N: ListName = NoName> {
+pub struct SeatContext<C: Ledger, A: Ledger, R, J, N: ListName = NoName> {
     pub rt: R,
     pub alloc: Global,
     pub shared: Arc<Shared<C, A, N>, Global>,
-    pub clock: M,
+    pub clock: SystemClock<R>,
     pub journal: J,
     pub present: PresentStreams,
     pub free: FreeSeats,
@@ -49,20 +49,19 @@ pub struct SeatContext<C: Ledger, A: Ledger, R, M, J, N: ListName = NoName> {
 impl<
     C: Ledger,
     A: Ledger,
-    R: Wait + Clock + Drop,
-    M: Moments + Drop,
+    R: Wait + Clock + Copy + Drop,
     J: Journal<N> + Drop,
     N: ListName,
-> SeatContext<C, A, R, M, J, N> {
-    /// What threads share that serve this book, by this clock and with this journal.
+> SeatContext<C, A, R, J, N> {
+    /// What threads share that serve this book, with this journal.
     pub fn make(
         rt: R,
         alloc: Global,
         shared: Shared<C, A, N>,
-        clock: M,
         journal: J,
         options: SeatOptions,
-    ) -> Result<SeatContext<C, A, R, M, J, N>, AllocError> {
+    ) -> Result<SeatContext<C, A, R, J, N>, AllocError> {
+        let clock = SystemClock { rt };
         let book = shared.lock(&rt);
         let copied = book.present().copy();
         drop(book);

@@ -2,20 +2,21 @@
 
 use ghost_list::ListName;
 use journal::Journal;
-use ocpp_scalars::Moments;
+use ocpp_scalars::SystemClock;
 use std::marker::PhantomData;
+use std::rt::Clock;
 use std::sync::Wait;
 use std::sync::ledger::Ledger;
 use world::World;
 
 /// A world of these types. Threads need to know of each that it may be sent to them, which they can't
 /// learn of a world's.
-pub struct SeatWorld<C, A, R, M, J, N> {
-    _types: PhantomData<(C, A, R, M, J, N)>,
+pub struct SeatWorld<C, A, R, J, N> {
+    _types: PhantomData<(C, A, R, J, N)>,
 }
 
-impl<C: Ledger, A: Ledger, R: Wait, M: Moments, J: Journal<N>, N: ListName> World
-    for SeatWorld<C, A, R, M, J, N> {
+impl<C: Ledger, A: Ledger, R: Wait + Clock, J: Journal<N>, N: ListName> World
+    for SeatWorld<C, A, R, J, N> {
     type Changes = C;
 
     type Answers = A;
@@ -24,7 +25,7 @@ impl<C: Ledger, A: Ledger, R: Wait, M: Moments, J: Journal<N>, N: ListName> Worl
 
     type Runtime = R;
 
-    type Clock = M;
+    type Clock = SystemClock<R>;
 
     type Journal = J;
 }

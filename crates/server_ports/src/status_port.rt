@@ -5,12 +5,10 @@ use crate::serve_fault::ServeFault;
 use crate::status_service::StatusService;
 use ghost_list::ListName;
 use http_server::{Config, Connection, serve};
-use ocpp_scalars::Moments;
 use server_core::{LONGEST_STATUS, StatusStream};
 use site_status::WatchedJournal;
 use std::alloc::{AllocError, Global};
 use std::hash::RandomState;
-use std::marker::{Send, Sync};
 use std::net::{TcpListener, TcpStream};
 use std::random::RandomSource;
 use std::rt::Clock;
@@ -19,6 +17,7 @@ use std::sync::{Arc, Mutex, Wait};
 use std::thread::Threads;
 use std::time::{Duration, Instant};
 use std::{io, thread};
+use world::Shareable;
 
 /// So many connections are served at a time.
 const STATUS_SEATS: u64 = 4;
@@ -34,30 +33,23 @@ const LONGEST_BODY: usize = 0;
 
 /// What the threads of a status port share.
 #[derive(Drop)]
-pub struct StatusPort<C: Ledger, A: Ledger, R, M, J, N: ListName> {
+pub struct StatusPort<C: Ledger, A: Ledger, R, J, N: ListName> {
     pub rt: R,
     pub alloc: Global,
     /// The address that is listened at, as it was given, where only requests for this machine are
     /// answered. None where it is open to others, who may have any name for it.
     pub address: Option<String>,
     /// What is watched. None while the site is being restored.
-    pub seats: Mutex<Option<SharedSeats<C, A, R, M, J, N>>>,
+    pub seats: Mutex<Option<SharedSeats<C, A, R, J, N>>>,
 }
 
 /// What the seats of a site share.
-pub type SharedSeats<C, A, R, M, J, N> = Arc<SeatContext<C, A, R, M, J, N>, Global>;
+pub type SharedSeats<C, A, R, J, N> = Arc<SeatContext<C, A, R, J, N>, Global>;
 
-impl<C: Ledger, A: Ledger, R: Wait + Drop, M: Drop, J: Drop, N: ListName> StatusPort<
-    C,
-    A,
-    R,
-    M,
-    J,
-    N,
-> {
+impl<C: Ledger, A: Ledger, R: Wait + Drop, J: Drop, N: ListName> StatusPort<C, A, R, J, N> {
     /// The port of a site that is being restored, at this address if it answers only requests for this
     /// machine.
-    pub fn new(rt: R, alloc: Global, address: Option<String>) -> StatusPort<C, A, R, M, J, N> {
+    pub fn new(rt: R, alloc: Global, address: Option<String>) -> StatusPort<C, A, R, J, N> {
         StatusPort {
             rt,
             alloc,
@@ -67,17 +59,14 @@ impl<C: Ledger, A: Ledger, R: Wait + Drop, M: Drop, J: Drop, N: ListName> Status
     }
 
     /// The site is restored: from now on this is watched.
-    pub fn watch(
-        &self,
-        seats: &Arc<SeatContext<C, A, R, M, J, N>, Global>,
-    ) -> Result<(), AllocError> {
+    pub fn watch(&self, seats: &Arc<SeatContext<C, A, R, J, N>, Global>) -> Result<(), AllocError> {
         let seats = Arc::try_clone(seats)?;
         *self.seats.lock(&self.rt) = Some(seats);
         Ok(())
     }
 
     /// What is watched, if the site is restored.
-    pub fn seats(&self) -> Result<Option<SharedSeats<C, A, R, M, J, N>>, AllocError> {
+    pub fn seats(&self) -> Result<Option<SharedSeats<C, A, R, J, N>>, AllocError> {
         let seats = self.seats.lock(&self.rt);
         match &*seats {
             Some(seats) => Ok(Some(Arc::try_clone(seats)?)),
@@ -88,16 +77,12 @@ impl<C: Ledger, A: Ledger, R: Wait + Drop, M: Drop, J: Drop, N: ListName> Status
 
 /// Begins to answer at a status port. It goes on when this returns, for as long as the program runs.
 pub fn begin_status<
-    C: Ledger + Send + Sync + Drop + 'static,
-    A: Ledger + Send + Sync + Drop + 'static,
-    R: Threads + Wait + Clock + RandomSource + Copy + Send + Sync + Drop + 'static,
-    M: Moments + Send + Sync + Drop + 'static,
-    J: WatchedJournal + Send + Sync + Drop + 'static,
-    N: ListName + Send + Sync + Drop + 'static,
->(
-    port: &Arc<StatusPort<C, A, R, M, J, N>, Global>,
-    listener: TcpListener,
-) -> Result<(), ServeFault> {
+    C: Ledger + Shareable,
+    A: Ledger + Shareable,
+    R: Threads + Wait + Clock + RandomSource + Copy + Shareable,
+    J: WatchedJournal + Shareable,
+    N: ListName + Shareable,
+>(port: &Arc<StatusPort<C, A, R, J, N>, Global>, listener: TcpListener) -> Result<(), ServeFault> {
     let Ok(listener) = Arc::new(port.alloc, listener) else {
         return Err(ServeFault::OutOfMemory);
     };
@@ -118,10 +103,9 @@ fn answer_all<
     C: Ledger,
     A: Ledger,
     R: Wait + Clock + RandomSource + Drop,
-    M: Moments + Drop,
     J: WatchedJournal + Drop,
     N: ListName,
->(port: &StatusPort<C, A, R, M, J, N>, listener: &TcpListener) {
+>(port: &StatusPort<C, A, R, J, N>, listener: &TcpListener) {
     for _connection in port.rt.forever() {
         match listener.accept() {
             Ok((stream, _)) => {
@@ -138,10 +122,9 @@ fn answer_connection<
     C: Ledger,
     A: Ledger,
     R: Wait + Clock + RandomSource + Drop,
-    M: Moments + Drop,
     J: WatchedJournal + Drop,
     N: ListName,
->(port: &StatusPort<C, A, R, M, J, N>, stream: &TcpStream) -> io::Result<()> {
+>(port: &StatusPort<C, A, R, J, N>, stream: &TcpStream) -> io::Result<()> {
     let now = Instant::now(&port.rt)?;
     let Some(deadline) = now.checked_add(Duration::from_secs(LONGEST_STATUS)) else {
         return Ok(());

@@ -19,18 +19,12 @@ use std::sync::ledger::Ledger;
 
 /// Answers the requests of a status port.
 #[derive(Drop)]
-pub struct StatusService<'a, C: Ledger, A: Ledger, R, M, J, N: ListName> {
-    pub port: &'a StatusPort<C, A, R, M, J, N>,
+pub struct StatusService<'a, C: Ledger, A: Ledger, R, J, N: ListName> {
+    pub port: &'a StatusPort<C, A, R, J, N>,
 }
 
-impl<
-    C: Ledger,
-    A: Ledger,
-    R: Wait + Drop,
-    M: Moments + Drop,
-    J: WatchedJournal + Drop,
-    N: ListName,
-> Service for StatusService<'_, C, A, R, M, J, N> {
+impl<C: Ledger, A: Ledger, R: Wait + Drop, J: WatchedJournal + Drop, N: ListName> Service
+    for StatusService<'_, C, A, R, J, N> {
     ghost answers = { λ _ _ _ _. Unit {0} };
 
     fn call(
@@ -67,14 +61,14 @@ impl<
     }
 }
 
-impl<
-    C: Ledger,
-    A: Ledger,
-    R: Wait + Drop,
-    M: Moments + Drop,
-    J: WatchedJournal + Drop,
-    N: ListName,
-> StatusService<'_, C, A, R, M, J, N> {
+impl<C: Ledger, A: Ledger, R: Wait + Drop, J: WatchedJournal + Drop, N: ListName> StatusService<
+    '_,
+    C,
+    A,
+    R,
+    J,
+    N,
+> {
     /// Whether a request is for this machine, where that is wanted.
     fn is_for_us(&self, request: &Request<Bytes>) -> bool {
         match &self.port.address {
@@ -102,8 +96,8 @@ impl<
 }
 
 /// What is answered at a path that wants to know what the site has.
-fn answer_by<C: Ledger, A: Ledger, R: Wait, M: Moments, J, N: ListName>(
-    seats: &SeatContext<C, A, R, M, J, N>,
+fn answer_by<C: Ledger, A: Ledger, R: Wait, J, N: ListName>(
+    seats: &SeatContext<C, A, R, J, N>,
     journal: JournalReport,
     path: StatusPath<'_>,
 ) -> Result<StatusAnswer, AllocError> {

@@ -8,12 +8,12 @@ use compile_pool::{Jobs, MAX_JOBS, Open, run_pool};
 use crossbeam_channel::{Sender, bounded};
 use ghost_list::ListName;
 use std::alloc::{AllocError, Global};
-use std::marker::{Send, Sync};
 use std::sync::ledger::Ledger;
 use std::sync::{Arc, Wait};
 use std::thread;
 use std::thread::Threads;
 use version_store::Job;
+use world::Shareable;
 
 /// So many long jobs wait for their workers at most, of the requests that may be open at a time. The
 /// others are left to short ones.
@@ -45,14 +45,13 @@ impl JobSenders {
 /// ones: one at least takes each. Where no thread can be made nobody takes the jobs, and sessions
 /// compile themselves.
 pub fn begin_workers<
-    C: Ledger + Send + Sync + Drop + 'static,
-    A: Ledger + Send + Sync + Drop + 'static,
-    R: Threads + Wait + Copy + Send + Sync + Drop + 'static,
-    M: Send + Sync + Drop + 'static,
-    J: Send + Sync + Drop + 'static,
-    N: ListName + Send + Sync + Drop + 'static,
+    C: Ledger + Shareable,
+    A: Ledger + Shareable,
+    R: Threads + Wait + Copy + Shareable,
+    J: Shareable,
+    N: ListName + Shareable,
 >(
-    context: &Arc<SeatContext<C, A, R, M, J, N>, Global>,
+    context: &Arc<SeatContext<C, A, R, J, N>, Global>,
     workers: usize,
 ) -> Result<JobSenders, ServeFault>
     requires { 1 ≤ workers }
@@ -67,14 +66,13 @@ pub fn begin_workers<
 
 /// Begins so many workers that take the same jobs, of which so many may wait. Returns the way to them.
 fn begin_pool<
-    C: Ledger + Send + Sync + Drop + 'static,
-    A: Ledger + Send + Sync + Drop + 'static,
-    R: Threads + Wait + Copy + Send + Sync + Drop + 'static,
-    M: Send + Sync + Drop + 'static,
-    J: Send + Sync + Drop + 'static,
-    N: ListName + Send + Sync + Drop + 'static,
+    C: Ledger + Shareable,
+    A: Ledger + Shareable,
+    R: Threads + Wait + Copy + Shareable,
+    J: Shareable,
+    N: ListName + Shareable,
 >(
-    context: &Arc<SeatContext<C, A, R, M, J, N>, Global>,
+    context: &Arc<SeatContext<C, A, R, J, N>, Global>,
     workers: usize,
     most_waiting: usize,
 ) -> Result<Sender<Job>, ServeFault>

@@ -1,18 +1,18 @@
-//! The calls of a charge point that it hasn't confirmed, and how far a call is.
+//! The unconfirmed calls of a charge point, and the progress of a call.
 
 use messages::Call;
 use site_core::Outbox;
 use std::alloc::{AllocError, Global};
 
-/// A call that isn't confirmed.
+/// An unconfirmed call.
 #[derive(Drop)]
 pub struct WaitingCall {
     pub call: Call,
-    /// Whether it went out over the point's present link.
+    /// Whether it went out over the point's current link.
     pub is_in_flight: bool,
 }
 
-/// The calls of an outbox that aren't confirmed, in the order of their numbers.
+/// Returns the unconfirmed calls of an outbox, in the order of their numbers.
 pub fn waiting_calls(alloc: Global, outbox: &Outbox) -> Result<Vec<WaitingCall>, AllocError> {
     let mut number = outbox.first_number();
     let mut is_in_flight = outbox.is_in_flight();
@@ -23,12 +23,13 @@ pub fn waiting_calls(alloc: Global, outbox: &Outbox) -> Result<Vec<WaitingCall>,
             is_in_flight,
         })?;
         number = number.saturating_add(1);
+        // One call at a time is in flight, and that is the first one.
         is_in_flight = false;
     }
     Ok(calls)
 }
 
-/// How far the call of a number is.
+/// Returns the progress of the call of a number.
 pub fn state_of_call(outbox: &Outbox, number: u64) -> &'static str {
     if number < outbox.first_number() {
         "confirmed"
@@ -37,7 +38,7 @@ pub fn state_of_call(outbox: &Outbox, number: u64) -> &'static str {
     }
 }
 
-/// How far a call is that isn't confirmed.
+/// Returns the progress of an unconfirmed call.
 pub fn state_name(is_in_flight: bool) -> &'static str {
     if is_in_flight { "in flight" } else { "waiting" }
 }

@@ -1,4 +1,4 @@
-//! What is left undone at the end of a script, in sentences.
+//! Sentences about what a script leaves undone.
 
 use crate::trace::{HeldLine, Trace};
 use crate::traced_calls::{AddedCall, PointCalls};
@@ -6,10 +6,10 @@ use crate::words::counted;
 use site_core::Machine;
 use std::alloc::{AllocError, Global};
 
-/// What is left undone after the lines of a script, a sentence a line. These are requests that no
-/// line released, calls that never went out or were never answered, calls that a point rejected,
-/// and starts that it accepted and never made. Nothing is said of a point that never sent a message
-/// and for which only call 0 waits, which clears what the point has from before.
+/// Returns a sentence a line for what the lines of a script leave undone. These are requests that
+/// no line released, calls that never went out or were never answered, calls that a point rejected,
+/// and starts that it accepted and never made. A point that never sent a message isn't reported if
+/// only call 0 waits, which clears its earlier profiles.
 pub fn ending_text(alloc: Global, trace: &Trace<'_>) -> Result<String, AllocError> {
     let mut out = String::new(alloc);
     push_held(&mut out, trace)?;
@@ -25,7 +25,7 @@ pub fn ending_text(alloc: Global, trace: &Trace<'_>) -> Result<String, AllocErro
     Ok(out)
 }
 
-/// Appends a sentence for each request that is held.
+/// Appends a sentence for each held request.
 fn push_held(out: &mut String, trace: &Trace<'_>) -> Result<(), AllocError> {
     for held in trace.playing().held() {
         let number = held.number;
@@ -73,6 +73,7 @@ fn push_starts(out: &mut String, id: &str, machine: &Machine) -> Result<(), Allo
         let connector = start.connector;
         let number = start.call;
         let id_tag = start.id_tag.as_str();
+        // A start whose call isn't confirmed yet is reported as a call, below.
         if number < outbox.first_number() {
             write!(
                 out,
@@ -83,7 +84,7 @@ fn push_starts(out: &mut String, id: &str, machine: &Machine) -> Result<(), Allo
     Ok(())
 }
 
-/// Appends a sentence where a call is in flight.
+/// Appends a sentence if a call is in flight.
 fn push_unanswered(out: &mut String, id: &str, calls: &PointCalls) -> Result<(), AllocError> {
     if let Some(call) = &calls.in_flight {
         let number = call.number;
@@ -97,13 +98,14 @@ fn push_unanswered(out: &mut String, id: &str, calls: &PointCalls) -> Result<(),
     Ok(())
 }
 
-/// Appends a sentence where calls never went out.
+/// Appends a sentence if calls never went out.
 fn push_waiting(
     alloc: Global,
     out: &mut String,
     id: &str,
     calls: &PointCalls,
 ) -> Result<(), AllocError> {
+    // No line added call 0, so a point for which only that waits has no sentence.
     let Some(line) = first_line(&calls.waiting) else {
         return Ok(());
     };
@@ -119,7 +121,7 @@ fn push_waiting(
     Ok(())
 }
 
-/// The first line that added one of these calls.
+/// Returns the first line that added one of these calls.
 fn first_line(waiting: &[AddedCall]) -> Option<u64> {
     waiting.iter().find_map(|added| added.line)
 }

@@ -1,4 +1,4 @@
-//! What stands at each charge point, as JSON, in OCPP's field names.
+//! The state of each charge point as JSON, with OCPP's field names.
 
 use crate::call_of_point::{WaitingCall, state_name, state_of_call, waiting_calls};
 use crate::standing::Standing;
@@ -14,8 +14,8 @@ use site_core::{Machine, Outbox, PointAudit, WaitingStart};
 use std::alloc::{AllocError, Global};
 use transactions::Transaction;
 
-/// What stands at each point, in the order of the site file, which requests are held, and how many
-/// lines had a fault.
+/// Formats the state of each point in the order of the site file, the held requests, and the number
+/// of lines with a fault.
 pub fn standing_json(alloc: Global, standing: &Standing<'_>) -> Result<String, AllocError> {
     let mut page = Page {
         alloc,
@@ -23,16 +23,16 @@ pub fn standing_json(alloc: Global, standing: &Standing<'_>) -> Result<String, A
         scratch: Scratch::new(alloc),
     };
     page.write_standing(standing)?;
-    // A writer's bytes are UTF-8, so that none is replaced.
+    // The writer's bytes are UTF-8, so none is replaced.
     String::from_utf8_lossy(alloc, page.json.into_inner().as_slice())
 }
 
-/// A page of JSON that is being written.
+/// A page of JSON under construction.
 #[derive(Drop)]
 struct Page {
     alloc: Global,
     json: Writer,
-    /// What reading the texts of `messages` needs.
+    /// The memory for reading the JSON texts of `messages`.
     scratch: Scratch,
 }
 
@@ -77,7 +77,7 @@ impl Page {
         self.json.end_object()
     }
 
-    /// The profiles that a point has.
+    /// Writes the profiles of a point.
     fn write_profiles(&mut self, book: &PointBook) -> Result<(), AllocError> {
         self.json.key("profiles")?;
         self.json.begin_array()?;
@@ -100,7 +100,7 @@ impl Page {
         self.json.end_object()
     }
 
-    /// The active transactions of a point.
+    /// Writes the active transactions of a point.
     fn write_transactions(&mut self, book: &PointBook) -> Result<(), AllocError> {
         self.json.key("transactions")?;
         self.json.begin_array()?;
@@ -132,7 +132,7 @@ impl Page {
         self.json.end_object()
     }
 
-    /// What a point was asked in its audit, and what came of that; null where it wasn't audited.
+    /// Writes the last audit of a point and its outcome, or null if there was none.
     fn write_audit(&mut self, audit: Option<&PointAudit>) -> Result<(), AllocError> {
         self.json.key("audit")?;
         let Some(audit) = audit else {
@@ -150,7 +150,7 @@ impl Page {
         self.json.end_object()
     }
 
-    /// The starts that a point was asked for and that wait.
+    /// Writes the remote starts of a point that wait.
     fn write_starts(&mut self, outbox: &Outbox, starts: &[WaitingStart]) -> Result<(), AllocError> {
         self.json.key("waitingStarts")?;
         self.json.begin_array()?;
@@ -160,7 +160,7 @@ impl Page {
         self.json.end_array()
     }
 
-    /// A start that waits, with how far its call is.
+    /// Writes a waiting start, with the progress of its call.
     fn write_start(&mut self, outbox: &Outbox, start: &WaitingStart) -> Result<(), AllocError> {
         self.json.begin_object()?;
         self.json.key("connectorId")?;
@@ -180,7 +180,8 @@ impl Page {
         self.json.end_object()
     }
 
-    /// Whether a point is linked, how many calls it confirmed, and those that wait.
+    /// Writes whether a point is linked, how many calls it confirmed, and the calls that aren't
+    /// confirmed.
     fn write_calls(&mut self, outbox: &Outbox) -> Result<(), AllocError> {
         self.json.key("linked")?;
         self.json.boolean(outbox.link().is_some())?;
@@ -194,7 +195,7 @@ impl Page {
         self.json.end_array()
     }
 
-    /// A call that isn't confirmed.
+    /// Writes an unconfirmed call.
     fn write_call(&mut self, waiting: &WaitingCall) -> Result<(), AllocError> {
         self.json.begin_object()?;
         self.json.key("number")?;
@@ -207,14 +208,14 @@ impl Page {
         self.json.end_object()
     }
 
-    /// What a call asks for: its action, and the fields of its payload.
+    /// Writes the action of a call and the fields of its payload.
     fn write_action(&mut self, action: &str, fields: &str) -> Result<(), AllocError> {
         self.json.key("action")?;
         self.json.string(action)?;
         self.write_text(fields)
     }
 
-    /// The calls that the point confirmed without doing them.
+    /// Writes the calls that the point replied to without doing them.
     fn write_rejected(&mut self, rejected: &[RejectedCall]) -> Result<(), AllocError> {
         self.json.key("rejected")?;
         self.json.begin_array()?;
@@ -232,7 +233,7 @@ impl Page {
         self.json.end_array()
     }
 
-    /// The requests that are held.
+    /// Writes the held requests.
     fn write_held(&mut self, machine: &Machine, requests: &[Held]) -> Result<(), AllocError> {
         self.json.key("held")?;
         self.json.begin_array()?;
@@ -263,17 +264,17 @@ impl Page {
         self.json.end_object()
     }
 
-    /// An instant, as a string.
+    /// Writes an instant as a string.
     fn write_instant(&mut self, instant: Instant) -> Result<(), AllocError> {
         let text = instant_text(self.alloc, instant)?;
         self.json.string(text.as_str())
     }
 
-    /// The values and fields of a JSON text. A writer takes no text as it is, so it goes over token
-    /// by token.
+    /// Writes the values and fields of a JSON text. The writer takes no raw text, so they are
+    /// copied token by token.
     fn write_text(&mut self, text: &str) -> Result<(), AllocError> {
         let mut reader = Reader::new(text, &mut self.scratch)?;
-        // Each token has a byte at least.
+        // Bounds the loop: each token has at least one byte.
         for _ in 0..text.len() {
             match reader.next() {
                 None | Some(Token::Bad) => break,

@@ -1,5 +1,5 @@
-//! What each charge point has after the lines of a script, as tables for people and as JSON. Also
-//! what each line printed, and in sentences what was left undone at the end.
+//! The state of each charge point after the lines of a script, as tables for people and as JSON.
+//! Also the output of each line, and sentences about what was left undone at the end.
 #![tactic(auto)]
 
 mod call_of_point;

@@ -1,4 +1,4 @@
-//! What a table says of a profile.
+//! The cells of a profile in a table.
 
 use crate::words::{instant_text, seconds_text, tenths_text, text};
 use messages::{kind_name, recurrency_name, unit_name};
@@ -6,10 +6,10 @@ use ocpp_scalars::Instant;
 use profile::{Kind, Profile, Purpose, Row};
 use std::alloc::{AllocError, Global};
 
-/// How many periods a table shows of a schedule.
+/// The maximum number of periods that a table shows of a schedule.
 const SHOWN_PERIODS: usize = 6;
 
-/// The kind in two words at the most, as `Recurring Daily`.
+/// Returns the kind in at most two words, such as `Recurring Daily`.
 pub fn kind_text(alloc: Global, kind: Kind) -> Result<String, AllocError> {
     let name = kind_name(kind);
     match recurrency_name(kind) {
@@ -18,8 +18,8 @@ pub fn kind_text(alloc: Global, kind: Kind) -> Result<String, AllocError> {
     }
 }
 
-/// From when on a row counts: the later of validFrom and the start of its schedule. `started` is
-/// the start of the active transaction at the row's connector.
+/// Returns from when a row counts: the later of validFrom and the start of its schedule. `started`
+/// is the start of the active transaction at the row's connector.
 pub fn from_text(alloc: Global, row: &Row, started: Option<Instant>) -> Result<String, AllocError> {
     match (start_of(row, started), row.profile.valid_from) {
         (Some(start), Some(from)) => instant_text(alloc, start.max(from)),
@@ -32,8 +32,8 @@ pub fn from_text(alloc: Global, row: &Row, started: Option<Instant>) -> Result<S
     }
 }
 
-/// Where a row's schedule starts: at its startSchedule, or where it has none, a
-/// ChargePointMaxProfile at its install and any other at the start of a transaction.
+/// Returns the start of a row's schedule: its startSchedule, if it has one. Otherwise it is the
+/// install for a ChargePointMaxProfile, and the start of a transaction for any other.
 fn start_of(row: &Row, started: Option<Instant>) -> Option<Instant> {
     match (row.profile.schedule.start, row.profile.purpose) {
         (Some(start), _) => Some(start),
@@ -42,8 +42,8 @@ fn start_of(row: &Row, started: Option<Instant>) -> Option<Instant> {
     }
 }
 
-/// Until when a row counts: validTo, or the end of a schedule that doesn't recur, whichever comes
-/// first.
+/// Returns until when a row counts: validTo or the end of a schedule that doesn't recur, whichever
+/// is earlier.
 pub fn until_text(
     alloc: Global,
     row: &Row,
@@ -57,8 +57,9 @@ pub fn until_text(
     }
 }
 
-/// The end of a row's schedule, where it has one and that lies in the calendar.
+/// Returns the end of a row's schedule, if it has one within the calendar.
 fn end_of(row: &Row, started: Option<Instant>) -> Option<Instant> {
+    // The schedule begins again with each recurrence, so its duration doesn't end it.
     if recurrency_name(row.profile.kind).is_some() {
         return None;
     }
@@ -67,7 +68,8 @@ fn end_of(row: &Row, started: Option<Instant>) -> Option<Instant> {
     Instant::try_new(start.seconds() + u64::from(duration))
 }
 
-/// The periods of a profile in short, as `0 s 16.0 A, 8 h 6.0 A`, and where its duration ends them.
+/// Returns the periods of a profile in short, such as `0 s 16.0 A, 8 h 6.0 A`, and the end of its
+/// duration.
 pub fn periods_text(alloc: Global, profile: &Profile) -> Result<String, AllocError> {
     let unit = unit_name(profile.schedule.unit);
     let periods = profile.schedule.periods.as_slice();
@@ -89,7 +91,7 @@ pub fn periods_text(alloc: Global, profile: &Profile) -> Result<String, AllocErr
     Ok(out)
 }
 
-/// Appends where a duration ends the periods.
+/// Appends the end of a duration, if there is one.
 fn push_end(out: &mut String, duration: Option<u32>) -> Result<(), AllocError> {
     if let Some(duration) = duration {
         let end = seconds_text(*out.allocator(), duration)?;

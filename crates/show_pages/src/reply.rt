@@ -1,11 +1,11 @@
-//! What a charge point's reply says of the call that it answers.
+//! The status of a charge point's reply to a call.
 
 use messages::{ActionKind, ReplyStatus};
 use ocppj_frame::{Frame, FrameFault, Payload, ReadingMemory, read_frame};
 use std::alloc::{AllocError, Global};
 
-/// Why a call of this action wasn't done, in the point's words: the status of its reply, `no known
-/// status`, or `CALLERROR`. `None` where it was done, or the text is no reply.
+/// Returns why a call of this action wasn't done, in the point's words: the status of its reply,
+/// `no known status`, or `CALLERROR`. Returns `None` if it was done, or if the text isn't a reply.
 pub fn rejection_in(
     alloc: Global,
     memory: &mut ReadingMemory,
@@ -20,7 +20,7 @@ pub fn rejection_in(
     }
 }
 
-/// The status of a reply that leaves a call of this action undone.
+/// Returns the status of a reply that leaves a call of this action undone.
 fn status_of_rejection(
     alloc: Global,
     action: ActionKind,
@@ -29,6 +29,7 @@ fn status_of_rejection(
     let status = match ReplyStatus::in_payload(payload) {
         Some(status) if status.is_done(action) => return Ok(None),
         Some(status) => status.name(),
+        // Only a known status shows that the point did the call.
         None => "no known status",
     };
     Ok(Some(String::from_str(alloc, status)?))

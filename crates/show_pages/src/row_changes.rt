@@ -1,19 +1,19 @@
-//! Which profiles a line brought to a charge point, and which it took away.
+//! The profiles that a line brought to a charge point, and those that it removed.
 
 use meaning::PrevailingProfile;
 use profile::Row;
 use std::alloc::{AllocError, Global};
 
-/// What a line changed in the profiles of its point.
+/// The change that a line made to the profiles of its point.
 #[derive(Drop)]
 pub struct RowChange {
     /// The line's number, from 1.
     pub number: u64,
     /// The line's frame.
     pub frame: String,
-    /// The profile that it brought, if it did.
+    /// The profile that it brought, if any.
     pub came: Option<PrevailingProfile>,
-    /// The profiles that it took away. One that comes anew in its own place isn't among them.
+    /// The profiles that it removed, except one that comes again in its own place.
     pub gone: Vec<PrevailingProfile>,
 }
 
@@ -23,7 +23,7 @@ pub(crate) struct PointRows {
     named: Vec<PrevailingProfile>,
 }
 
-/// What came to a point and what is gone.
+/// The profile that came to a point, and those that are gone.
 #[derive(Drop)]
 pub(crate) struct CameAndGone {
     pub came: Option<PrevailingProfile>,
@@ -31,15 +31,14 @@ pub(crate) struct CameAndGone {
 }
 
 impl PointRows {
-    /// Before the first line there is none.
+    /// Returns no profiles, as before the first line.
     pub(crate) fn new(alloc: Global) -> PointRows {
         PointRows {
             named: Vec::new(alloc),
         }
     }
 
-    /// Takes in the rows that the point has now. Returns what came and what is gone, where
-    /// something changed.
+    /// Records the rows that the point has now. Returns the difference, if there is one.
     pub(crate) fn follow(
         &mut self,
         alloc: Global,
@@ -58,7 +57,7 @@ impl PointRows {
                 gone.push(*profile)?;
             }
         }
-        // An install puts its profile last.
+        // An install puts its profile last, so only the last row can be new.
         let came = now
             .last()
             .copied()
@@ -67,7 +66,7 @@ impl PointRows {
         Ok(Some(CameAndGone { came, gone }))
     }
 
-    /// Whether these rows have the names that the rows had before, in their order.
+    /// Returns whether these rows have the names of the recorded ones, in their order.
     fn are(&self, rows: &[Row]) -> bool {
         self.named.len() == rows.len()
             && self
@@ -78,7 +77,7 @@ impl PointRows {
     }
 }
 
-/// A profile by its id, its purpose and where it stands.
+/// Returns the id, the purpose, the stack level and the connector of a row's profile.
 fn name_of(row: &Row) -> PrevailingProfile {
     PrevailingProfile {
         id: row.profile.id,

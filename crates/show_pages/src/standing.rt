@@ -1,4 +1,4 @@
-//! What stands at each charge point, as tables for people.
+//! The state of each charge point, as tables for people.
 
 use crate::call_of_point::{WaitingCall, state_name, state_of_call, waiting_calls};
 use crate::profile_words::{from_text, kind_text, periods_text, until_text};
@@ -11,22 +11,22 @@ use replay::Held;
 use site_core::{Machine, Outbox, PointAudit, WaitingStart};
 use std::alloc::{AllocError, Global};
 
-/// What is shown of a site, after the lines of a script or of a journal.
+/// The state of a site after the lines of a script or a journal.
 #[derive(Clone, Copy)]
 pub struct Standing<'a> {
     pub machine: &'a Machine,
-    /// What became of the calls to each point, in the order of the site file.
+    /// The progress of the calls to each point, in the order of the site file.
     pub points: &'a [PointCalls],
-    /// The requests that are held.
+    /// The held requests.
     pub held: &'a [Held],
-    /// How many lines there are, and how many of them have a fault.
+    /// The number of lines, and how many of them have a fault.
     pub lines: u64,
     pub faults: u64,
 }
 
-/// What each point has, in the order of the site file, and which requests are held. A point has
-/// profiles, transactions, its audit, the remote starts and the calls that wait, and the calls that
-/// it rejected. A point with nothing has one line.
+/// Formats the state of each point, in the order of the site file, and the held requests. A point
+/// has profiles, transactions, its audit, the remote starts and calls that wait, and the calls that
+/// it rejected. A point with nothing takes one line.
 pub fn standing_text(alloc: Global, standing: &Standing<'_>) -> Result<String, AllocError> {
     let machine = standing.machine;
     let mut out = String::new(alloc);
@@ -39,7 +39,7 @@ pub fn standing_text(alloc: Global, standing: &Standing<'_>) -> Result<String, A
     Ok(out)
 }
 
-/// Appends what stands at a point.
+/// Appends the state of a point.
 fn push_point(
     alloc: Global,
     out: &mut String,
@@ -55,6 +55,7 @@ fn push_point(
     let audit = machine.audit_of(id);
     let starts = machine.waiting_of(id);
     let has_nothing = book.view().rows.is_empty() && transactions.is_none() && audit.is_none();
+    // Before its first message a point has only call 0, which fits into the one line.
     if has_nothing && starts.is_empty() && calls.len() <= 1 && rejected.is_empty() {
         return push_empty_point(alloc, out, id, outbox, &calls);
     }
@@ -77,7 +78,7 @@ fn push_point(
     push_rejected(alloc, out, rejected)
 }
 
-/// Appends what the point was asked in its audit, and what came of that.
+/// Appends the point's last audit, and its outcome.
 fn push_audit(out: &mut String, audit: Option<&PointAudit>) -> Result<(), AllocError> {
     let Some(audit) = audit else {
         return out.push_str("  no audit\n");
@@ -93,7 +94,7 @@ fn push_audit(out: &mut String, audit: Option<&PointAudit>) -> Result<(), AllocE
     Ok(())
 }
 
-/// Appends the starts that the point was asked for and that wait, if there are any.
+/// Appends the remote starts that wait, if there are any.
 fn push_starts(
     alloc: Global,
     out: &mut String,
@@ -124,7 +125,7 @@ fn push_starts(
     table.push_to(out, 4)
 }
 
-/// Appends the calls that the point confirmed without doing them, if there are any.
+/// Appends the calls that the point replied to without doing them, if there are any.
 fn push_rejected(
     alloc: Global,
     out: &mut String,
@@ -146,8 +147,8 @@ fn push_rejected(
     table.push_to(out, 4)
 }
 
-/// Appends the one line of a point with neither profiles nor transactions, and one call that waits
-/// at the most.
+/// Appends the single line of a point with neither profiles nor transactions, and at most one
+/// waiting call.
 fn push_empty_point(
     alloc: Global,
     out: &mut String,
@@ -204,7 +205,7 @@ fn push_profiles(alloc: Global, out: &mut String, book: &PointBook) -> Result<()
     table.push_to(out, 4)
 }
 
-/// The active transactions of a point, if there are any.
+/// Returns the active transactions of a point, if there are any.
 fn transaction_table(alloc: Global, book: &PointBook) -> Result<Option<Table>, AllocError> {
     let mut table = Table::new(alloc, &["connector", "id", "idTag", "since"])?;
     let mut is_empty = true;
@@ -223,7 +224,7 @@ fn transaction_table(alloc: Global, book: &PointBook) -> Result<Option<Table>, A
     Ok(if is_empty { None } else { Some(table) })
 }
 
-/// How many calls are confirmed, in flight and waiting.
+/// Returns the numbers of calls that are confirmed, in flight and waiting.
 fn calls_text(alloc: Global, outbox: &Outbox, calls: usize) -> Result<String, AllocError> {
     let confirmed = outbox.first_number();
     let in_flight = usize::from(outbox.is_in_flight());
@@ -237,7 +238,7 @@ fn calls_text(alloc: Global, outbox: &Outbox, calls: usize) -> Result<String, Al
     )
 }
 
-/// The calls that aren't confirmed.
+/// Returns a table of the unconfirmed calls.
 fn call_table(alloc: Global, calls: &[WaitingCall]) -> Result<Table, AllocError> {
     let mut table = Table::new(alloc, &["number", "action", "subject", "state"])?;
     for waiting in calls {
@@ -251,14 +252,15 @@ fn call_table(alloc: Global, calls: &[WaitingCall]) -> Result<Table, AllocError>
     Ok(table)
 }
 
-/// What a call is about: its profiles, the schedule that it asks for, or who is to start.
+/// Returns the subject of a call: its profiles, the schedule that it requests, or the idTag to
+/// start.
 fn subject_text(alloc: Global, body: &CallBody) -> Result<String, AllocError> {
     let mut out = String::new(alloc);
     push_subject(&mut out, body)?;
     Ok(out)
 }
 
-/// Appends the requests that are held, if there are any.
+/// Appends the held requests, if there are any.
 fn push_held(
     alloc: Global,
     out: &mut String,

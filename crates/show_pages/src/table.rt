@@ -1,4 +1,4 @@
-//! Tables in plain text. Each column is as wide as its widest cell.
+//! Plain-text tables. Each column is as wide as its widest cell.
 
 use ocpp_scalars::character_count;
 use std::alloc::{AllocError, Global};
@@ -11,7 +11,7 @@ pub struct Table {
 }
 
 impl Table {
-    /// A table with these headings and no rows.
+    /// Returns a table with these headings and no rows.
     pub fn new(alloc: Global, headings: &[&str]) -> Result<Table, AllocError> {
         let mut cells = Vec::with_capacity(alloc, headings.len())?;
         for heading in headings {
@@ -22,7 +22,7 @@ impl Table {
         Ok(Table { alloc, rows })
     }
 
-    /// Adds a row. A cell may have several lines, which stand below each other.
+    /// Adds a row. A cell may have several lines, which go below each other.
     pub fn push<const CELLS: usize>(&mut self, cells: [String; CELLS]) -> Result<(), AllocError> {
         let row = Vec::from_array(self.alloc, cells)?;
         self.rows.push(row)?;
@@ -38,7 +38,7 @@ impl Table {
         Ok(())
     }
 
-    /// The width of each column, in characters.
+    /// Returns the width of each column, in characters.
     fn widths(&self) -> Result<Vec<usize>, AllocError> {
         let mut widths = Vec::new(self.alloc);
         for row in &self.rows {
@@ -54,16 +54,17 @@ impl Table {
     }
 }
 
-/// The width of a cell's widest line, in characters.
+/// Returns the width of a cell's widest line, in characters.
 fn cell_width(cell: &str) -> usize {
     let mut widest = 0;
     for line in cell.lines() {
+        // An idTag may have characters outside ASCII, which are several bytes but one column.
         widest = character_count(line).max(widest);
     }
     widest
 }
 
-/// Appends a row: as many lines as the highest of its cells has, and at least one.
+/// Appends a row: as many lines as its highest cell has, and at least one.
 fn push_row(
     out: &mut String,
     row: &[String],
@@ -80,7 +81,7 @@ fn push_row(
     Ok(())
 }
 
-/// Appends one line of a row. Nothing stands behind its last character.
+/// Appends one line of a row, without trailing spaces.
 fn push_line_of_row(
     out: &mut String,
     row: &[String],

@@ -1,4 +1,4 @@
-//! What each line of a script printed, side by side with the line.
+//! The output of each line of a script, beside the line.
 
 ghost use Rattle.std.specs.Prelude.{◌≤◌, length};
 ghost use Rattle.replay.specs.Limits.{max_script_bytes};
@@ -15,17 +15,17 @@ use site_rules::Site;
 use std::alloc::{AllocError, Global};
 use texts::SentText;
 
-/// How many characters a trace shows of a text.
+/// The maximum number of characters that a trace shows of a text.
 const SHOWN_CHARACTERS: usize = 60;
 
-/// How much is kept of a script.
+/// The depth to which a script is played and kept.
 #[derive(Clone, Copy, PartialEq, Eq)]
 pub enum Depth {
-    /// What its lines lead to. No schedule is made for a request, while none is held.
+    /// The state that its lines lead to. No schedule is made unless a request is held.
     State,
-    /// Which lines were refused, too. A schedule is made where one may be too long.
+    /// Also which lines were refused. A schedule is made only if it may be too long.
     Refusals,
-    /// What each line printed, too.
+    /// Also the output of each line.
     Lines,
 }
 
@@ -34,11 +34,11 @@ pub enum Depth {
 pub struct TracedLine {
     /// Its number, from 1.
     pub number: u64,
-    /// The word for its moment, where it says something on the site.
+    /// The word for its moment, if the line can be read.
     pub moment: Option<String>,
-    /// The identity of the point that it is for or from, where the line says so.
+    /// The identity of the point that it is for or from, if it names one.
     pub point: Option<String>,
-    /// The line without its instant and its point, cut.
+    /// The line without its instant and its point, shortened.
     pub text: String,
     pub printed: Vec<PrintedLine>,
 }
@@ -50,12 +50,12 @@ pub struct HeldLine {
     pub request: u64,
     /// The line's number.
     pub line: u64,
-    /// The identity of the point that is asked.
+    /// The identity of the point whose schedule is requested.
     pub point: String,
 }
 
-/// A script that is played, with what became of the calls to each point and, if wanted, what each
-/// line printed.
+/// A script in play, with the progress of the calls to each point and, at `Depth::Lines`, the
+/// output of each line.
 #[derive(Drop)]
 pub struct Trace<'a> {
     alloc: Global,
@@ -64,13 +64,13 @@ pub struct Trace<'a> {
     depth: Depth,
     lines: Vec<TracedLine>,
     held: Vec<HeldLine>,
-    /// Each at its place in the site file.
+    /// The calls of each point, at its place in the site file.
     points: Vec<PointCalls>,
     rows: Vec<PointRows>,
     changes: Vec<RowChange>,
 }
 
-/// Plays a script up to the line of a number, or the whole of it.
+/// Plays a script up to a line number, or the whole of it.
 pub fn trace_script<'a>(
     alloc: Global,
     script: &'a [u8],
@@ -81,7 +81,7 @@ pub fn trace_script<'a>(
     requires { length script.now ≤ max_script_bytes }
 {
     let mut trace = Trace::new(alloc, script, site, depth)?;
-    // Each line has a byte at least.
+    // Bounds the loop: each line has at least one byte.
     for _line in 0..script.len() {
         if last_line.is_some_and(|last| last < trace.playing.next_line()) {
             break;
@@ -95,7 +95,7 @@ pub fn trace_script<'a>(
 }
 
 impl<'a> Trace<'a> {
-    /// A script before its first line.
+    /// Returns a script before its first line.
     pub fn new(
         alloc: Global,
         script: &'a [u8],
@@ -132,12 +132,12 @@ impl<'a> Trace<'a> {
         }
     }
 
-    /// The script, where it stands.
+    /// Returns the script at the line that it has reached.
     pub fn playing(&self) -> &Playing<'a> {
         &self.playing
     }
 
-    /// What is shown of it.
+    /// Returns the state that is shown of the script.
     pub fn standing(&self) -> Standing<'_> {
         Standing {
             machine: self.playing.machine(),
@@ -148,28 +148,30 @@ impl<'a> Trace<'a> {
         }
     }
 
-    /// The lines that printed something, where they are kept.
+    /// Returns the lines that printed something, if they are kept.
     pub fn lines(&self) -> &[TracedLine] {
         self.lines.as_slice()
     }
 
-    /// The lines that held a request, released or not.
+    /// Returns the lines that held a request, released or not.
     pub fn held(&self) -> &[HeldLine] {
         self.held.as_slice()
     }
 
-    /// What became of the calls to each point, in the order of the site file.
+    /// Returns the progress of the calls to each point, in the order of the site file.
     pub fn points(&self) -> &[PointCalls] {
         self.points.as_slice()
     }
 
-    /// What lines changed in the profiles of their points, in the order of the lines.
+    /// Returns the changes that lines made to the profiles of their points, in the order of the
+    /// lines.
     pub fn changes(&self) -> &[RowChange] {
         self.changes.as_slice()
     }
 
-    /// Takes in a line that was played.
+    /// Records a line that was played.
     pub fn take_in(&mut self, played: PlayedLine<'a>) -> Result<(), AllocError> {
+        // A release only answers a held request: it changes nothing at the point.
         if let Some(Ok(ScriptLine::Text(sent) | ScriptLine::Hold(sent))) = &played.said {
             self.follow(sent, &played)?;
         }
@@ -179,7 +181,7 @@ impl<'a> Trace<'a> {
         Ok(())
     }
 
-    /// Takes in what a message did at its point.
+    /// Records the effect of a message on its point.
     fn follow(&mut self, sent: &SentText<'_>, played: &PlayedLine<'a>) -> Result<(), AllocError> {
         self.follow_change(sent, played)?;
         for line in &played.outcome.printed {
@@ -201,7 +203,7 @@ impl<'a> Trace<'a> {
         Ok(())
     }
 
-    /// Takes in what a message changed at its point.
+    /// Records the change that a message made to its point.
     fn follow_change(
         &mut self,
         sent: &SentText<'_>,
@@ -225,12 +227,12 @@ impl<'a> Trace<'a> {
         if change == PointChange::Confirmed {
             return calls.confirmed(self.alloc, &mut self.memory, played.number, sent.frame());
         }
-        // Whatever the line changed, the point tells its calls and profiles.
+        // Any other change may add calls or change profiles, so both are read from the point.
         calls.added(next_call, played.number)?;
         self.follow_rows(place, sent, played.number)
     }
 
-    /// Takes in which profiles came to the point at a place and which are gone.
+    /// Records which profiles came to the point at a place, and which are gone.
     fn follow_rows(
         &mut self,
         place: usize,
@@ -266,7 +268,7 @@ impl<'a> Trace<'a> {
         Ok(())
     }
 
-    /// The point that a line is from or for, and its message.
+    /// Returns the point that a line is from or for, and its message.
     fn words_of(&self, played: &PlayedLine<'a>) -> Result<(Option<String>, String), AllocError> {
         let alloc = self.alloc;
         match &played.said {
@@ -283,13 +285,14 @@ impl<'a> Trace<'a> {
                 Ok((point, format!(in alloc; "release {request}")?))
             }
             Some(Err(_)) | None => {
+                // A line that can't be read needn't be UTF-8.
                 let whole = String::from_utf8_lossy(alloc, played.line)?;
                 Ok((None, cut(alloc, whole.as_str(), SHOWN_CHARACTERS)?))
             }
         }
     }
 
-    /// The identity of the point that a request was held for.
+    /// Returns the identity of the point that a request was held for.
     fn point_of_request(&self, request: u64) -> Result<Option<String>, AllocError> {
         for held in &self.held {
             if held.request == request {
@@ -300,7 +303,7 @@ impl<'a> Trace<'a> {
     }
 }
 
-/// The word for the moment of a line, where it says something on the site.
+/// Returns the word for the moment of a line, if the line can be read.
 fn moment_word(alloc: Global, played: &PlayedLine<'_>) -> Result<Option<String>, AllocError> {
     if !matches!(played.said, Some(Ok(_))) {
         return Ok(None);
@@ -312,7 +315,7 @@ fn moment_word(alloc: Global, played: &PlayedLine<'_>) -> Result<Option<String>,
     }
 }
 
-/// The point of a line with a message, and that message.
+/// Returns the point of a line with a message, and that message.
 fn text_words(
     alloc: Global,
     word: &str,
@@ -323,7 +326,7 @@ fn text_words(
     Ok((Some(point), format!(in alloc; "{word} {shown}")?))
 }
 
-/// The lines that printed something, each beside what it printed.
+/// Returns a table of the lines that printed something, each beside its output.
 pub fn trace_text(alloc: Global, trace: &Trace<'_>) -> Result<String, AllocError> {
     let mut table = Table::new(alloc, &["line", "moment", "point", "message", "answer"])?;
     for line in trace.lines() {
@@ -340,7 +343,7 @@ pub fn trace_text(alloc: Global, trace: &Trace<'_>) -> Result<String, AllocError
     Ok(out)
 }
 
-/// What a line says, or `-` where it doesn't.
+/// Returns a copy of a text, or `-` if there is none.
 fn shown(alloc: Global, said: &Option<String>) -> Result<String, AllocError> {
     match said {
         Some(said) => text(alloc, said.as_str()),

@@ -1,4 +1,4 @@
-//! What became of a charge point's calls, line after line.
+//! The progress of a charge point's calls, line by line.
 
 use crate::reply::rejection_in;
 use messages::{ActionKind, Call, push_payload_fields, push_subject};
@@ -10,7 +10,7 @@ use std::alloc::{AllocError, Global};
 #[derive(Drop)]
 pub struct SentCall {
     pub number: u64,
-    /// Its action and the profiles that it is for, in words.
+    /// Its action and the profiles that it is about, in words.
     pub what: String,
     pub action: ActionKind,
     /// The fields of its payload, as JSON with commas between them.
@@ -23,35 +23,35 @@ pub struct SentCall {
 #[derive(Drop)]
 pub struct AddedCall {
     pub number: u64,
-    /// The line that added it; none of call 0, which waits from the beginning.
+    /// The line that added it; `None` for call 0, which waits from the start.
     pub line: Option<u64>,
 }
 
-/// A call that the point answered without doing it.
+/// A call that the point replied to without doing it.
 #[derive(Drop)]
 pub struct RejectedCall {
     pub call: SentCall,
     /// The line with the point's reply.
     pub line: u64,
-    /// The reply's status, or that it has none that is known, or `CALLERROR`.
+    /// The reply's status, `no known status`, or `CALLERROR`.
     pub status: String,
 }
 
-/// What became of the calls to a charge point.
+/// The calls to a charge point, by their progress.
 #[derive(Drop)]
 pub struct PointCalls {
-    /// How many calls there are, confirmed or not.
+    /// The number of calls so far, confirmed or not.
     count: u64,
-    /// The call that went out and isn't answered.
+    /// The call that went out and has no reply.
     pub in_flight: Option<SentCall>,
     /// The calls that never went out, in the order of their numbers.
     pub waiting: Vec<AddedCall>,
-    /// Those that weren't done later, in the order of the replies.
+    /// The rejected calls that weren't done later, in the order of the replies.
     pub rejected: Vec<RejectedCall>,
 }
 
 impl PointCalls {
-    /// Before the first line: call 0 waits.
+    /// Returns the calls before the first line: call 0 waits.
     pub fn new(alloc: Global) -> Result<PointCalls, AllocError> {
         let mut waiting = Vec::new(alloc);
         waiting.push(AddedCall {
@@ -66,7 +66,7 @@ impl PointCalls {
         })
     }
 
-    /// The line of this number added the calls that come before the next number.
+    /// Records that a line added the calls below the number `next`.
     pub fn added(&mut self, next: u64, line: u64) -> Result<(), AllocError> {
         for number in self.count..next {
             self.waiting.push(AddedCall {
@@ -78,7 +78,7 @@ impl PointCalls {
         Ok(())
     }
 
-    /// A call went out behind the line of this number.
+    /// Records that a call went out after a line.
     pub(crate) fn sent(&mut self, alloc: Global, call: &Call, line: u64) -> Result<(), AllocError> {
         let number = call.number;
         let action = call.body.kind();
@@ -94,11 +94,12 @@ impl PointCalls {
             fields,
             line,
         });
+        // Calls go out in the order of their numbers, so no earlier one waits.
         self.waiting.retain(|added| added.number > number);
         Ok(())
     }
 
-    /// The first call of the point's outbox went out, in the line of this number.
+    /// Records that the first call of the point's outbox went out, at a line.
     pub fn sent_first(
         &mut self,
         alloc: Global,
@@ -112,8 +113,8 @@ impl PointCalls {
         }
     }
 
-    /// The call in flight was answered by this message of the point, in the line of this number. One
-    /// that the point does ends what is said of the same call before, which it rejected.
+    /// Records that the point replied to the call in flight, at a line. If it did the call, earlier
+    /// rejections of an equal call are dropped.
     pub fn confirmed(
         &mut self,
         alloc: Global,
@@ -127,6 +128,8 @@ impl PointCalls {
         match rejection_in(alloc, memory, call.action, reply)? {
             Some(status) => self.rejected.push(RejectedCall { call, line, status })?,
             None => {
+                // An operator sends a rejected call again: once it is done, nothing is left to
+                // report.
                 let done = call.what.as_str();
                 self.rejected
                     .retain(|rejected| rejected.call.what.as_str() != done);

@@ -1,28 +1,28 @@
-//! Small texts: instants, limits, numbers, lengths of time and cut texts.
+//! Short texts: instants, limits, numbers, lengths of time and shortened texts.
 
 use ocpp_scalars::{Instant, push_instant, push_tenths};
 use std::alloc::{AllocError, Global};
 
-/// A copy of a text.
+/// Returns a copy of a text.
 pub fn text(alloc: Global, text: &str) -> Result<String, AllocError> {
     String::from_str(alloc, text)
 }
 
-/// An instant, as `2025-01-31T18:00:00Z`.
+/// Formats an instant, such as `2025-01-31T18:00:00Z`.
 pub fn instant_text(alloc: Global, instant: Instant) -> Result<String, AllocError> {
     let mut out = String::new(alloc);
     push_instant(&mut out, instant)?;
     Ok(out)
 }
 
-/// A limit, which is given in tenths, as `16.0`.
+/// Formats a limit in tenths, such as `16.0`.
 pub fn tenths_text(alloc: Global, tenths: u32) -> Result<String, AllocError> {
     let mut out = String::new(alloc);
     push_tenths(&mut out, tenths)?;
     Ok(out)
 }
 
-/// A number of seconds in the largest unit that says them exactly, as `8 h`.
+/// Formats a number of seconds in the largest unit that is exact, such as `8 h`.
 pub fn seconds_text(alloc: Global, seconds: u32) -> Result<String, AllocError> {
     if seconds == 0 || seconds % 60 != 0 {
         return format!(in alloc; "{seconds} s");
@@ -39,7 +39,7 @@ pub fn seconds_text(alloc: Global, seconds: u32) -> Result<String, AllocError> {
     format!(in alloc; "{days} d")
 }
 
-/// `1 call`, `2 calls`.
+/// Formats a count: `1 call`, `2 calls`.
 pub fn counted(alloc: Global, count: usize, one: &str) -> Result<String, AllocError> {
     if count == 1 {
         format!(in alloc; "1 {one}")
@@ -48,7 +48,7 @@ pub fn counted(alloc: Global, count: usize, one: &str) -> Result<String, AllocEr
     }
 }
 
-/// The first characters of a text, with `..` behind them where it has more.
+/// Returns the first characters of a text, with `..` after them if it has more.
 pub fn cut(alloc: Global, text: &str, characters: usize) -> Result<String, AllocError> {
     let mut out = String::new(alloc);
     for (place, character) in text.chars().enumerate() {

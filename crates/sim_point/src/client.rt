@@ -7,23 +7,23 @@ use std::io::{Read, Write};
 use std::sync::Wait;
 use tungstenite::{Error, MaskKeys, Message, WebSocket};
 
-/// How a connection came to its end.
+/// How a connection ended.
 #[derive(Clone, Copy, PartialEq, Eq)]
 pub enum Ended {
-    /// After a close handshake.
+    /// By a close handshake.
     Closed,
-    /// The stream failed or came to its end without a close handshake, the other side broke the
-    /// protocol, or the clock couldn't be read.
+    /// The stream failed or ended without a close handshake, the other side broke the protocol, or
+    /// the clock couldn't be read.
     Broken,
     /// Memory ran out.
     OutOfMemory,
 }
 
-/// Runs a simulated point at a socket whose handshake is done (OCPP-J 1.6, chapter 3), until its
-/// connection ends. It sends the first call, answers each message and then sends the next call, if
+/// Runs a simulated point at a socket after its handshake (OCPP-J 1.6, chapter 3), until the
+/// connection ends. It sends the first call, answers each message, and then sends the next call, if
 /// one may go. Once its last step is answered, it closes the connection, whatever else the central
-/// system has to send. Other messages than text messages are ignored. Waits for the other side, and
-/// so owes no return.
+/// system has to send. It ignores all but text messages. It waits for the other side, so it needn't
+/// return.
 pub fn run_client<S: Read + Write + Drop, K: MaskKeys + Drop, R: Wait, M: Moments>(
     rt: &R,
     alloc: Global,
@@ -44,17 +44,18 @@ pub fn run_client<S: Read + Write + Drop, K: MaskKeys + Drop, R: Wait, M: Moment
             Turn::End(ended) => return ended,
         }
     }
+    // `forever` never ends, but a `for` loop has no value of its own.
     unreachable!()
 }
 
-/// How it goes on.
+/// How the session continues.
 #[derive(Clone, Copy)]
 enum Turn {
     /// With the next message of the other side.
     Next,
-    /// The last step is answered: the connection is to be closed.
+    /// With a close: the last step is answered.
     Close,
-    /// The connection is at its end.
+    /// Not at all: the connection has ended.
     End(Ended),
 }
 
@@ -121,7 +122,7 @@ fn send<S: Read + Write + Drop, K: MaskKeys + Drop>(
     socket.send(Message::text(alloc, text)?)
 }
 
-/// Closes the connection, and waits for the other side to do so too.
+/// Closes the connection, and waits for the other side to close it.
 fn close<S: Read + Write + Drop, K: MaskKeys + Drop, R: Wait>(
     rt: &R,
     socket: &mut WebSocket<S, K>,
@@ -129,6 +130,7 @@ fn close<S: Read + Write + Drop, K: MaskKeys + Drop, R: Wait>(
     if let Err(error) = socket.close(None) {
         return ended_by(error);
     }
+    // Messages sent before the other side's close frame still arrive, and are dropped.
     for _turn in rt.forever() {
         if let Err(error) = socket.read() {
             return ended_by(error);

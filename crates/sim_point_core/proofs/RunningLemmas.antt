@@ -1,4 +1,4 @@
--- What a point knows of its transactions is theirs, whatever slot changes.
+-- The stored numbers and meters are those of the transactions, whichever slot changes.
 use Rattle.std.proofs.Common.{◌≡◌, ℕ, ℤ, ◌+◌, ◌-◌, zero, suc, refl, List, [], ◌∷◌, length, replicate, Option, None, Some, option_map, set, ap, sym, ◌∙◌, arith}
 use Rattle.std.proofs.lemmas.List.{map-set, length-map}
 use Rattle.std.specs.List.{position}
@@ -17,7 +17,7 @@ pub slots-set : (slots : List (Option Transaction)) (running : List (Option Runn
 slots-set slots running place slot is =
     ap (λ (r : List (Option Running)). set r place (running_in slot)) is ∙ sym (map-set running_in slots place slot)
 
--- what is read of a slot is what its transaction tells
+-- the value stored for a slot is that of its transaction
 pub running-active : (slots : List (Option Transaction)) (connector : ℕ)
     → running_at (slots_of slots) connector ≡ option_map running_of (active_at slots connector)
 running-active slots zero = refl
@@ -26,7 +26,7 @@ running-active (None ∷ slots) (suc zero) = refl
 running-active ((Some active) ∷ slots) (suc zero) = refl
 running-active (slot ∷ slots) (suc (suc before)) = running-active slots (suc before)
 
--- where no transaction has the number, none ends
+-- if no transaction has the number, none ends
 pub nothing-stopped : (slots : List (Option Transaction)) (id : ℤ) → connector_of slots id ≡ None
     → stopped slots id ≡ slots
 nothing-stopped slots id none = go (position (has_id id) slots) none

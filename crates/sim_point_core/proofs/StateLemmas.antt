@@ -39,7 +39,7 @@ answered-ceilings unit book now (actions.SetChargingProfile connector parts) =
     made-ceilings unit book (row_made now connector (profile_of_parts parts))
 answered-ceilings unit book now (actions.ClearChargingProfile criteria) =
     cleared-ceilings (list_any (matches criteria) book.rows) book (book_cleared book criteria) refl
--- each other action leaves the book
+-- any other action leaves the book unchanged
 answered-ceilings unit book now action = refl
 
 fits-with : (old new : BookState) (call : PointCall) → new.ceilings ≡ old.ceilings → Fits old call → Fits new call

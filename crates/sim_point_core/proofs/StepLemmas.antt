@@ -1,4 +1,4 @@
--- The steps that are left where one is put in front of them.
+-- The remaining steps after one is inserted before them.
 use Rattle.std.proofs.Common.{◌≡◌, ◌≤◌, ℕ, List, ◌∷◌, length, drop, take, ap, sym, ◌∙◌}
 use Rattle.std.proofs.lemmas.List.{length-take-le}
 use Rattle.std.proofs.Math.Seq.{drop-append_seam}

@@ -1,7 +1,7 @@
--- Objects whose values are written one by one, each behind the text that stands before it.
+-- Objects whose values are written one by one, each after the text before it.
 use Rattle.std.proofs.Common.{◌≡◌, ℕ, List, [], ◌++◌, append-nil, append_assoc}
 
--- The middle one of three values is a string, whose quote q is written with what stands behind it.
+-- The middle one of three values is a string, whose quote q is written with the text after it.
 pub three_values : (old a u b v q c w e o r s t x y z : List ℕ) → o ≡ old ++ a → r ≡ o ++ u
     → s ≡ r ++ b → t ≡ s ++ v → x ≡ t ++ (q ++ c) → y ≡ x ++ w → z ≡ y ++ e
     → z ≡ old ++ ((a ++ (u ++ (b ++ ((v ++ q) ++ (c ++ (w ++ [])))))) ++ e)

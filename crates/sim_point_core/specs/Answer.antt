@@ -1,4 +1,4 @@
--- What a charge point answers to an action, and its book after that.
+-- A charge point's answers to actions, and its book after them.
 use Rattle.std.specs.Prelude.{ℕ, nat_lt, ◌==◌, ◌&&◌, not, Bool, false, length, Option, Some, None, Result, Ok, Err, if◌then◌else◌}
 use Rattle.std.specs.List.{list_any}
 use Rattle.ocpp_scalars.specs.declared.refusal.Refusal.{Refusal}
@@ -25,24 +25,24 @@ use Rattle.messages.specs.declared.response.Response.{Response}
 use Rattle.messages.specs.declared.response.Response.TheVariants.{Accepted, Rejected, Unknown, Schedule}
 use Rattle.sim_point_core.specs.Request.{not_implemented}
 
--- what is answered, and what the point then has
+-- the response, and the point's book after it
 pub record Answered : Type 0 where
   pub response : Response
   pub book : BookState
 
--- it answers this, and its book stays as it is
+-- the response, with the book unchanged
 abbrev pub unchanged : BookState → Response → Answered
 unchanged book response = record { response = response; book = book }
 
 -- ---- SetChargingProfile (OCPP 1.6, 5.16)
 
--- the row of the profile, installed at the moment of its message, or why its fields make none
+-- the row of the profile, installed at the moment of its message, or why its fields don't make one
 abbrev pub row_made : ℕ → ℕ → Result Profile Refusal → Result Row Refusal
 row_made now connector (Ok profile) =
     Ok (record { connector = connector; moment = now; profile = profile })
 row_made now connector (Err refusal) = Err refusal
 
--- Why a profile may not be where it is sent, in the order in which it is checked. The point has the
+-- Why a profile may not be where it is sent, in the order of the checks. The point has the
 -- connector. A ChargePointMaxProfile is only at connector 0, and a TxProfile never is (3.13.1 and
 -- 5.16.4). Its limits are in the point's unit (this system's choice).
 abbrev pub place_refusal : Unit → BookState → Row → Option Refusal
@@ -53,7 +53,7 @@ place_refusal unit book row =
     else if not (unit_eq row.profile.schedule.unit unit) then Some WrongUnit
     else None
 
--- then it is for the active transaction, and there is room for it
+-- after these, a TxProfile is for the active transaction, and there is room for the row
 abbrev pub row_refusal : Unit → BookState → Row → Option Refusal
 row_refusal unit book row = first_cause (place_refusal unit book row) (install_refusal book row)
 
@@ -79,14 +79,14 @@ abbrev pub is_other_unit : Option Unit → Unit → Bool
 is_other_unit None unit = false
 is_other_unit (Some asked) unit = not (unit_eq asked unit)
 
--- what is asked of the point from a moment on, or the first cause why not
+-- the request for a schedule from a moment on, or the first reason for a refusal
 abbrev pub ask_at : Unit → BookState → ℕ → ScheduleRequest → Result Ask Refusal
 ask_at unit book now request =
     if nat_lt (length book.ceilings) request.connector then Err UnknownConnector
     else if is_other_unit request.unit unit then Err WrongUnit
     else ask_of request.connector now request.duration
 
--- the exact schedule of what the point has, in its unit, or that it is too long
+-- the exact schedule of the point's profiles, in its unit, or that it is too long
 abbrev pub schedule_or : Unit → Ask → Result CompositeSchedule Refusal → Response
 schedule_or unit ask (Ok schedule) = Schedule
     (record { connector = ask.connector; start = ask.start; unit = unit; schedule = schedule })
@@ -99,8 +99,8 @@ schedule_of_ask unit book (Err refusal) = Rejected refusal
 
 -- ---- actions
 
--- What a point with this unit and this book answers to an action at a moment, and its book then. A
--- RemoteStartTransaction is none of these (RemoteStart.antt), and any other isn't implemented.
+-- The answer of a point with this unit and this book to an action at a moment, and its book then.
+-- RemoteStart.antt has RemoteStartTransaction; any other action isn't implemented.
 abbrev pub answered : Unit → BookState → ℕ → Action → Answered
 answered unit book now (actions.SetChargingProfile connector parts) =
     installed_if_made unit book (row_made now connector (profile_of_parts parts))

@@ -1,5 +1,5 @@
--- What the calls of a charge point look like, byte for byte (OCPP 1.6, chapter 6; OCPP-J 1.6,
--- 4.2.1): keys in the order of the standard's tables, no blanks.
+-- The texts of a charge point's calls, byte for byte (OCPP 1.6, chapter 6; OCPP-J 1.6, 4.2.1): keys
+-- in the order of the standard's tables, no blanks.
 use Rattle.std.specs.Prelude.{ℕ, ℤ, List, [], ◌∷◌, Some, codes}
 use Rattle.std.specs.Fmt.{decimal, signed_decimal}
 use Rattle.json.specs.Print.{quoted}

@@ -1,4 +1,4 @@
--- The calls that a charge point makes by its steps, and what their replies change in its book.
+-- The calls that a charge point makes in its steps, and the changes of their replies in its book.
 use Rattle.std.specs.Prelude.{ℕ, ℤ, pos, nat_lt, nat_le, ◌&&◌, Bool, List, [], ◌∷◌, length, Option, Some, None, option_map, if◌then◌else◌}
 use Rattle.profile.specs.declared.charging_profile.Profile.{Profile}
 use Rattle.transactions.specs.declared.begin.Begin.{Begin}
@@ -21,13 +21,13 @@ abbrev pub start_of : BookState → ℕ → Begin → Option Profile → Option 
 start_of book connector begin profile =
     if has_connector book connector then Some (StartTransaction connector begin profile) else None
 
--- the end of a transaction: with its number, and with the meter that it began with (OCPP 1.6, 4.10)
+-- the stop of a transaction, with its number and the meter of its start (OCPP 1.6, 4.10)
 abbrev pub stop_of : ℕ → Transaction → PointCall
 stop_of now transaction = StopTransaction transaction.id transaction.begin.meter_start now
 
--- The call that a step makes at a moment (OCPP 1.6, 4.6, 4.8 and 4.10). A start that the central
--- system asked for has its profile, and 0 as meterStart (5.11). A start at a connector that the
--- point lacks makes no call, and no more does a stop where no transaction is active.
+-- The call that a step makes at a moment (OCPP 1.6, 4.6, 4.8 and 4.10). A remote start has its
+-- profile, and 0 as meterStart (5.11). A start at a connector that the point lacks makes no call,
+-- and neither does a stop without an active transaction.
 abbrev pub call_of : BookState → ℕ → SimStep → Option PointCall
 call_of book now steps.Heartbeat = Some Heartbeat
 call_of book now (steps.Start connector tag meter) =
@@ -37,7 +37,7 @@ call_of book now (steps.RemoteStart connector tag profile) =
 call_of book now (steps.Stop connector) =
     option_map (stop_of now) (active_at book.transactions connector)
 
--- the first call that steps make, with the steps after its own; those before it are passed over
+-- the first call that steps make, with the steps after its own; those before it are skipped
 abbrev pub call_or : Option PointCall → List SimStep → Option (PointCall × List SimStep)
     → Option (PointCall × List SimStep)
 call_or (Some call) steps later = Some (call, steps)
@@ -48,12 +48,11 @@ first_call book now [] = None
 first_call book now (step ∷ steps) =
     call_or (call_of book now step) steps (first_call book now steps)
 
--- ---- what its reply changes
+-- ---- the change of its reply
 
 -- If the reply to a StartTransaction brings a number, the transaction of that number begins, at the
--- moment that the call has (OCPP 1.6, 4.8), and with its profile (5.11). A reply without one begins
--- nothing, and its profile is given up. Any reply to a StopTransaction is the transaction's end
--- (4.10).
+-- moment of the call (OCPP 1.6, 4.8) and with its profile (5.11). A reply without a number begins
+-- nothing, and the profile is dropped. Any reply to a StopTransaction ends the transaction (4.10).
 abbrev pub book_replied : BookState → PointCall → Option ℤ → BookState
 book_replied book Heartbeat transaction = book
 book_replied book (StartTransaction connector begin profile) None = book

@@ -1,4 +1,4 @@
--- Whether a charge point keeps a start that it is asked for, and its answer (OCPP 1.6, 5.11).
+-- Whether a charge point accepts a remote start, and its answer (OCPP 1.6, 5.11).
 use Rattle.std.specs.Prelude.{ℕ, Bool, ◌&&◌, is_none, List, Option, Some, None, option_map, Result, Ok, Err, codes, if◌then◌else◌}
 use Rattle.ocpp_scalars.specs.declared.refusal.Refusal.{Refusal}
 use Rattle.profile.specs.declared.unit.Unit.{Unit}
@@ -16,7 +16,7 @@ use Rattle.sim_point_core.specs.declared.sim_step.SimStep.{SimStep}
 use Rattle.sim_point_core.specs.declared.sim_step.SimStep.TheVariants.{RemoteStart}
 use Rattle.sim_point_core.specs.PointCall.{has_connector}
 
--- it has the connector, and no transaction is active there
+-- the point has the connector, and no transaction is active there
 abbrev pub may_start : BookState → ℕ → Bool
 may_start book connector =
     has_connector book connector && is_none (active_at book.transactions connector)
@@ -30,12 +30,12 @@ abbrev pub profile_if_fit : Unit → Result Profile Refusal → Option (Option P
 profile_if_fit unit (Ok profile) = if fits unit profile then Some (Some profile) else None
 profile_if_fit unit (Err refusal) = None
 
--- the profile that the start is to have, if one is given; none of that where it can't have it
+-- the profile of the start, if one is given; None if the point can't keep it
 abbrev pub profile_kept : Unit → Option ProfileParts → Option (Option Profile)
 profile_kept unit None = Some None
 profile_kept unit (Some parts) = profile_if_fit unit (profile_of_parts parts)
 
--- the step that it becomes, or none where the point rejects it
+-- the step that it becomes, or None if the point rejects it
 abbrev pub start_kept : Unit → BookState → RemoteStartTransaction → Option SimStep
 start_kept unit book request =
     if may_start book request.connector

@@ -1,5 +1,5 @@
--- What a message of the central system asks of a charge point: nothing, an answer that it has
--- whatever it has installed, an action, or the end of its own call.
+-- The request of a message from the central system: nothing, an answer whatever the point's state
+-- is, an action, or the end of the point's own call.
 use Rattle.std.specs.Prelude.{ℕ, ℤ, codes, List, Option, Some, None, Result, Ok, Err}
 use Rattle.ocppj_frame.specs.declared.fault.FrameFault.{FrameFault}
 use Rattle.ocppj_frame.specs.declared.fault.FrameFault.TheVariants.{Formation}
@@ -23,7 +23,7 @@ use Rattle.sim_point_core.specs.declared.request.Request.TheVariants.{Nothing, R
 
 -- ---- CALLs (OCPP-J 1.6, 4.2.1)
 
--- the answer to an action that isn't known, or that a charge point isn't sent
+-- the answer to an unknown action, or to one that isn't sent to charge points
 abbrev pub not_implemented : Response
 not_implemented = Error NotImplemented
 
@@ -32,8 +32,8 @@ abbrev pub request_by_reading : List ℕ → Result Action CallFault → Request
 request_by_reading id (Ok action) = Act id action
 request_by_reading id (Err fault) = Respond id (Error fault)
 
--- A charge point is sent an operator's actions; any other isn't implemented, whatever its fields
--- are. This system's own are none that it does.
+-- A charge point receives the actions that an operator sends. Any other isn't implemented, whatever
+-- its fields are. A point implements none of this system's own actions.
 abbrev pub request_of_kind : List ℕ → Option ActionKind → Tree → Request
 request_of_kind id None payload = Respond id not_implemented
 request_of_kind id (Some kind) payload = request_by_reading id (action_of_kind kind payload)
@@ -45,14 +45,14 @@ abbrev pub whole_in : Field ℤ → Option ℤ
 whole_in (Value number) = Some number
 whole_in _ = None
 
--- the transactionId that a StartTransaction.conf brings (OCPP 1.6, chapter 6)
+-- the transactionId in a StartTransaction.conf (OCPP 1.6, chapter 6)
 abbrev pub transaction_in : Tree → Option ℤ
 transaction_in payload = whole_in (whole_field_of (codes "transactionId") payload)
 
 -- ---- messages
 
--- A CALL is answered, a malformed one too if it has an id. A CALLRESULT or a CALLERROR is the reply
--- to a call of the point's own, and a CALLERROR brings no transactionId.
+-- A CALL is answered, even a malformed one if it has an id. A CALLRESULT or a CALLERROR is the
+-- reply to one of the point's own calls, and a CALLERROR brings no transactionId.
 abbrev pub request_of_message : Result Message FrameFault → Request
 request_of_message (Ok (call id name payload)) =
     request_of_kind id (kind_of_sender Operator (action_named name)) payload

@@ -1,5 +1,5 @@
--- The state of a simulated charge point, what a message of the central system comes to, and which
--- call comes next.
+-- The state of a simulated charge point, the effect of a message of the central system, and the
+-- next call.
 use Rattle.std.specs.Prelude.{ℕ, ℤ, ◌+◌, true, false, List, [], ◌∷◌, Option, Some, None, if◌then◌else◌}
 use Rattle.std.specs.Str.{bytes_eq}
 use Rattle.std.specs.Fmt.{decimal}
@@ -22,16 +22,16 @@ use Rattle.sim_point_core.specs.CallText.{call_text}
 pub record SimState : Type 0 where
   -- the unit of its limits
   pub unit : Unit
-  -- what it has: ceilings, profiles and active transactions, each with the meter that it began with
+  -- its ceilings, profiles and active transactions, each with the meter of its start
   pub book : BookState
-  -- the steps that are to come
+  -- the remaining steps
   pub steps : List SimStep
   -- its own call that isn't answered yet, if there is one, with its number
   pub in_flight : Option InFlight
   -- the number of its next call
   pub next_number : ℕ
 
--- a point that has nothing installed, runs no transaction and has called nobody
+-- a point without profiles, transactions and calls
 abbrev pub new_point : Unit → ℕ → List ℕ → List SimStep → SimState
 new_point unit ceiling ceilings steps = record {
   unit = unit;
@@ -43,7 +43,7 @@ new_point unit ceiling ceilings steps = record {
 
 -- ---- a message of the central system
 
--- what is answered, if something is, and the state after it
+-- the answer, if there is one, and the state after it
 pub record Heard : Type 0 where
   pub answer : Option (List ℕ)
   pub after : SimState
@@ -56,7 +56,7 @@ acted old id does =
       after = record old { book = does.book };
     }
 
--- A start that is accepted is the first of the steps to come.
+-- An accepted start becomes the next step.
 abbrev pub heard_start : SimState → List ℕ → Option SimStep → Heard
 heard_start old id None = record { answer = Some (status_answer id false); after = old }
 heard_start old id (Some start) = record {
@@ -69,8 +69,8 @@ heard_action old now id (actions.RemoteStartTransaction request) =
     heard_start old id (start_kept old.unit old.book request)
 heard_action old now id action = acted old id (answered old.unit old.book now action)
 
--- A reply ends the call in flight where its id is that call's number in decimal (OCPP-J 1.6,
--- 4.1.4); any other is ignored.
+-- A reply ends the call in flight if its id is that call's number in decimal (OCPP-J 1.6, 4.1.4).
+-- Any other reply is ignored.
 abbrev pub replied_to : SimState → Option InFlight → List ℕ → Option ℤ → SimState
 replied_to old None id transaction = old
 replied_to old (Some call) id transaction =
@@ -89,13 +89,13 @@ heard_request old now (Act id action) = heard_action old now id action
 heard_request old now (Reply id transaction) =
     record { answer = None; after = replied old id transaction }
 
--- what a message comes to at a moment
+-- the effect of a message at a moment
 abbrev pub heard : SimState → ℕ → List ℕ → Heard
 heard old now text = heard_request old now (request_of text)
 
 -- ---- the point's own calls
 
--- the message of the call that goes out, if one does, and the state after it
+-- the message of the call that is sent, if there is one, and the state after it
 pub record Called : Type 0 where
   pub text : Option (List ℕ)
   pub after : SimState

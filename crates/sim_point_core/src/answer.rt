@@ -1,4 +1,4 @@
-//! What a charge point answers to an action, and what it changes in its book.
+//! A charge point's answers to actions, and the changes in its book.
 
 ghost use Rattle.std.specs.Prelude.{◌≡◌, ◌≤◌, None, Ok, IfOk, OnOk, OnErr, length, string_bytes};
 ghost use Rattle.messages.specs.ResponseText.{response_text};
@@ -14,7 +14,7 @@ use point_book::PointBook;
 use profile::{Criteria, Profile, ProfileParts, Purpose, Row, Unit};
 use std::alloc::{AllocError, Global};
 
-/// Who answers, and when: a point whose limits are in this unit.
+/// The moment of an answer, and the unit of the limits of the point that answers.
 #[derive(Clone, Copy)]
 pub struct Answering {
     pub alloc: Global,
@@ -22,8 +22,8 @@ pub struct Answering {
     pub now: Instant,
 }
 
-/// Does an action, and returns the message that answers the CALL of this id. Where memory runs out,
-/// nothing changes.
+/// Performs an action, and returns the message that answers the CALL of this id. If memory runs
+/// out, nothing changes.
 pub fn answer_action(
     answering: Answering,
     book: &mut OwnBook,
@@ -53,7 +53,7 @@ pub fn answer_action(
     }
 }
 
-/// The row of the profile that these fields make, installed now.
+/// Returns the row of the profile that these fields make, installed now.
 fn row_made(now: Instant, connector: u32, parts: ProfileParts) -> Result<Row, Refusal>
     ensures { result ≡ row_made now connector (profile_of_parts parts) }
 {
@@ -67,7 +67,7 @@ fn row_made(now: Instant, connector: u32, parts: ProfileParts) -> Result<Row, Re
     }
 }
 
-/// Installs a profile (chapter 5.16), or answers why not.
+/// Installs a profile (chapter 5.16), or answers with the refusal.
 fn install(
     answering: Answering,
     book: &mut OwnBook,
@@ -92,7 +92,7 @@ fn install(
     }
 }
 
-/// Why a row isn't installed, if memory lasts.
+/// Returns the refusal of a row, apart from a lack of memory.
 fn row_refusal(unit: Unit, book: &PointBook, row: &Row) -> Option<Refusal>
     ensures refusal { result ≡ row_refusal unit book.now row.now }
     ensures has_connector { result ≡ None → row.now.connector ≤ length book.now.ceilings }
@@ -103,7 +103,7 @@ fn row_refusal(unit: Unit, book: &PointBook, row: &Row) -> Option<Refusal>
     book.install_refusal(row)
 }
 
-/// Why a profile may not stand where it is sent.
+/// Returns why a profile isn't allowed where it is sent.
 fn place_refusal(unit: Unit, book: &PointBook, row: &Row) -> Option<Refusal>
     ensures refusal { result ≡ place_refusal unit book.now row.now }
     ensures has_connector { result ≡ None → row.now.connector ≤ length book.now.ceilings }
@@ -134,12 +134,13 @@ fn clear(
     if !book.book().has_match(criteria) {
         return write_response(alloc, id, &Response::Unknown);
     }
+    // The message comes first, since clearing can't be undone.
     let text = write_response(alloc, id, &Response::Accepted)?;
     book.clear(criteria);
     Ok(text)
 }
 
-/// Composes a schedule of what the point has (chapter 5.7), or says why not.
+/// Composes the schedule of the point's profiles (chapter 5.7), or returns the refusal.
 fn compose(
     answering: Answering,
     book: &PointBook,
@@ -160,7 +161,7 @@ fn compose(
     }
 }
 
-/// What is asked of the point from a moment on, or why that can't be answered.
+/// Returns the request for a schedule from this moment on, or its refusal.
 fn ask_at(
     unit: Unit,
     book: &PointBook,
@@ -188,11 +189,12 @@ fn is_other_unit(asked: Option<Unit>, unit: Unit) -> bool
     }
 }
 
-/// The exact schedule of a request, or that it is too long.
+/// Returns the exact schedule of a request, or that it is too long.
 fn compile(alloc: Global, unit: Unit, book: &PointBook, ask: Ask) -> Result<Response, AllocError>
     requires has_connector { ask.connector ≤ length book.now.ceilings }
     ensures { IfOk result (λ response. response ≡ schedule_of_ask unit book.now (Ok ask)) }
 {
+    // States the law that a compiler's answer is the exact one; it does nothing at run time.
     exact_schedules();
     match compile_plain(alloc, &book.view(), &ask) {
         Ok(schedule) => Ok(Response::Schedule(ScheduleResponse {

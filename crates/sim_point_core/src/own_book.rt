@@ -15,7 +15,7 @@ use std::alloc::{AllocError, Global};
 use std::marker::Model;
 use transactions::{Began, Begin};
 
-/// What a point tells of a transaction that it runs.
+/// The data of an active transaction that its stop needs.
 #[derive(Clone, Copy, PartialEq, Eq)]
 pub struct Running {
     /// transactionId.
@@ -24,7 +24,7 @@ pub struct Running {
     pub meter: i32,
 }
 
-/// The book of a simulated point, which knows the number and the meter of each active transaction.
+/// The book of a simulated point, with the number and the meter of each active transaction.
 #[derive(Drop)]
 pub struct OwnBook {
     book: PointBook,
@@ -32,7 +32,7 @@ pub struct OwnBook {
     running: Vec<Option<Running>>,
 }
 
-// Clauses see the book: the transactions next to it are its own.
+// Clauses see only the book; the transactions beside it are those in it.
 impl Model for OwnBook {
     ghost use Rattle.std.specs.Prelude.{◌≡◌};
     ghost use Rattle.point_book.specs.Book.{BookState};
@@ -46,8 +46,7 @@ impl Model for OwnBook {
 }
 
 impl OwnBook {
-    /// The book of a point with these ceilings, in tenths, and with neither profiles nor
-    /// transactions.
+    /// Makes the book of a point with these ceilings, in tenths, and no profiles or transactions.
     pub fn try_new(alloc: Global, ceiling: u32, ceilings: Vec<u32>) -> Result<OwnBook, AllocError>
         ensures { IfOk result (λ book. book ≡ empty_book ceiling ceilings.items) }
     {
@@ -56,15 +55,15 @@ impl OwnBook {
         Ok(OwnBook { book, running })
     }
 
-    /// The book itself.
+    /// Returns the book itself.
     pub fn book(&self) -> &PointBook
         ensures { result.now ≡ self.now }
     {
         &self.book
     }
 
-    /// The transaction that is active at a connector; connector 0 and one that the point lacks have
-    /// none.
+    /// Returns the active transaction at a connector. Connector 0 and a connector that the point
+    /// lacks have none.
     pub fn running_at(&self, connector: u32) -> Option<Running>
         ensures { result ≡ option_map running_of (active_at self.now.transactions connector) }
     {
@@ -81,16 +80,16 @@ impl OwnBook {
         self.book.install(row)
     }
 
-    /// Removes the profiles that match each criterion that is given (chapter 5.5).
+    /// Removes the profiles that match every given criterion (chapter 5.5).
     pub fn clear(&mut self, criteria: &Criteria)
         ensures { self.new ≡ book_cleared self.old criteria.now }
     {
         let _count = self.book.clear(criteria);
     }
 
-    /// Begins a transaction at a connector (chapter 4.8), and ends the one that is active there. It
-    /// may have a profile, as [`PointBook::start`] says. A retransmitted start changes nothing.
-    /// Only a profile wants memory: without it nothing changes, and both come back.
+    /// Begins a transaction at a connector (chapter 4.8), and ends the active one there. It may
+    /// have a profile, as [`PointBook::start`] says. A retransmitted start changes nothing. Only a
+    /// profile needs memory. If that fails, nothing changes, and both are returned.
     pub fn start(
         &mut self,
         connector: u32,
@@ -105,7 +104,7 @@ impl OwnBook {
         ensures begin_back { IfErr result (λ refused. refused.0 ≡ begin) }
         ensures profile_back { IfErr result (λ refused. refused.1 ≡ profile) }
     {
-        // The book has a slot for each connector.
+        // The view shows that the book has a slot for each connector.
         let _view = self.book.view();
         let running = running_of(id, &begin);
         match self.book.start(connector, begin, id, profile) {
@@ -118,7 +117,7 @@ impl OwnBook {
         }
     }
 
-    /// Ends the transaction of this number (chapter 4.10); where no active one has it, nothing
+    /// Ends the transaction of this number (chapter 4.10). If no active one has it, nothing
     /// changes. Allocates nothing.
     pub fn stop(&mut self, id: i32)
         ensures { self.new ≡ book_stopped self.old id }

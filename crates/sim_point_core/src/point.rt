@@ -21,8 +21,8 @@ use profile::Unit;
 use std::alloc::{AllocError, Global};
 use std::marker::Model;
 
-/// A simulated charge point: its book, the steps that it has still to do, and the call of its own
-/// that isn't answered yet.
+/// A simulated charge point: its book, its remaining steps, and its own call that isn't answered
+/// yet.
 #[derive(Drop)]
 pub struct SimPoint {
     alloc: Global,
@@ -31,7 +31,7 @@ pub struct SimPoint {
     unit: Unit,
     book: OwnBook,
     steps: Vec<SimStep>,
-    /// How many steps are behind.
+    /// The number of steps that are done.
     place: usize,
     in_flight: Option<InFlight>,
     /// The number of its next call.
@@ -57,9 +57,9 @@ impl Model for SimPoint {
 }
 
 impl SimPoint {
-    /// A point with limits in this unit, a ceiling and the ceilings of its connectors 1, 2, .., in
-    /// tenths. It has neither profiles nor transactions, and these steps to do. More connectors
-    /// than fit a `u32` are answered as out of memory.
+    /// Makes a point with limits in this unit, a ceiling and the ceilings of its connectors 1, 2,
+    /// .., in tenths. It has these steps to do, and no profiles or transactions. More connectors
+    /// than fit a `u32` give the error of a failed allocation.
     pub fn try_new(
         alloc: Global,
         unit: Unit,
@@ -83,8 +83,8 @@ impl SimPoint {
         })
     }
 
-    /// Adds a step behind those that are still to come. Out of memory nothing changes, and the step
-    /// comes back.
+    /// Adds a step after the remaining ones. If memory runs out, nothing changes, and the step is
+    /// returned.
     pub fn add_step(&mut self, step: SimStep) -> Result<(), (AllocError, SimStep)>
         ensures added { OnOk result
             (self.new ≡ record self.old { steps = self.old.steps ++ step ∷ [] }) }
@@ -97,12 +97,11 @@ impl SimPoint {
         }
     }
 
-    /// Takes a message of the central system that comes at a moment (OCPP-J 1.6, 4.2), and returns
-    /// the answer to it, if it has one. A CALL is answered from the point's own book, which a
-    /// SetChargingProfile or a ClearChargingProfile changes. A RemoteStartTransaction that is
-    /// accepted becomes the first of the steps to come. A reply to the point's call in flight ends
-    /// that call, and with it a transaction begins or ends. The refusal is `OutOfMemory`, and then
-    /// nothing changes.
+    /// Takes a message that the central system sends at a moment (OCPP-J 1.6, 4.2). Returns the
+    /// answer, if it has one. A CALL is answered from the point's own book, which a
+    /// SetChargingProfile or a ClearChargingProfile changes. An accepted RemoteStartTransaction
+    /// becomes the next step. A reply to the point's call in flight ends that call, and may begin
+    /// or end a transaction. The refusal is `OutOfMemory`, and then nothing changes.
     pub fn on_text(&mut self, now: Instant, text: &str) -> Result<Option<String>, Refusal>
         ensures heard { IfOk result (λ answer. heard self.old now text.now
             ≡ record { answer = option_map string_bytes answer; after = self.new }) }
@@ -113,7 +112,7 @@ impl SimPoint {
         Ok(self.on_request(now, request)?)
     }
 
-    /// Does what a message asks, and returns the answer to it, if it has one.
+    /// Performs the request of a message, and returns the answer, if it has one.
     fn on_request(&mut self, now: Instant, request: Request) -> Result<Option<String>, AllocError>
         ensures heard { IfOk result (λ answer. heard_request self.old now request
             ≡ record { answer = option_map string_bytes answer; after = self.new }) }
@@ -132,7 +131,7 @@ impl SimPoint {
         }
     }
 
-    /// Does an action, and returns the message that answers the CALL of this id.
+    /// Performs an action, and returns the message that answers the CALL of this id.
     fn on_action(
         &mut self,
         now: Instant,
@@ -156,8 +155,8 @@ impl SimPoint {
         }
     }
 
-    /// Keeps a start that is asked for as the first of the steps to come, or rejects it (chapter
-    /// 5.11). Returns the message that answers the CALL of this id.
+    /// Keeps a remote start as the next step, or rejects it (chapter 5.11). Returns the message
+    /// that answers the CALL of this id.
     fn on_remote_start(
         &mut self,
         id: &str,
@@ -170,7 +169,7 @@ impl SimPoint {
     {
         match start_kept(self.unit, self.book.book(), request) {
             Some(step) => {
-                // The message first: once the start is kept, nothing can fail.
+                // The message comes first: once the start is kept, nothing can fail.
                 let text = write_status(self.alloc, id, true)?;
                 self.put_first(step)?;
                 Ok(text)
@@ -179,7 +178,7 @@ impl SimPoint {
         }
     }
 
-    /// Puts a step in front of those to come.
+    /// Inserts a step before the remaining ones.
     #[tactic(auto, using(crate::proofs::StepLemmas::drop_insert))]
     fn put_first(&mut self, step: SimStep) -> Result<(), AllocError>
         ensures put { OnOk result (self.new ≡ record self.old { steps = step ∷ self.old.steps }) }
@@ -196,6 +195,7 @@ impl SimPoint {
         ensures replied { OnOk result (self.new ≡ replied self.old id.now transaction) }
         ensures unchanged { OnErr result (self.new ≡ self.old) }
     {
+        // Taken out, since a start's idTag and profile move into the book.
         match self.in_flight.take() {
             Some(in_flight) if is_id_of(in_flight.number, id) => {
                 let number = in_flight.number;
@@ -217,15 +217,16 @@ impl SimPoint {
         }
     }
 
-    /// The message of the next call that the steps make, which is then in flight. `None` if a call
-    /// is in flight, or no step is left that makes one. Its id is its number in decimal, and `now`
-    /// its timestamp. The refusal is `OutOfMemory`, and then nothing changes.
+    /// Returns the message of the next call that the steps make, which is then in flight. `None` if
+    /// a call is in flight, or no remaining step makes one. Its id is its number in decimal, and
+    /// `now` its timestamp. The refusal is `OutOfMemory`, and then nothing changes.
     pub fn next_call(&mut self, now: Instant) -> Result<Option<String>, Refusal>
         ensures called { IfOk result (λ text. called self.old now
             ≡ record { text = option_map string_bytes text; after = self.new }) }
         ensures refusal { IfErr result (λ refusal. refusal ≡ Refusal.OutOfMemory) }
         ensures unchanged { OnErr result (self.new ≡ self.old) }
     {
+        // OCPP-J allows each side one unanswered CALL (OCPP-J 1.6, 4.1.1).
         if self.in_flight.is_some() {
             return Ok(None);
         }
@@ -236,13 +237,14 @@ impl SimPoint {
         };
         let number = self.next_number;
         let text = write_call(self.alloc, number, &call)?;
+        // The state changes only now: a failed allocation above leaves it as it was.
         self.place += count;
         self.in_flight = Some(InFlight { number, call });
         self.next_number = number + 1;
         Ok(Some(text))
     }
 
-    /// Whether a call of the point's own isn't answered yet.
+    /// Returns whether one of the point's own calls isn't answered yet.
     pub fn is_waiting(&self) -> bool
         ensures { IsTrue result ↔ IsSome self.now.in_flight }
     {
@@ -250,7 +252,7 @@ impl SimPoint {
     }
 }
 
-/// Whether an id is a call's number in decimal, to the letter.
+/// Returns whether an id is exactly a call's number in decimal.
 fn is_id_of(number: u64, id: &str) -> bool
     ensures { result ≡ bytes_eq id.now (decimal number) }
 {

@@ -1,4 +1,4 @@
-//! The calls that a charge point makes by its steps.
+//! The calls that a charge point makes in its steps.
 
 ghost use Rattle.std.specs.Prelude.{◌≡◌, IfErr, IfOk, IfSome, OnErr, OnOk, option_map};
 ghost use Rattle.transactions.specs.ActiveTable.{active_at};
@@ -18,7 +18,7 @@ use transactions::Begin;
 pub enum PointCall {
     /// Heartbeat (chapter 4.6).
     Heartbeat,
-    /// StartTransaction (chapter 4.8), with the profile that the transaction is to begin with.
+    /// StartTransaction (chapter 4.8), with the profile with which the transaction begins.
     StartTransaction {
         connector: u32,
         begin: Begin,
@@ -40,8 +40,8 @@ pub struct InFlight {
     pub call: PointCall,
 }
 
-/// The first call that steps make at a moment, and how many steps there are up to its own; those
-/// before it are passed over.
+/// Finds the first call that the steps make at a moment. Returns it with the number of steps up to
+/// its own; those before it are skipped.
 pub fn first_call(
     alloc: Global,
     book: &OwnBook,
@@ -60,7 +60,7 @@ pub fn first_call(
     Ok(None)
 }
 
-/// The call that a step makes at a moment, if it makes one.
+/// Returns the call that a step makes at a moment, if it makes one.
 fn call_of(
     alloc: Global,
     book: &OwnBook,
@@ -85,6 +85,7 @@ fn call_of(
             tag,
             profile,
         } => {
+            // RemoteStartTransaction.req has no meter value.
             let begin = begin_of(alloc, tag, 0, now)?;
             let profile = Profile::copy_if_any(profile)?;
             Ok(start_of(book, *connector, begin, profile))
@@ -93,7 +94,7 @@ fn call_of(
     }
 }
 
-/// The start of a transaction with a profile, if the point has its connector.
+/// Returns the start of a transaction with a profile, if the point has its connector.
 fn start_of(
     book: &OwnBook,
     connector: u32,
@@ -113,7 +114,7 @@ fn start_of(
     })
 }
 
-/// Whether a point has a connector at which transactions begin.
+/// Returns whether a point has a connector at which transactions begin.
 pub(crate) fn has_connector(book: &PointBook, connector: u32) -> bool
     ensures { result ≡ has_connector book.now connector }
 {
@@ -131,7 +132,7 @@ fn begin_of(alloc: Global, tag: &IdTag, meter: i32, now: Instant) -> Result<Begi
     })
 }
 
-/// The stop of the transaction that is active at a connector, if one is.
+/// Returns the stop of the active transaction at a connector, if there is one.
 fn stop_of(book: &OwnBook, connector: u32, now: Instant) -> Option<PointCall>
     ensures { result ≡ option_map (stop_of now) (active_at book.now.transactions connector) }
 {
@@ -145,8 +146,9 @@ fn stop_of(book: &OwnBook, connector: u32, now: Instant) -> Option<PointCall>
     }
 }
 
-/// What the reply to a call changes in the point's book, with the transactionId that it brings.
-/// Only a start with a profile wants memory: without it nothing changes, and the call comes back.
+/// Makes the change of the reply to a call in the point's book, given the transactionId in the
+/// reply. Only a start with a profile needs memory. If that fails, nothing changes, and the call is
+/// returned.
 pub fn reply_to(
     book: &mut OwnBook,
     call: PointCall,
@@ -176,6 +178,7 @@ pub fn reply_to(
                 }),
             }
         }
+        // Any reply ends the transaction: a central system can't prevent a stop (OCPP 1.6, 4.10).
         PointCall::StopTransaction { transaction, .. } => {
             book.stop(transaction);
             Ok(())

@@ -12,7 +12,7 @@ use ocppj_frame::{push_call_head, push_frame_end, push_string};
 use std::alloc::{AllocError, Global};
 use transactions::Begin;
 
-/// The text of a call, whose message id is its number in decimal.
+/// Writes the text of a call, whose message id is its number in decimal.
 pub fn write_call(alloc: Global, number: u64, call: &PointCall) -> Result<String, AllocError>
     ensures { IfOk result (λ text. string_bytes text ≡ call_text number call.now) }
 {
@@ -93,7 +93,7 @@ fn push_stop(
     Ok(())
 }
 
-/// Appends a whole number, which comes by reference: so callers know that it keeps its sign.
+/// Appends a whole number. It is passed by reference, so that callers know that it keeps its sign.
 fn push_signed(out: &mut String, number: &i32) -> Result<(), AllocError>
     ensures { Appends result (string_bytes out.old) (string_bytes out.new)
         (signed_decimal number.now) }

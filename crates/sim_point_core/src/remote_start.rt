@@ -1,5 +1,4 @@
-//! A start that the central system asks for (chapter 5.11): whether a charge point keeps it, and
-//! what it answers.
+//! Remote starts (chapter 5.11): whether a charge point accepts one, and its answer.
 
 ghost use Rattle.std.specs.Prelude.{◌≡◌, IfOk, string_bytes};
 ghost use Rattle.profile.specs.Parts.{profile_of_parts};
@@ -13,8 +12,8 @@ use point_book::PointBook;
 use profile::{Profile, ProfileParts, Purpose, Unit};
 use std::alloc::{AllocError, Global};
 
-/// The step that a start becomes, at a point whose limits are in this unit. `None` if the point
-/// rejects it.
+/// Returns the step that a remote start becomes, at a point whose limits are in this unit. `None`
+/// if the point rejects it.
 pub fn start_kept(unit: Unit, book: &PointBook, request: RemoteStartTransaction) -> Option<SimStep>
     ensures { result ≡ start_kept unit book.now request }
 {
@@ -36,14 +35,14 @@ pub fn start_kept(unit: Unit, book: &PointBook, request: RemoteStartTransaction)
     }
 }
 
-/// Whether a point has a connector, and no transaction is active there.
+/// Returns whether a point has this connector, and no transaction is active there.
 fn may_start(book: &PointBook, connector: u32) -> bool
     ensures { result ≡ may_start book.now connector }
 {
     has_connector(book, connector) && book.transaction_at(connector).is_none()
 }
 
-/// The profile of a start, if it has one. `None` if it has one that the point can't keep.
+/// Returns the profile of a start, if it has one. `None` if it has one that the point can't keep.
 fn profile_kept(unit: Unit, parts: Option<ProfileParts>) -> Option<Option<Profile>>
     ensures { result ≡ profile_kept unit parts }
 {
@@ -62,14 +61,15 @@ fn profile_kept(unit: Unit, parts: Option<ProfileParts>) -> Option<Option<Profil
     }
 }
 
-/// Whether a profile is for a transaction, and has limits in this unit.
+/// Returns whether a profile is for a transaction, and has limits in this unit.
 fn fits(unit: Unit, profile: &Profile) -> bool
     ensures { result ≡ fits unit profile.now }
 {
+    // OCPP requires a TxProfile here; that all limits have one unit is this system's choice.
     matches!(profile.purpose, Purpose::TxProfile) && profile.schedule.unit.is_same(unit)
 }
 
-/// The message that answers the CALL of this id: Accepted or Rejected, with no other field.
+/// Writes the message that answers the CALL of this id: Accepted or Rejected, with no other field.
 #[tactic(auto, unfolding(messages::specs::ObjectText::fields_text, messages::specs::ObjectText::object_text))]
 pub fn write_status(alloc: Global, id: &str, is_accepted: bool) -> Result<String, AllocError>
     ensures { IfOk result (λ text. string_bytes text ≡ status_answer id.now is_accepted) }

@@ -1,4 +1,4 @@
-//! What a message of the central system asks of a charge point.
+//! The requests in the central system's messages to a charge point.
 
 ghost use Rattle.std.specs.Prelude.{◌≡◌, Ok, IfOk};
 ghost use Rattle.ocppj_frame.specs.Frame.{message_in};
@@ -13,15 +13,15 @@ use ocppj_frame::{
 };
 use std::alloc::{AllocError, Global};
 
-/// The answer to a CALL of an action that isn't known, or that a charge point isn't sent.
+/// The answer to a CALL of an unknown action, or of one that isn't sent to charge points.
 pub(crate) const NOT_IMPLEMENTED: Response = Response::Error(CallFault::NotImplemented);
 
-/// What a message asks of a charge point.
+/// The request of a message to a charge point.
 #[derive(Drop)]
 pub enum Request {
     /// The message isn't answered, and changes nothing.
     Nothing,
-    /// The CALL of this id has this answer, whatever the point has.
+    /// The CALL of this id has this answer, whatever the point's state is.
     Respond {
         id: MessageId,
         response: Response,
@@ -31,15 +31,14 @@ pub enum Request {
         id: MessageId,
         action: Action,
     },
-    /// The message is a reply to a call of the point's own of this id, with the transactionId that
-    /// it brings.
+    /// The message is a reply to the point's own call of this id, with the transactionId in it.
     Reply {
         id: MessageId,
         transaction: Option<i32>,
     },
 }
 
-/// What a message asks. The message is read into `memory`.
+/// Returns the request of a message, which is read into `memory`.
 #[tactic(auto, unfolding(crate::specs::Request::request_of))]
 pub fn request_of(
     alloc: Global,
@@ -59,7 +58,8 @@ pub fn request_of(
     }
 }
 
-/// What a message asks: a CALL is answered, and a reply may end a call of the point's own.
+/// Returns the request of a message: a CALL is answered, and a reply may end one of the point's own
+/// calls.
 fn request_of_message(alloc: Global, frame: Frame<'_>) -> Result<Request, AllocError>
     ensures { IfOk result
         (λ request. request ≡ request_of_message (Ok (message_in frame.entry))) }
@@ -70,7 +70,7 @@ fn request_of_message(alloc: Global, frame: Frame<'_>) -> Result<Request, AllocE
             action,
             payload,
         } => {
-            // A charge point is sent an operator's actions.
+            // A charge point receives the actions that an operator sends.
             let Some(kind) = ActionKind::of_sender(Side::Operator, action.as_str()) else {
                 return Ok(Request::Respond {
                     id,
@@ -91,7 +91,7 @@ fn request_of_message(alloc: Global, frame: Frame<'_>) -> Result<Request, AllocE
     }
 }
 
-/// The transactionId that a reply brings.
+/// Returns the transactionId of a reply, if it has one.
 fn transaction_in(payload: Node<'_, '_>) -> Option<i32>
     ensures { result ≡ transaction_in (tree_at payload.entry) }
 {
@@ -107,7 +107,8 @@ fn whole_in(field: Field<i32>) -> Option<i32>
     }
 }
 
-/// What the CALL of this id asks for: its action, or else the answer that names its first fault.
+/// Returns the request of the CALL of this id: its action, or the answer that names its first
+/// fault.
 fn request_by_fields(
     alloc: Global,
     id: MessageId,

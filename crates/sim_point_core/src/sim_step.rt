@@ -1,28 +1,28 @@
-//! What a simulated charge point does of its own accord.
+//! The actions that a simulated charge point takes on its own.
 use ocpp_scalars::IdTag;
 use profile::Profile;
 
-/// A step of a simulated charge point, which makes one call of it.
+/// A step of a simulated charge point, which makes one of its calls.
 #[derive(Drop)]
 pub enum SimStep {
     /// A Heartbeat (chapter 4.6).
     Heartbeat,
-    /// A StartTransaction (chapter 4.8) of this idTag, with meterStart in watt-hours. It is passed
-    /// over at connector 0 and at one that the point lacks.
+    /// A StartTransaction (chapter 4.8) of this idTag, with meterStart in watt-hours. It is skipped
+    /// at connector 0 and at a connector that the point lacks.
     Start {
         connector: u32,
         tag: IdTag,
         meter: i32,
     },
-    /// A StartTransaction that the central system asked for (chapter 5.11), with meterStart 0. Its
-    /// transaction begins with this profile. It is passed over as a start is.
+    /// A StartTransaction that the central system requested (chapter 5.11), with meterStart 0. Its
+    /// transaction begins with this profile. It is skipped in the same cases as a start.
     RemoteStart {
         connector: u32,
         tag: IdTag,
         profile: Option<Profile>,
     },
-    /// A StopTransaction (chapter 4.10) of the transaction that is active at the connector, with
-    /// the meter of its start as meterStop. It is passed over where none is active.
+    /// A StopTransaction (chapter 4.10) of the active transaction at the connector, with the meter
+    /// of its start as meterStop. It is skipped if none is active.
     Stop {
         connector: u32,
     },

@@ -1,4 +1,4 @@
--- What a step makes of the audit of a point: that it keeps its book, and that its verdict is right.
+-- The effect of a step on the audit of a point: it keeps its book, and its verdict is right.
 use Rattle.std.proofs.Common.{◌≡◌, ℕ, ℤ, ◌+◌, ◌==◌, ◌&&◌, ◌⊎◌, Bool, true, false, not, cond, List, [], ◌∷◌, ◌++◌, Option, Some, None, is_some, option_map, Result, Ok, Err, length, refl, sym, ap, ◌∙◌, subst, inl, inr}
 use Rattle.std.proofs.lemmas.Bool.{eqb-true}
 use Rattle.std.proofs.lemmas.Option.{same_Some}
@@ -63,7 +63,7 @@ record IsBegun (site : SiteState) (point : ChargePointState) (step : Step) (repl
   numbered : audit.number ≡ point.outbox.next
   in_unit : audit.asked.unit ≡ site.unit
 
--- of a step, where the point had an audit before, has one after, and one may have been begun
+-- the audit after a step: the one before, or one that the step began
 record AuditStays (before : Option AuditState) (step : Step) (Begun : AuditState → Type 0)
     (after : Option AuditState) : Type 0 where
   right : BringsRight step → IfSome before IsAuditRight → IfSome after IsAuditRight
@@ -206,7 +206,7 @@ audit_stays site id connector duration point =
       in_unit = refl;
     }
 
--- a kept verdict is right where the brought one is
+-- a kept verdict is right if the brought one is
 settled_right : (is_settled : Bool) (asked : AuditRequest) (verdict : Verdict) (short : Bool)
     → IsJudged asked verdict short → IsRightVerdict asked (settled is_settled verdict)
 settled_right true asked verdict short is = inl (short, is)
@@ -215,7 +215,7 @@ settled_right false asked verdicts.Differs short is = inr refl
 settled_right false asked verdicts.Rejected short is = inl (short, is)
 settled_right false asked verdicts.Unsettled short is = inr refl
 
--- what has no verdict yet is the point's audit
+-- the audit without a verdict is the point's audit
 unjudged_is : (number : ℕ) (audit : Option AuditState) (found : AuditState)
     → unjudged number audit ≡ Some found → audit ≡ Some found
 unjudged_is number None found is = absurd (cc is)
@@ -331,7 +331,7 @@ StaysAt place old step made =
     AuditStays (audit_at old place) step (BegunAt place old step made)
     (audit_at made.after place)
 
--- where the step is made there
+-- if the step is made there
 record IsStaying (old : MachineState) (point : List ℕ) (step : Step) (made : Made) : Type 0 where
   place : ℕ
   here : place_of old.site point ≡ Some place
@@ -471,7 +471,7 @@ pub verdicts_stay_right : VerdictsStayRight
 verdicts_stay_right old events new is legal brings right =
     right_along old events new (as_many old.site old.points is.points) legal brings right
 
--- what was begun in later events was begun in all of them
+-- an audit begun in later events was begun in all of them
 begun_later : (old middle : MachineState) (event : Event) (events : List Event) (place : ℕ)
     (audit : AuditState) → middle.site ≡ old.site → Steps old event.step event.reply middle
     → IsBegunIn middle events place audit → IsBegunIn old (event ∷ events) place audit
@@ -488,7 +488,7 @@ begun_later old middle event events place audit site made begun = record {
   in_unit = begun.in_unit ∙ ap (λ (s : SiteState). s.unit) site;
 }
 
--- where the first event began it
+-- if the first event began it
 begun_here : (old middle : MachineState) (event : Event) (events : List Event) (place : ℕ)
     (audit : AuditState)
     → BegunAt place old event.step (record { reply = event.reply; after = middle }) audit

@@ -1,4 +1,4 @@
--- What comes to the outbox of a point along a history, and what is sent to it; its profiles; the
+-- The traffic of a point's outbox along a history, and the calls sent to the point; its profiles; the
 -- moments of its calls.
 use Rattle.std.proofs.Common.{◌≡◌, ℕ, zero, suc, ◌==◌, Bool, true, false, cond, List, [], ◌∷◌, ◌++◌, length, map, filter_map, flat_map, slice_index_or, slice_get, ◌+◌, is_some, Option, Some, None, refl, sym, ap, ap₂, ◌∙◌, subst, arith, append_assoc, length-append, ◌≤◌, ◌-◌, inl}
 use Rattle.std.proofs.lemmas.List.{length-map, map-append}
@@ -53,7 +53,7 @@ numbers_along old (event ∷ later) =
     ∙ ap₂ (λ (one other : List ℕ). one ++ other) (numbers_at old event) (numbers_along
     (after old event) later)
 
--- what holds of each call that waits or is added holds of each that is sent
+-- a property of each call that waits or is added holds of each that is sent
 each_along : (P : Call → Type 0) (traffic : List Traffic) (link : Option ℕ) (calls : List Call)
     (next : ℕ) (is_in_flight : Bool)
     → AllByRecursion P (calls ++ numbered next (bodies_added traffic))
@@ -96,7 +96,7 @@ at_seam : (before : List Call) (call : Call) (later : List Call)
 at_seam [] call later = refl
 at_seam (first ∷ before) call later = at_seam before call later
 
--- each of the numbered calls stands at its number
+-- each numbered call is at the index of its number
 each_at_its_number : (bodies : List CallBody) (number : ℕ) (before : List Call)
     → length before ≡ number
     → AllByRecursion (IsOneOf (before ++ numbered number bodies)) (numbered number bodies)
@@ -160,9 +160,9 @@ bodies_added-cons (Some (Add body)) later = refl
 bodies_added-cons (Some Send) later = refl
 bodies_added-cons (Some (Confirm number)) later = refl
 
--- ---- what is done at a point
+-- ---- deeds at a point
 
--- the calls that are added are those of what is done
+-- the calls that are added are those of the deeds
 calls_are_added : (deeds : List Deed)
     → filter_map call_of deeds ≡ bodies_added (filter_map traffic_of deeds)
 calls_are_added [] = refl
@@ -195,7 +195,7 @@ rows_after_all-cons (Some deed) later rows = refl
 
 -- ---- a point along its own events
 
--- what comes to its outbox
+-- the traffic of its outbox
 abbrev traffic_along : ChargePointState → List Event → List Traffic
 traffic_along point events = filter_map traffic_of (deeds_from point events)
 
@@ -229,7 +229,7 @@ rows_along point (event ∷ later) =
     ∙ ap (rows_after_all (deeds_from next later)) (rows_with (deed_by point event) point)
     ∙ sym (rows_after_all-cons (deed_by point event) (deeds_from next later) point.book.rows)
 
--- that it is sent the calls of its events' replies, and that those are confirmed
+-- the calls of its events' replies are sent to it, and those of its Confirm events are confirmed
 abbrev IsSent : ChargePointState → List Event → Type 0
 IsSent point events =
     flat_map calls_by_event events ≡ calls_along point.outbox (traffic_along point events)
@@ -269,8 +269,8 @@ confirmed_more point event later first rest =
 
 -- ---- along a history
 
--- the point at a place is what its own events make of it, and it is sent and confirms the calls of
--- their replies
+-- a point's own events lead from its old state to its new one, and it is sent and confirms the calls
+-- of their replies
 record Follows (place : ℕ) (old : MachineState) (history : List Event)
     (new : MachineState) : Type 0 where
   site : new.site ≡ old.site
@@ -293,7 +293,7 @@ follows_more place old middle event later new site act there =
     events : List Event
     events = events_at old.site place later
 
-    -- of whatever is so of a point along its own events
+    -- for any property of a point along its own events
     along : (P : ChargePointState → List Event → Type 0) → (was : ChargePointState)
         → point_at middle place ≡ was → P (point_at middle place) events → P was events
     along P was here holds = subst (λ (p : ChargePointState). P p events) here holds
@@ -511,7 +511,7 @@ rows_follow site numbers history state legal point place here =
     ∙ ap (λ (rows : List Row). rows_after_all (deeds_of site place history) rows)
     (no_rows_of_each site.points place)
 
--- what is done by more events is more
+-- the deeds of joined events are the joined deeds
 deeds_more : (point : ChargePointState) (one other : List Event)
     → (more : List Deed) × (deeds_from point (one ++ other) ≡ deeds_from point one ++ more)
 deeds_more point [] other = (deeds_from point other, refl)
@@ -527,13 +527,13 @@ deeds_more point (event ∷ one) other =
     by None all so_far more is = is
     by (Some deed) all so_far more is = ap (λ (ds : List Deed). deed ∷ ds) is
 
--- what holds of each of a list and another behind it holds of each of the first
+-- a property of all items of joined lists holds of all items of the first
 all_of_first : (P : Deed → Type 0) (one more : List Deed) → AllByRecursion P (one ++ more)
     → AllByRecursion P one
 all_of_first P [] more all = tt
 all_of_first P (deed ∷ one) more all = (all.0, all_of_first P one more all.1)
 
--- after as many calls as what is done first makes, the lasting rows are those after it
+-- after as many calls as the first deeds make, the lasting rows are those after these deeds
 rows_at_call : (one more : List Deed) (rows : List Row) (number : ℕ)
     → AllByRecursion BeginsAlone one → number ≡ length (filter_map call_of one)
     → lasting (rows_after_call number (one ++ more) rows) ≡ lasting (rows_after_all one rows)
@@ -636,7 +636,7 @@ obeying_stay_in_step site numbers history state legal point place here are_obeye
 abbrev added_along : ChargePointState → List Event → List CallBody
 added_along point events = bodies_added (traffic_along point events)
 
--- how many calls are added by what is done, which is one at most
+-- the number of calls that a deed adds: at most one
 abbrev count_of : Option Deed → ℕ
 count_of does = length (cons_option (call_in (traffic_with does)) [])
 

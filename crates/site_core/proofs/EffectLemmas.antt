@@ -1,4 +1,4 @@
--- What the steps of a point come to, step by step, agrees with what the laws say of their events.
+-- The results of the steps of a point, step by step, agree with the laws' view of their events.
 use Rattle.std.proofs.Common.{◌≡◌, ℕ, ℤ, ◌+◌, ◌≤◌, ◌<◌, ◌==◌, ◌&&◌, Bool, true, false, cond, List, [], ◌∷◌, take, length, slice_set, slice_index_or, Option, Some, None, is_some, option_map, Result, Ok, Err, refl, sym, ap, ◌∙◌, subst, add-zero, arith}
 use Rattle.std.proofs.lemmas.Bool.{eqb-true, eqb-false}
 use Rattle.std.proofs.lemmas.List.{get_or-set_same, get_or-set_other}
@@ -35,14 +35,14 @@ use Rattle.site_core.specs.Step.{Work, AtPoint, work, unless, facts, deed, drawn
 use Rattle.site_core.specs.History.{reply_takes, asks_answer_of}
 use Rattle.site_core.specs.CallOrder.{calls_by, confirmed_by, numbers_of_calls}
 
--- ---- what holds of whatever comes of a step
+-- ---- properties of any result of a step
 
 pub unless_holds : {X : Type 0} (P : X → Type 0) (refusal : Option Refusal) (x : X) → P x
     → IfOk (unless refusal x) P
 unless_holds P None x h = h
 unless_holds P (Some refusal) x h = tt
 
--- where nothing refuses it
+-- if nothing refuses it
 pub unless_none : {X : Type 0} (P : X → Type 0) (refusal : Option Refusal) (x : X)
     → (refusal ≡ None → P x) → IfOk (unless refusal x) P
 unless_none P None x h = h refl
@@ -93,7 +93,7 @@ call_draws numbers point none =
 
 -- ---- the point at a place
 
--- what is read after the item of a place was changed
+-- the item at a place after that of some place was changed
 pub changed_in : {X : Type 0} (xs : List X) (there place : ℕ) (new d : X)
     → there < length xs
     → slice_index_or (slice_set xs there new) place d
@@ -124,14 +124,14 @@ abbrev pub confirmed_by_traffic : OutboxState → Option Traffic → List Call
 confirmed_by_traffic old None = []
 confirmed_by_traffic old (Some traffic) = confirmed_at old traffic
 
--- what a step brings to an outbox that does something there, or nothing
+-- the traffic of a deed, or none
 abbrev pub traffic_with : Option Deed → Option Traffic
 traffic_with None = None
 traffic_with (Some deed) = traffic_of deed
 
 -- ---- step by step
 
--- what a step at a point replies, and what it does there, is what the laws say of its event
+-- the reply to a step at a point, and its deed there, agree with the laws' view of its event
 pub record Agrees (numbers : Numbers) (point : ChargePointState) (step : Step) (reply : Reply)
     : Type 0 where
   pub calls : calls_by step reply

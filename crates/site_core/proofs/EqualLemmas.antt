@@ -1,4 +1,4 @@
--- That books which are equal field by field are one.
+-- Books that are equal field by field are the same.
 use Rattle.std.specs.Prelude.{IsTrue}
 use Rattle.std.proofs.Common.{◌≡◌, ◌↔◌, ℕ, ℤ, ◌==◌, ◌&&◌, nat_le, Bool, true, false, List, [], ◌∷◌, Option, Some, None, refl, sym, ap, ◌∙◌, subst}
 use Rattle.std.proofs.lemmas.Bool.{eqb-true, eq-eqb}
@@ -34,7 +34,7 @@ use Rattle.site_core.specs.Equal.{same_list, same_number, same_purpose, same_rec
 
 -- ---- both ways
 
--- what a test says of two, and of one
+-- the test holds only of the same value twice, and of each value with itself
 record Tells {X : Type 0} (same : X → X → Bool) : Type 0 where
   one : (x y : X) → same x y ≡ true → x ≡ y
   itself : (x : X) → same x x ≡ true
@@ -410,7 +410,7 @@ equal_transactions_are_one = both_ways same_transactions slots
 
 -- ---- tests
 
--- a test that tells whether two are equal is the one that compares their fields
+-- a test that decides whether two values are equal is the comparison of their fields
 tested : {X : Type 0} (same : X → X → Bool) → AreOne same → (one other : X) (b : Bool)
     → IsTrue b ↔ (one ≡ other) → b ≡ same one other
 tested {X} same are one other b tells = by b (same one other) refl tells

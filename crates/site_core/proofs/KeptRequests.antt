@@ -1,4 +1,4 @@
--- How the kept requests change: none is lost, none is answered twice, and answers stay.
+-- The changes of the kept requests: none is lost, none is answered twice, and answers stay.
 use Rattle.std.proofs.Common.{◌≡◌, ℕ, zero, ◌+◌, ◌<◌, ◌≤◌, ◌==◌, ◌&&◌, Bool, true, false, cond, List, [], ◌∷◌, ◌++◌, append_assoc, append-nil, add-zero, Option, Some, Err, is_some, unwrap_or, zero-le, refl, sym, ap, ◌∙◌, subst, inl, inr, arith}
 use Rattle.std.specs.Prelude.{◌⊎◌}
 use Rattle.std.specs.List.{AllByRecursion, Contains}
@@ -17,9 +17,9 @@ use Rattle.site_core.proofs.StepLemmas.{handing, Does, does, leaves, takes_one, 
 use Rattle.site_core.specs.Theory.Requests.{found_number}
 use Rattle.site_core.proofs.TakenRequests.{Holds, holds_step, holds_at_base, none_right, event_of, all_answered, all_without}
 
--- ---- how many are kept of a number
+-- ---- the number of kept requests with a given number
 
--- 1 where a test holds
+-- 1 if a test holds
 abbrev one_if : Bool → ℕ
 one_if test = cond test 1 0
 
@@ -61,7 +61,7 @@ kept_stopped number (first ∷ requests) =
     ∙ (ap (λ (n : ℕ). one_if (first.number == number) + n) (kept_stopped number requests)
     ∙ sym (kept_cons number first requests))
 
--- one less is kept of the number that was found
+-- one request less has the number that was found
 kept_without : (number found : ℕ) (kept : Kept) (requests : List Kept)
     → request_of found requests ≡ Some kept
     → kept_of number (without found requests) + one_if (found == number) ≡ kept_of number requests
@@ -93,7 +93,7 @@ and_true : (test : Bool) → (test && true) ≡ test
 and_true true = refl
 and_true false = refl
 
--- a step keeps one more where it is a Take, and one less where it hands out an answer
+-- a step keeps one more request if it is a Take, and one less if it hands out an answer
 balances : (number : ℕ) (old : MachineState) (step : Step) (made : Made) → Does old step made
     → kept_of number made.after.requests + one_if (is_answer_of number
     (event_of step made)) ≡ kept_of number old.requests + one_if (is_take_of number
@@ -200,7 +200,7 @@ counts opening events new none legal =
           λ number. ap (λ (requests : List Kept). 0 + kept_of number requests) (sym none);
     }) legal
 
--- from any state what is taken and was kept is answered or kept
+-- from any state, each request that was kept or taken is answered or still kept
 balances_along : (old : MachineState) (events : List Event) (new : MachineState)
     → Legal old events new → (number : ℕ)
     → takes_of number events + kept_of number old.requests
@@ -228,7 +228,7 @@ requests_balance old events new legal number = balances_along old events new leg
 unwrapped : {A : Type 0} {a b : A} → Some a ≡ Some b → a ≡ b
 unwrapped is = cc
 
--- the request of a number among requests that one more follows
+-- the request of a number, after one more request was added
 found_push : (number : ℕ) (requests : List Kept) (kept other : Kept)
     → request_of number requests ≡ Some kept → request_of number
     (requests ++ other ∷ []) ≡ Some kept
@@ -243,7 +243,7 @@ found_push number (first ∷ requests) kept other is = go (first.number == numbe
     go true is rest = is
     go false is rest = rest is
 
--- that of another number than the one that is answered, or handed out
+-- the request of another number than the answered or handed out one
 found_answered : (number compiled : ℕ) (answer : ScheduleAnswer) (requests : List Kept)
     → (compiled == number) ≡ false → request_of number
     (answered compiled answer requests) ≡ request_of number requests

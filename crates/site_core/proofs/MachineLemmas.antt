@@ -1,4 +1,4 @@
--- What is so of the machine after a change, and what it makes of a step.
+-- The machine's invariant after a change, and its result of a step.
 use Rattle.std.proofs.Common.{◌≡◌, ℕ, ◌<◌, ◌≤◌, Bool, true, false, cond, get_or, List, slice_set, Option, Some, None, Result, Ok, Err, length, refl, sym, ap, ◌∙◌, subst}
 use Rattle.std.specs.Prelude.{IfOk, IfSome}
 use Rattle.std.proofs.lemmas.List.{get_or_default, set-get_or}
@@ -51,7 +51,7 @@ with_point old place new numbers = record old {
   numbers = numbers;
 }
 
--- what is done at a place, or nothing, as one change of the state
+-- a deed at a place, or none, as one change of the state
 done_there : (old : MachineState) (place : ℕ) (reply : Reply) (does : Option Deed)
     → (does ≡ None → drawn reply old.numbers ≡ old.numbers)
     → done_at old place reply does ≡ record {
@@ -98,7 +98,7 @@ place_there old step point via found n is =
     ap (λ (p : List ℕ). place_for old p n.at.via) n.point_is
     ∙ ap (place_for old point) n.via_is ∙ is
 
--- what is decided at its place, and done
+-- the step decided at its place, and done
 abbrev decided_there : MachineState → Step → PointStep → ℕ → Result Made Refusal
 decided_there old step at place =
     at.decided old.site old.numbers (point_at old place)
@@ -128,7 +128,7 @@ pub connectors_stay : (does : Option Deed) (was : ChargePointState)
 connectors_stay None was = refl
 connectors_stay (Some deed) was = refl
 
--- that it is made so, and what is so of the state then
+-- it is made so, with the facts about the state after it
 pub record IsMadeThere (old : MachineState) (step : Step) (place : ℕ) (reply : Reply)
     (new : ChargePointState) : Type 0 where
   pub made : stepped no_answer old step ≡ Ok (record {
@@ -194,7 +194,7 @@ made_here old step point via place reply new fits for found says = record {
         ∙ ap (λ (r : Result Reply Refusal). r >>= (λ q. Ok (made_at old step place q))) so.0
         ∙ ap Ok after
 
--- why it isn't
+-- the reason why it isn't made
 pub refused_here : (old : MachineState) (step : Step) (point : List ℕ) (via : Via)
     (place : ℕ) (refusal : Refusal) (new : ChargePointState)
     → IsFor (work step) point via → place_for old point via ≡ Ok place
@@ -225,9 +225,9 @@ refused_here old step point via place refusal new for found says = (
       is.1,
     )
 
--- ---- the same of what a method knows
+-- ---- the same from the facts that a method knows
 
--- what a method knows of a step at the place of its point
+-- the facts that a method knows of a step at the place of its point
 pub record KnowsPlace (old : MachineState) (step : Step) (site : SiteState) (point : List ℕ)
     (via : Via) (place : ℕ) (was : ChargePointState) : Type 0 where
   pub machine : IsMachine old
@@ -237,7 +237,7 @@ pub record KnowsPlace (old : MachineState) (step : Step) (site : SiteState) (poi
   pub read : was ≡ get_or old.points place was
   pub site_is : site ≡ old.site
 
--- it knows it of the state that it was lent
+-- the method knows them of the state that it borrows
 pub knows_place : (old now : MachineState) (step : Step) (site : SiteState) (point : List ℕ)
     (via : Via) (place : ℕ) (was : ChargePointState) → old ≡ now → IsMachine old
     → IsFor (work step) point via → Ok place ≡ place_for now point via
@@ -320,7 +320,7 @@ refused_so old step site point via place was refusal new knows says =
       machine = subst IsMachine (sym same) knows.machine;
     }
 
--- where it has no place, it is refused as that says
+-- if it has no place, the refusal is that of the look-up
 pub refused_nowhere : (old : MachineState) (step : Step) (point : List ℕ) (via : Via)
     (refusal : Refusal) → IsFor (work step) point via → place_for old point via ≡ Err refusal
     → stepped no_answer old step ≡ Err refusal
@@ -330,7 +330,7 @@ refused_nowhere old step point via refusal for found =
     ∙ ap (λ (p : Result ℕ Refusal). p >>= decided_there old step n.at)
     (place_there old step point via (Err refusal) n found)
 
--- what a decision says of the whole state
+-- a decision at the point, for the whole state
 pub decided_here : (old : MachineState) (step : Step) (point : List ℕ) (via : Via)
     (place : ℕ) (result : Result Decision Refusal)
     → IsFor (work step) point via → place_for old point via ≡ Ok place
@@ -368,7 +368,7 @@ decided_here old step point via place result for found says =
 
 -- ---- requests
 
--- Compile, by what it does to the requests
+-- Compile, by its effect on the requests
 pub compiles_made : (old : MachineState) (number : ℕ) (requests : List Kept)
     → IsCompiledIn number old.requests requests
     → Compiles old number Compiled (record old { requests = requests })
@@ -380,7 +380,7 @@ compiles_made old number requests is = record {
   made = rw (is.is_kept, is.had_none, is.now) refl;
 }
 
--- it is the request's own answer that is posted, and so a right one
+-- the posted answer is the request's own, and so it is right
 pub posts_made : (old : MachineState) (number : ℕ) (brought : CompiledAnswer) (requests : List Kept)
     → IsPostedIn number brought old.requests requests
     → Posts old number brought (record old { requests = requests })
@@ -392,7 +392,7 @@ posts_made old number brought requests is = record {
   made = rw (is.is_kept, is.had_none, is.now) refl;
 }
 
--- what is posted is compiled
+-- a posted request is compiled
 pub posts_compile : (old : MachineState) (number : ℕ) (brought : CompiledAnswer)
     (new : MachineState) → Posts old number brought new → Compiles old number Compiled new
 posts_compile old number brought new posts = record {

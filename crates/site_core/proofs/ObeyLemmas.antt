@@ -1,4 +1,4 @@
--- That an obeying point stays in step: a call acts on the lasting rows alone, and again it does
+-- An obeying point stays in step: a call acts on the lasting rows alone, and a second time it changes
 -- nothing.
 use Rattle.std.proofs.Common.{◌≡◌, ℕ, ◌+◌, zero, suc, Bool, true, false, not, ◌||◌, ◌&&◌, ◌==◌, ◌⊎◌, inl, inr, refl, sym, ◌∙◌, ap, subst, List, [], ◌∷◌, ◌++◌, filter, map, Option, None, Some, is_some, slice_get, cond, append-nil, arith}
 use Rattle.std.specs.List.{AllByRecursion, filter_map, cons_option}
@@ -99,7 +99,7 @@ lasting_filter test same (row ∷ rows) = go (test row) refl (lasts row) refl
         ap lasting (filter_gone test row rows fails) ∙ rest
         ∙ ap (filter test) (sym (lasting_gone row rows goes))
 
--- one that all lasting rows pass leaves them
+-- a test that all lasting rows pass leaves them
 lasting_within : (test : Row → Bool) → ((row : Row) → lasts row ≡ true → test row ≡ true)
     → (rows : List Row)
     → lasting (filter test rows) ≡ lasting rows
@@ -149,11 +149,11 @@ stays_beside new row = not (is_replaced_by new row)
 abbrev fails_some : Criteria → Row → Bool
 fails_some criteria row = not (matches criteria row)
 
--- what a call sets, but for the moment
+-- the row that a call sets, except for its moment
 abbrev row_of : ℕ → Profile → Row
 row_of connector profile = record { connector = connector; moment = 0; profile = profile }
 
--- no call, or one that is about something else, leaves them
+-- the lasting rows after a call; without a call, or after one of another action, they stay
 abbrev on_lasting : Option CallBody → List Row → List Row
 on_lasting (Some (Set connector profile)) rows =
     filter (stays_beside (row_of connector profile)) rows ++ lasting (row_of connector profile ∷ [])
@@ -181,7 +181,7 @@ lasting_obeyed moment (Some (Set connector profile)) rows =
 lasting_obeyed moment (Some (Clear criteria)) rows = lasting_cleared rows criteria
 lasting_obeyed moment call rows = refl
 
--- what an install adds it would also replace
+-- an install would replace the row that it adds
 replaces_itself : (row : Row) → filter (stays_beside row) (lasting (row ∷ [])) ≡ []
 replaces_itself row = go (lasts row) refl
   where
@@ -199,7 +199,7 @@ replaces_itself row = go (lasts row) refl
         ∙ filter_gone (stays_beside row) (at_moment 0 row) [] replaced
     go false is = ap (filter (stays_beside row)) (lasting_gone row [] is)
 
--- a call that comes again does nothing
+-- a call that comes a second time changes nothing
 on_lasting_again : (call : Option CallBody) (rows : List Row)
     → on_lasting call (on_lasting call rows) ≡ on_lasting call rows
 on_lasting_again (Some (Set connector profile)) rows =
@@ -215,7 +215,7 @@ on_lasting_again call rows = refl
 
 -- ---- the central system
 
--- what makes no call leaves the lasting rows, where no transaction begins with a profile
+-- a deed without a call leaves the lasting rows, if no transaction begins with a profile
 pub lasting_without_call : (deed : Deed) (rows : List Row) → BeginsAlone deed
     → is_some (call_of deed) ≡ false → lasting (rows_after rows deed) ≡ lasting rows
 lasting_without_call (Installs row) rows alone none = absurd (cc none)
@@ -227,7 +227,7 @@ lasting_without_call (Stops connector) rows alone none = lasting_end rows connec
 -- each other deed leaves all rows
 lasting_without_call deed rows alone none = refl
 
--- what makes a call does with them as the call says
+-- a deed with a call changes the lasting rows as its call does
 lasting_with_call : (deed : Deed) (rows : List Row) → is_some (call_of deed) ≡ true
     → lasting (rows_after rows deed) ≡ on_lasting (call_of deed) (lasting rows)
 lasting_with_call (Installs row) rows some = lasting_installed rows row
@@ -237,7 +237,7 @@ lasting_with_call (Stops connector) rows some = absurd (cc some)
 -- each other deed leaves all rows, and so does its call, if there is one
 lasting_with_call deed rows some = refl
 
--- after its next call the central system has what that call makes of the lasting rows
+-- up to its next call the central system changes the lasting rows as that call does
 next_call : (deeds : List Deed) (before : ℕ) (rows : List Row) → AllByRecursion BeginsAlone deeds
     → lasting (rows_after_call (suc before) deeds rows)
     ≡ on_lasting (slice_get (filter_map call_of deeds) before) (lasting
@@ -287,7 +287,7 @@ next_call (deed ∷ later) before rows alone =
 
 -- ---- the point
 
--- what call 0 leaves
+-- call 0 leaves no lasting rows
 cleared_all : (rows : List Row) → lasting (cleared rows every_profile) ≡ []
 cleared_all rows = ap lasting (filter_none rows)
 

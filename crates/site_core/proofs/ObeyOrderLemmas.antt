@@ -1,5 +1,5 @@
--- That a point obeys calls in sending order: a list in sending order keeps it where only such
--- numbers go of which another sending stays.
+-- A point obeys calls in sending order: a list stays in sending order if each number that is removed
+-- has another sending that stays.
 use Rattle.std.proofs.Common.{◌≡◌, ℕ, ◌+◌, ◌<◌, ◌≤◌, ◌==◌, zero, suc, Bool, true, false, cond, ◌⊎◌, inl, inr, refl, sym, ◌∙◌, ap, subst, List, [], ◌∷◌, ◌++◌, length, slice_index_or, Option, None, Some, arith}
 use Rattle.std.specs.List.{AllByRecursion}
 use Rattle.messages.specs.declared.call.Call.{Call}
@@ -21,7 +21,7 @@ has [] number place below at = absurd (omega arith)
 has (first ∷ later) number zero below at = inl at
 has (first ∷ later) number (suc place) below at = inr (has later number place (omega arith) at)
 
--- some of the numbers is above this one
+-- one of the numbers is above this one
 abbrev IsPassed : ℕ → List ℕ → Type 0
 IsPassed number [] = ⊥
 IsPassed number (first ∷ later) = (number < first) ⊎ IsPassed number later
@@ -142,7 +142,7 @@ abbrev HasCall : List Call → ℕ → Type 0
 HasCall [] number = ⊥
 HasCall (call ∷ later) number = (call.number ≡ number) ⊎ HasCall later number
 
--- what is passed by a later sending is confirmed
+-- a call passed by the sending of a later one is confirmed
 passed_confirmed : (traffic : List Traffic) (link : Option ℕ) (calls : List Call) (next : ℕ)
     (is_in_flight : Bool) (first number : ℕ)
     → AreFrom first calls next → first ≤ number

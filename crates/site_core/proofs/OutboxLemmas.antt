@@ -52,7 +52,7 @@ numbered_join next bodies (body ∷ []) one drawn =
 numbered_join next bodies [] one drawn = cc
 numbered_join next bodies (body ∷ (other ∷ later)) one drawn = absurd (omega arith)
 
--- what the bodies of an outbox show is an outbox
+-- the state that an outbox's bodies show satisfies the invariant
 pub outbox_is : (link : Option ℕ) (bodies : List CallBody) (next : ℕ) (is_in_flight : Bool)
     → length bodies ≤ next → next ≤ max_number + 1 → length bodies ≤ max_calls
     → (is_in_flight ≡ true → IsSome link × (0 < length bodies))
@@ -102,7 +102,7 @@ sendable_is (Some link) [] next number is_in_flight body linked waits at none is
     absurd (omega arith)
 sendable_is None bodies next number is_in_flight body linked waits at some is = cc
 
--- a call that waits is to be sent over the link, where there is one
+-- a call that waits can be sent over the link, if there is one
 pub sends_over_link : (outbox : OutboxState) → outbox.is_in_flight ≡ false → 0 < length outbox.calls
     → outbox.link ≡ sending_link outbox
 sends_over_link outbox waits some = by outbox.link outbox.is_in_flight outbox.calls waits some
@@ -141,7 +141,7 @@ number_in_flight outbox number is flies = by outbox.calls is.numbers (is.in_flig
         ap (λ (b : Bool). b && nat_eq call.number number) flies
         ∙ ap (λ (n : ℕ). nat_eq n number) first
 
--- the call of a number waits where the number is one of theirs
+-- the call of a number is unconfirmed exactly if the number is at least the first and below the next
 pub waits_by_number : (outbox : OutboxState) (number : ℕ) → IsOutbox outbox
     → is_unconfirmed outbox.calls number
     ≡ (nat_le (outbox.next - length outbox.calls) number && nat_lt number outbox.next)

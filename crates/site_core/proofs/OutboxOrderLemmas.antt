@@ -1,4 +1,4 @@
--- That calls are sent in order and confirmed in order, along any traffic.
+-- Calls are sent and confirmed in order, along any traffic.
 use Rattle.std.proofs.Common.{◌≡◌, ℕ, suc, ◌+◌, ◌==◌, Bool, true, false, cond, ◌⊎◌, inl, inr, refl, sym, ◌∙◌, ap, List, [], ◌∷◌, ◌++◌, length, Option, None, Some, append-nil, append_assoc, add-zero, subst, arith}
 use Rattle.messages.specs.declared.call.Call.{Call}
 use Rattle.messages.specs.declared.call.CallBody.{CallBody}
@@ -96,7 +96,7 @@ sent_in_order traffic = begins traffic None _ 1 (refl, refl)
 abbrev AreFromAfter : ℕ → OutboxState → List Traffic → Type 0
 AreFromAfter first old traffic = AreFrom first (after_all old traffic).calls (after_all old traffic).next
 
--- whatever comes to it, they have, from as much later on as were confirmed
+-- after any traffic they have, and begin later by the number of confirmed calls
 pub numbered_along : (traffic : List Traffic) (link : Option ℕ) (calls : List Call) (next : ℕ)
     (is_in_flight : Bool) (first : ℕ) → AreFrom first calls next
     → AreFromAfter (first + length (calls_confirmed (outbox link calls next is_in_flight) traffic))

@@ -1,4 +1,4 @@
--- The points of a site, by what is kept of each.
+-- The points of a site, by the state that is kept of each.
 use Rattle.std.proofs.Common.{◌≡◌, ℕ, ◌+◌, ◌<◌, ◌≤◌, List, [], ◌∷◌, length, map, Option, Some, slice_get, get_or, slice_set, option_map, option_and_then, take, ◌++◌, length-append, refl, sym, ap, ◌∙◌, arith}
 use Rattle.std.proofs.lemmas.List.{length-map, map_more}
 use Rattle.std.proofs.lemmas.Option.{slice_get-map, slice_get-get_or, slice_get_within, get_or_from_slice_get}
@@ -34,7 +34,7 @@ opening_points_fit [] = refl
 opening_points_fit (point ∷ points) = ap (λ (l : List ℕ). length point.ceilings ∷ l)
     (opening_points_fit points)
 
--- what is made of one point more, where each is made of its entry
+-- one more item, if each is made from its point's entry
 pub one_more : {X : Type 0} (f : PointEntry → X) (points : List PointEntry) (items new : List X)
     (n : ℕ) (point : PointEntry) → items ≡ map f (take (length items) points)
     → n ≡ length items → Some point ≡ slice_get points n → new ≡ items ++ f point ∷ []

@@ -1,4 +1,4 @@
--- What is kept of the points after a history is determined by its events.
+-- The events of a history determine the points after it.
 use Rattle.std.proofs.Common.{◌≡◌, List, [], ◌∷◌, refl, sym, ap, ◌∙◌}
 use Rattle.std.proofs.lemmas.List.{set-get_or}
 use Rattle.site_core.specs.declared.step.Step.{Step}
@@ -9,7 +9,7 @@ use Rattle.site_core.specs.History.{Event, Legal}
 use Rattle.site_core.specs.CallOrder.{place_named}
 use Rattle.site_core.proofs.StepLemmas.{Does, does, leaves, takes_one, compiles_one, hands_one, finishes_all, points_by, keeps_site}
 
--- an event says what it makes of the points
+-- an event determines the points after it
 points_are : (old : MachineState) (step : Step) (made : Made) → Does old step made
     → made.after.points ≡ points_by old.points (place_named old.site step) step made.reply
 points_are old step made (leaves _ _ is) = is.points

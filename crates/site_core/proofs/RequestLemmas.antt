@@ -32,7 +32,7 @@ pub none_of : (number : ℕ) (requests : List Kept) → None ≡ position (has_n
 none_of number requests none =
     none_from number 0 requests (sym (position_from-zero (has_number number) requests) ∙ sym none)
 
--- what the words of the requests are where the first of a number is at a place
+-- the functions on requests, if the first request of a number is at a place
 pub record IsFirst (number : ℕ) (requests : List Kept) (place : ℕ) (kept : Kept) : Type 0 where
   pub is_kept : request_of number requests ≡ Some kept
   pub answers : (answer : ScheduleAnswer) → answered number answer requests ≡ slice_set requests
@@ -90,7 +90,7 @@ compiled_in number requests place kept answer found read none right =
       now = sym (first.answers answer);
     }
 
--- it is answered by what was brought for it
+-- it is answered by the answer brought for it
 pub posted_in : (number : ℕ) (requests : List Kept) (place : ℕ) (kept : Kept)
     (brought : CompiledAnswer) (answer : ScheduleAnswer)
     → Some place ≡ position (has_number number) requests

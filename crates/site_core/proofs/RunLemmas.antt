@@ -1,4 +1,4 @@
--- A run with one step more.
+-- A run with one more step.
 use Rattle.std.proofs.Common.{List, [], ◌∷◌, ◌++◌, refl, subst}
 use Rattle.site_core.specs.declared.step.Step.{Step}
 use Rattle.site_core.specs.declared.outcome.Outcome.{Outcome}

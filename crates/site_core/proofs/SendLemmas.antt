@@ -1,4 +1,4 @@
--- Where a call is to be sent, and what a Send does where none is.
+-- The link over which a call can be sent, and the effect of a Send if there is none.
 use Rattle.std.proofs.Common.{◌≡◌, ℕ, ◌==◌, Bool, true, false, cond, List, Option, Some, None, is_some, Ok, Err, refl, ap}
 use Rattle.std.specs.Prelude.{IfOk}
 use Rattle.ocpp_scalars.specs.ResultSteps.{◌>>=◌}
@@ -17,7 +17,7 @@ over_present : (call : Option Call) (present : Option ℕ) (link : ℕ)
 over_present None present link h = absurd (cc h)
 over_present (Some call) present link h = h
 
--- the link over which a call is to be sent is the present one
+-- the link over which a call can be sent is the present one
 pub link_to_send_present : (state : MachineState) (point : List ℕ) (link : ℕ)
     → link_to_send state point ≡ Some link → link_of state point ≡ Some link
 link_to_send_present state point link h = by state.is_stopped (place_of state.site point) h
@@ -29,11 +29,11 @@ link_to_send_present state point link h = by state.is_stopped (place_of state.si
     by false (Some place) h = over_present (sendable (outbox_at state place))
         (outbox_at state place).link link h
 
--- it is unchanged, and there is nothing to send
+-- the state is unchanged, and the reply is Nothing
 abbrev IsNothing : MachineState → Made → Type 0
 IsNothing state made = made ≡ unchanged state Nothing
 
--- what a Send makes at a place
+-- the result of a Send at a place
 abbrev sending : MachineState → List ℕ → ℕ → ℕ → Made
 sending state point link place = made_at state (steps.Send point link) place
     (sends_call (sendable (outbox_at state place)))
@@ -53,7 +53,7 @@ nothing_over state point link place (Some present) None has h = by (present == l
         (sends_call c)) has
     by false = tt
 
--- where there is none, whatever link a Send is over
+-- without such a call, a Send over any link sends nothing
 pub sends_nothing : (state : MachineState) (point : List ℕ) (link : ℕ)
     → link_to_send state point ≡ None → SendsNothing state point link
 sends_nothing state point link h = by state.is_stopped (place_of state.site point) h

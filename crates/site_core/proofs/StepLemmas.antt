@@ -1,5 +1,5 @@
--- What the steps that are made do at the point that they name, and what they leave of the site, of
--- the kept requests and of their numbers.
+-- The effect of made steps at the point that they name, and their effect on the site, the kept
+-- requests and the numbers.
 use Rattle.std.proofs.Common.{◌≡◌, ℕ, ◌+◌, ◌<◌, ◌==◌, Bool, true, false, not, cond, List, [], Option, Some, None, Result, Ok, Err, slice_set, slice_index_or, length, is_some, refl, sym, ap, ◌∙◌, subst, inl, inr, ◌&&◌, add-zero}
 use Rattle.std.proofs.lemmas.Bool.{eqb-true}
 use Rattle.std.proofs.lemmas.List.{length-set, set-get_or}
@@ -33,20 +33,20 @@ use Rattle.site_core.specs.Theory.Steps.{StepKind, names_point, kind_of}
 use Rattle.site_core.specs.Theory.Steps as kinds
 use Rattle.site_core.proofs.EffectLemmas.{Agrees, WorkAgrees, agrees, changed_in, sent_by_traffic, confirmed_by_traffic, traffic_with, unless_holds, either_holds}
 
--- ---- what holds of whatever is made
+-- ---- properties of any result
 
--- what holds of each step after another, up to the first fault
+-- a property of two results one after the other, up to the first fault
 pub then_holds : {X Y : Type 0} (P : Y → Type 0) (one : Result X Refusal) (next : X → Result Y Refusal)
     → ((x : X) → one ≡ Ok x → IfOk (next x) P) → IfOk (one >>= next) P
 then_holds P (Ok x) next each = each x refl
 then_holds P (Err refusal) next each = tt
 
--- what holds of whatever is made holds of what was made
+-- a property of any result that isn't a refusal holds of the one that was made
 pub of_made : (P : Made → Type 0) (result : Result Made Refusal) (made : Made) → result ≡ Ok made
     → IfOk result P → P made
 of_made P result made is holds = subst (λ (r : Result Made Refusal). IfOk r P) is holds
 
--- a place that is found is that of the point, and the central system isn't stopped
+-- a found place is that of the point, and the central system isn't stopped
 pub record IsFound (old : MachineState) (point : List ℕ) (place : ℕ) : Type 0 where
   pub going : old.is_stopped ≡ false
   pub here : place_of old.site point ≡ Some place
@@ -73,7 +73,7 @@ found old point via = by old.is_stopped refl (place_of old.site point) refl via
 
 -- ---- steps at a point
 
--- A step is made at the place of a point: it comes to what the laws say of its event.
+-- A step is made at the place of a point: its result agrees with the laws' view of its event.
 record IsAtPoint (old : MachineState) (point : List ℕ) (step : Step) (made : Made) : Type 0 where
   place : ℕ
   here : place_of old.site point ≡ Some place
@@ -97,17 +97,17 @@ made_at_point old step at agree =
           (agree old.site old.numbers (point_at old place));
     }))
 
--- ---- what a step leaves, and what it does to the point at a place
+-- ---- the unchanged parts, and the effect of a step on the point at a place
 
 -- as many points as in the site file
 abbrev pub HasPlaces : MachineState → Type 0
 HasPlaces state = length state.points ≡ length state.site.points
 
--- what comes to the outbox of the point at a place by a step with its reply
+-- the traffic of the outbox of the point at a place, by a step with its reply
 abbrev pub traffic_there : MachineState → ℕ → Step → Reply → Option Traffic
 traffic_there old place step reply = traffic_with (deed (point_at old place) step reply)
 
--- the point at a place is what the event makes of it where that names it, and else as it was
+-- the point at a place changes by the event if that names it, and otherwise stays
 pub record Acts (place : ℕ) (old : MachineState) (step : Step) (made : Made) : Type 0 where
   pub many : length made.after.points ≡ length old.points
   pub point : point_at made.after place
@@ -155,7 +155,7 @@ either_way : {X : Type 0} (b : Bool) (x : X) → x ≡ cond b x x
 either_way true x = refl
 either_way false x = refl
 
--- where points stay as they are, and the step does nothing at a point
+-- if points stay as they are, and the step does nothing at a point
 pub idle : (place : ℕ) (old : MachineState) (step : Step) (made : Made)
     → made.after.points ≡ old.points
     → deed (point_at old place) step made.reply ≡ None
@@ -173,7 +173,7 @@ idle place old step made same none sent confirmed = record {
       (outbox_at old place) (traffic_with d))) none ∙ sym confirmed;
 }
 
--- what a step does at its point, if anything, and what stays
+-- the points after a deed at a place, or without one
 abbrev pub after_deed : MachineState → ℕ → Reply → Option Deed → List ChargePointState
 after_deed old place reply does = (done_at old place reply does).after.points
 
@@ -430,7 +430,7 @@ answers_is old number = asked (request_of number old.requests) refl
 
 -- ---- all steps
 
--- what a step that is made does to the requests
+-- the effect of a made step on the requests
 pub data Does (old : MachineState) : Step → Made → Type 0 where
   leaves : (step : Step) (made : Made) → LeavesRequests old step made → Does old step made
   takes_one : (take : Take) (place : ℕ) (ask : Ask) → place_of old.site take.point ≡ Some place
@@ -547,7 +547,7 @@ does old step reply new made = by step (kind_of step) made
 
 -- ---- the points
 
--- what every step does to the point at a place
+-- the effect of every step on the point at a place
 pub acts : (place : ℕ) (old : MachineState) (step : Step) (made : Made) → HasPlaces old
     → Does old step made → Acts place old step made
 acts place old step made many (leaves _ _ is) = is.acts place many
@@ -568,7 +568,7 @@ keeps_site old step made (compiles_one number kept answer found unanswered right
 keeps_site old step made (hands_one number kept answer found has) = refl
 keeps_site old step made (finishes_all going) = refl
 
--- ---- what is no event
+-- ---- answers without an event
 
 -- a step that is answered without an event leaves the state as it was
 pub no_event_no_change : (old : MachineState) (step : Step) (made : Made) → Does old step made

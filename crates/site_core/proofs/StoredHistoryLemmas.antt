@@ -1,4 +1,4 @@
--- That legal histories are the replays of stored ones.
+-- Legal histories are the replays of stored ones.
 use Rattle.std.proofs.Common.{◌≡◌, List, [], ◌∷◌, ◌++◌, Option, None, Some, Result, Ok, Err, refl, sym, ap, ◌∙◌, subst}
 use Rattle.std.specs.Prelude.{IfOk}
 use Rattle.ocpp_scalars.specs.declared.refusal.Refusal.{Refusal}
@@ -22,7 +22,7 @@ replay_of events after = record { events = events; after = after }
 
 -- ---- one event
 
--- what an event comes to is its step, where its answer may be given
+-- the result of a stored event is that of its step, if its answer may be given
 steps_of : (old : MachineState) (stored : StoredEvent) (made : Made) → made_of old stored ≡ Ok made
     → MayBeGiven old stored → Steps old stored.step made.reply made.after
 steps_of old stored made is given = by stored.step (compile_or_other stored.step) refl is
@@ -75,7 +75,7 @@ stored_of old step reply new is = by step (compile_or_other step) is
 
 -- ---- histories
 
--- what is replayed is of one event, and then the others
+-- the replay of one event, and then of the others
 abbrev with_event : Step → Reply → Replay → Replay
 with_event step reply rest =
     replay_of (event_of step reply ∷ rest.events) rest.after
@@ -83,7 +83,7 @@ with_event step reply rest =
 abbrev and_then : Step → Reply → Result Replay Refusal → Result Replay Refusal
 and_then step reply rest = rest >>= (λ (r : Replay). Ok (with_event step reply r))
 
--- what a replay is of: its first event, and the replay of the others
+-- a replay splits into its first event and the replay of the others
 record IsOneAndRest (old : MachineState) (stored : StoredEvent) (later : List StoredEvent)
     (replay : Replay) : Type 0 where
   made : Made
@@ -168,7 +168,7 @@ histories_can_be_stored old (event ∷ later) new legal =
       },
     )
 
--- one event more
+-- one more event
 replays_push : (old : MachineState) (stored : List StoredEvent) (replay : Replay)
     (last : StoredEvent) (made : Made) → replayed old stored ≡ Ok replay → AllMayBeGiven old stored
     → made_of replay.after last ≡ Ok made → MayBeGiven replay.after last

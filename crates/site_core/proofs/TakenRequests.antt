@@ -1,4 +1,4 @@
--- What every kept request comes from: one Take of its number, with its book and its `Ask`.
+-- Every kept request comes from one Take of its number, with its book and its `Ask`.
 use Rattle.std.proofs.Common.{◌≡◌, ℕ, zero, ◌+◌, ◌<◌, ◌≤◌, ◌==◌, Bool, true, false, cond, List, [], ◌∷◌, ◌++◌, take, append_assoc, append-nil, Option, Some, None, Result, Ok, Err, unwrap_or, refl, sym, ap, ◌∙◌, subst, arith}
 use Rattle.std.proofs.Common.{inl, inr}
 use Rattle.std.specs.Prelude.{IfOk, IfSome, ◌⊎◌}
@@ -31,7 +31,7 @@ use Rattle.site_core.proofs.StepLemmas.{LeavesRequests, IsHanding, compiling, ha
 
 -- ---- the one Take of a number
 
--- one event more, which is no Take of it
+-- one more event, which isn't a Take of it
 abbrev was_taken : (opening : MachineState) (events : List Event) (event : Event) (number : ℕ)
     (book : BookState)
     (ask : Ask) → is_take_of number event ≡ false
@@ -69,7 +69,7 @@ was_kept opening events event number book ask other before = record {
   never = takes_push number events event other ∙ before.never;
 }
 
--- ---- where a request comes from
+-- ---- the origin of a request
 
 -- the events since then
 abbrev since_of : (opening : MachineState) (events : List Event) (number : ℕ) (book : BookState)
@@ -78,7 +78,7 @@ abbrev since_of : (opening : MachineState) (events : List Event) (number : ℕ) 
 since_of opening events number book ask (inl taken) = taken.since
 since_of opening events number book ask (inr before) = events
 
--- when it may be answered Stopped
+-- the condition under which it may be answered Stopped
 abbrev pub MayBeStopped : (opening : MachineState) (events : List Event) (number : ℕ) (book : BookState)
     (ask : Ask) → Origin opening events number book ask → Type 0
 MayBeStopped opening events number book ask (inl taken) = Contains taken.since finish_event
@@ -215,7 +215,7 @@ all_finished : (P : Kept → Type 0) (requests : List Kept) → ((kept : Kept) �
 all_finished P [] each all = tt
 all_finished P (first ∷ requests) each all = (each first all.0, all_finished P requests each all.1)
 
--- what a compiler may answer is right
+-- an answer that a compiler may give is right
 right_of : (book : BookState) (ask : Ask) (answer : ScheduleAnswer) → IsCompiledFor book ask answer
     → IsRight book ask answer
 right_of book ask (Ok schedule) compiled = compiled
@@ -227,7 +227,7 @@ right_when_stopped : (book : BookState) (ask : Ask) (answer : Option ScheduleAns
 right_when_stopped book ask None right = tt
 right_when_stopped book ask (Some answer) right = right
 
--- ---- what always holds of a history and the state that it leads to
+-- ---- the invariant of a history and the state that it leads to
 
 pub record Holds (opening : MachineState) (events : List Event)
     (state : MachineState) : Type 0 where
@@ -275,13 +275,13 @@ none_right opening none = subst (AllByRecursion (IsKeptRight opening)) (sym none
 abbrev pub event_of : Step → Made → Event
 event_of step made = record { step = step; reply = made.reply }
 
--- it holds after one event more, where that is a step
+-- the invariant holds after one more event, if that is a step
 abbrev HoldsAfter : MachineState → List Event → Step → Made → Type 0
 HoldsAfter opening events step made =
     Legal opening (events ++ event_of step made ∷ []) made.after
     → Holds opening (events ++ event_of step made ∷ []) made.after
 
--- after a step that is no Take, where what holds of the kept requests holds of those after it
+-- the invariant holds after a step that isn't a Take, if the kept requests stay right
 holds_changed : (opening : MachineState) (events : List Event) (old : MachineState) (step : Step)
     (made : Made) → Holds opening events old
     → made.after.site ≡ old.site → made.after.numbers.request ≡ old.numbers.request
@@ -316,7 +316,7 @@ holds_left opening events old step made holds is =
     (events ++ event_of step made ∷ []) (event_of step made) old.numbers.request) requests)
     (sym is.requests))
 
--- what a compiler answers is never Stopped
+-- a compiler's answer is never Stopped
 never_stopped : (book : BookState) (ask : Ask) (answer : ScheduleAnswer)
     → IsCompiledFor book ask answer → Some answer ≡ Some (Err Stopped) → ⊥
 never_stopped book ask answer compiled is = let stopped : answer ≡ Err Stopped =
@@ -464,7 +464,7 @@ holds_after opening events old (event ∷ later) new holds legal =
 
 -- ---- the headline
 
--- an answer that is handed out after a legal history is right, by where its request comes from
+-- an answer that is handed out after a legal history is right, by the origin of its request
 answer_right : (opening : MachineState) (events : List Event) (number : ℕ) (book : BookState) (ask : Ask)
     (answer : ScheduleAnswer) (origin : Origin opening events number book ask)
     → IsRight book ask answer
@@ -524,7 +524,7 @@ handed_out_right opening events middle number book ask answer next holds made =
         (subst (IsRightEither opening events is.kept.number is.kept.book is.kept.ask) answers
         right)))
 
--- where nothing was kept before, it was taken
+-- if nothing was kept before, it was taken
 after_alone : (opening : MachineState) (events : List Event) (number : ℕ) (book : BookState) (ask : Ask)
     (answer : ScheduleAnswer) → opening.requests ≡ []
     → IsRightEither opening events number book ask answer
@@ -594,7 +594,7 @@ requests_have_their_books old events new right legal =
     have_their_books old events new.numbers.request new.requests
     (holds_after old [] old events new (holds_at_base old right) legal).kept
 
--- what is right in one state is right in a later one
+-- requests that are right in one state are right in a later one
 right_later : (old new : MachineState) (requests : List Kept)
     → old.numbers.request ≤ new.numbers.request → (old.is_stopped ≡ true → new.is_stopped ≡ true)
     → AllByRecursion (IsKeptRight old) requests → AllByRecursion (IsKeptRight new) requests

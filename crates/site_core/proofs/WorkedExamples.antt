@@ -1,5 +1,5 @@
--- A history worked by hand. A profile is installed between two requests, and both answers are
--- handed out in the other order: each is for what the point had when it was asked. Limits are in
+-- A history worked by hand. A profile is installed between two requests, and both answers are handed
+-- out in the other order: each is for the book that the point had at its request. Limits are in
 -- tenths.
 use Rattle.std.specs.Prelude.{ℕ, List, [], ◌∷◌, length, Some, None, Result, Ok, Err}
 use Rattle.std.proofs.Common.{◌≡◌, ap, refl}
@@ -44,7 +44,7 @@ site = record {
   } ∷ [];
 }
 
--- what it is asked, twice: connector 1 from midnight on, for a minute
+-- the request to it, made twice: connector 1 from midnight on, for a minute
 abbrev take : Take
 take = record {
   point = 65 ∷ [];
@@ -59,7 +59,7 @@ take = record {
 abbrev ask : Ask
 ask = ask_with 1 midnight 60 refl refl refl
 
--- what is installed between: 10.0 A at connector 1
+-- the profile installed between them: 10.0 A at connector 1
 abbrev row : Row
 row = record {
   connector = 1;
@@ -189,7 +189,7 @@ two_requests = (
   ),
 )
 
--- how many profiles stand in the book that an answer is for
+-- the number of profiles in the book of an answer
 abbrev rows_answered : Reply → ℕ
 rows_answered (Answered book asked answer) = length book.rows
 rows_answered other = 0
@@ -201,7 +201,7 @@ rows_made (Err refusal) = 0
 zero_is_not_one : ◌≡◌ {A = ℕ} 0 1 → ⊥
 zero_is_not_one e = cc
 
--- Were the newer book handed out for the older request, that last event would be no step.
+-- if the newer book were handed out for the older request, that last event wouldn't be a step
 pub no_newer_book : (state : MachineState) → ¬ Steps second_handed (steps.Answer 1)
     (Answered after ask (Ok (at_limit 100))) state
 no_newer_book state is = zero_is_not_one (ap rows_made is)

@@ -1,4 +1,4 @@
--- The `Ask` of a Take at a point, or why there is none (OCPP 1.6, 5.7).
+-- The `Ask` of a Take at a point, or the reason why there is none (OCPP 1.6, 5.7).
 use Rattle.std.specs.Prelude.{nat_lt, Bool, false, not, length, Option, Some, None, Result, Err, if◌then◌else◌}
 use Rattle.ocpp_scalars.specs.declared.refusal.Refusal.{Refusal}
 use Rattle.ocpp_scalars.specs.declared.refusal.Refusal.TheVariants.{UnknownConnector, WrongUnit}

@@ -1,5 +1,5 @@
--- The audit of a charge point (this system's own): it is asked for its composite schedule (OCPP
--- 1.6, 5.7), and its reply is judged by what the central system had for it when it was asked.
+-- The audit of a charge point (this system's own). The point's composite schedule is requested
+-- (OCPP 1.6, 5.7), and its reply is judged by the book that it had at the request.
 use Rattle.std.specs.Prelude.{ℕ, ◌==◌, Bool, true, false, List, Option, Some, None, is_some, not, ◌&&◌, if◌then◌else◌}
 use Rattle.profile.specs.declared.unit.Unit.{Unit}
 use Rattle.transactions.specs.declared.transaction.Transaction.{Transaction}
@@ -16,7 +16,7 @@ use Rattle.site_core.specs.Outbox.{is_unconfirmed}
 pub record AuditState : Type 0 where
   -- the number of its call
   pub number : ℕ
-  -- what the point had when it was asked, and what it was asked
+  -- the request to the point, with the book that it had then
   pub asked : AuditRequest
   -- none before the reply is judged
   pub verdict : Option Verdict
@@ -40,8 +40,8 @@ unjudged number None = None
 unjudged number (Some audit) =
     if (audit.number == number) && not (is_some audit.verdict) then Some audit else None
 
--- What a schedule means depends on the transactions. So where they have changed since the point
--- was asked, neither agreement nor difference tells anything of the point.
+-- The meaning of a schedule depends on the transactions. Once they have changed since the request,
+-- neither agreement nor difference says anything about the point.
 abbrev pub settled : Bool → Verdict → Verdict
 settled true verdict = verdict
 settled false Agrees = Unsettled
@@ -49,7 +49,7 @@ settled false Differs = Unsettled
 settled false Rejected = Rejected
 settled false Unsettled = Unsettled
 
--- the verdict that is kept, where the point has these transactions now
+-- the verdict to keep, if the point has these transactions now
 abbrev pub kept_verdict : BookState → List (Option Transaction) → Verdict → Verdict
 kept_verdict book now verdict = settled (same_transactions book.transactions now) verdict
 
@@ -59,7 +59,7 @@ judged_audit now verdict None = None
 judged_audit now verdict (Some audit) =
     Some (record audit { verdict = Some (kept_verdict audit.asked.book now verdict) })
 
--- what is told of it
+-- its outcome, as a status reports it
 abbrev pub outcome_of_verdict : Option Verdict → AuditOutcome
 outcome_of_verdict None = outcomes.Waiting
 outcome_of_verdict (Some Agrees) = outcomes.Agrees

@@ -1,5 +1,5 @@
--- What holds of audits along every history: each is held against what its point had when it was
--- begun, and each verdict is one that this book, and something that the point said, give.
+-- Laws of audits along every history. Each is compared with the book that its point had when it was
+-- begun, and each verdict is Unsettled, or one on that book and a reply that the point may have sent.
 use Rattle.std.specs.Prelude.{ℕ, ◌≡◌, ◌⊎◌, Bool, List, ◌∷◌, ◌++◌, Option, Some, IfSome}
 use Rattle.std.specs.List.{AllByRecursion}
 use Rattle.site_rules.specs.Site.{place_of}
@@ -16,7 +16,7 @@ use Rattle.site_core.specs.History.{Event, Legal}
 
 -- ---- the book of an audit
 
--- an Audit, which asked the point so with the call of a number
+-- the Audit event that began an audit of a point
 abbrev pub audit_event : List ℕ → AuditState → Event
 audit_event point audit = record {
   step = steps.Audit point audit.asked.connector audit.asked.duration;
@@ -40,14 +40,14 @@ pub record IsBegunIn (old : MachineState) (events : List Event) (place : ℕ) (a
   pub state : MachineState
   -- the one to which the events before had led.
   pub reached : Legal old before state
-  -- The book is what the point had in that state,
+  -- The book is the point's in that state,
   pub had : audit.asked.book ≡ book_at state place
   -- its call had the next number there,
   pub numbered : audit.number ≡ (outbox_at state place).next
   -- and the unit is the site's.
   pub in_unit : audit.asked.unit ≡ old.site.unit
 
--- the point at a place had an audit already, which asked the same with the same call
+-- the point at a place had an audit already, with the same request and the same call
 pub record IsAuditBefore (old : MachineState) (place : ℕ) (audit : AuditState) : Type 0 where
   pub earlier : AuditState
   pub is_kept : audit_at old place ≡ Some earlier
@@ -63,8 +63,8 @@ AuditsHaveTheirBooks =
 
 -- ---- its verdict
 
--- What a step brings is right: a verdict is one for the audit that was judged. So it is of each step
--- that a machine makes, since nobody can make a wrong one.
+-- A verdict that a step brings is right for the audit that was judged. This holds of each step that
+-- a machine makes, since no code can make a wrong `Judged`.
 abbrev pub BringsRight : Step → Type 0
 BringsRight (steps.Judge point call judged) =
     IsJudged judged.audit judged.verdict judged.short
@@ -73,7 +73,7 @@ BringsRight other = Unit {0}
 abbrev pub AllBringRight : List Event → Type 0
 AllBringRight events = AllByRecursion (λ (event : Event). BringsRight event.step) events
 
--- a kept verdict is one for its audit, or Unsettled, where the point's transactions had changed
+-- a kept verdict is one for its audit, or Unsettled, if the point's transactions had changed
 abbrev pub IsRightVerdict : AuditRequest → Verdict → Type 0
 IsRightVerdict asked verdict =
     ((short : Bool) × IsJudged asked verdict short) ⊎ (verdict ≡ Unsettled)

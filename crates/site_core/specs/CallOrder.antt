@@ -1,5 +1,5 @@
--- What the laws of outboxes and of points that obey say of the machine: the calls and the profiles
--- of a point along a history.
+-- The laws of outboxes and of points that obey, for the machine: the calls and the profiles of a
+-- point along a history.
 use Rattle.std.specs.Prelude.{ℕ, ◌≤◌, ◌+◌, ◌≡◌, Bool, List, [], ◌∷◌, ◌++◌, length, map, filter, slice_get, Option, None, Some}
 use Rattle.std.specs.List.{flat_map, filter_map, cons_option, AllByRecursion, Contains}
 use Rattle.profile.specs.declared.row.Row.{Row}
@@ -45,7 +45,7 @@ names site place step = is_this_number place (place_named site step)
 abbrev pub events_at : SiteState → ℕ → List Event → List Event
 events_at site place history = filter (λ (event : Event). names site place event.step) history
 
--- ---- what the events do at a point, from what was kept of it before each
+-- ---- the deeds of events at a point, from its state before each
 
 abbrev pub deed_by : ChargePointState → Event → Option Deed
 deed_by point event = deed point event.step event.reply
@@ -58,7 +58,7 @@ abbrev pub point_by_all : ChargePointState → List Event → ChargePointState
 point_by_all point [] = point
 point_by_all point (event ∷ later) = point_by_all (point_by point event) later
 
--- all that is done at a point by events of its own, one after another
+-- all deeds at a point by events of its own, one after another
 abbrev pub deeds_from : ChargePointState → List Event → List Deed
 deeds_from point [] = []
 deeds_from point (event ∷ later) =
@@ -76,22 +76,21 @@ abbrev pub deeds_of : SiteState → ℕ → List Event → List Deed
 deeds_of site place history =
     deeds_from (opening_at_place site place) (events_at site place history)
 
--- what holds of each place along every legal history, from any state that a central system may be
--- in
+-- a property of each place along every legal history, from any state of a central system
 abbrev pub FromAnyState : (MachineState → ℕ → List Event → MachineState → Type 0) → Type 0
 FromAnyState holds =
     (old : MachineState) (history : List Event) (new : MachineState)
     → IsMachine old → Legal old history new → (place : ℕ) → holds old place history new
 
--- what is kept of a point is what its own events make of what was kept of it: no event of another
--- point, and no request, changes it
+-- a point's own events lead from its old state to its new one: no event of another point, and no
+-- request, changes it
 abbrev pub PointsFollowHistories : Type 0
 PointsFollowHistories = FromAnyState (λ old place history new.
     point_at new place ≡ point_by_all (point_at old place) (events_at old.site place history))
 
 -- ---- its calls
 
--- all that comes to the outbox of the point at a place
+-- all traffic of the outbox of the point at a place
 abbrev pub traffic_since : MachineState → ℕ → List Event → List Traffic
 traffic_since old place history = filter_map traffic_of (deeds_since old place history)
 
@@ -121,7 +120,7 @@ abbrev pub calls_confirmed_at : SiteState → ℕ → List Event → List Call
 calls_confirmed_at site place history =
     calls_confirmed opening_outbox (traffic_at site place history)
 
--- the numbers of the calls that Confirm takes note of
+-- the numbers of the calls that Confirm events confirm
 abbrev pub confirmed_by : Step → Reply → List ℕ
 confirmed_by (steps.Confirm point link number accepted) replies.Confirmed = number ∷ []
 confirmed_by step reply = []
@@ -135,7 +134,7 @@ numbers_confirmed site place history =
 
 -- ---- the laws of its calls
 
--- what holds of each point of a site, at its place, along every legal history from an opening state
+-- a property of each point of a site, at its place, along every legal history from an opening state
 abbrev pub OfEachPoint : (SiteState → ℕ → List Event → MachineState → Type 0) → Type 0
 OfEachPoint holds =
     (site : SiteState) (numbers : Numbers) (history : List Event) (state : MachineState)
@@ -143,7 +142,7 @@ OfEachPoint holds =
     → (point : List ℕ) (place : ℕ) → place_of site point ≡ Some place
     → holds site place history state
 
--- the outbox of a point is what all that came to it makes of the opening one
+-- all traffic of a point's outbox leads from the opening outbox to the present one
 abbrev pub OutboxesFollowHistories : Type 0
 OutboxesFollowHistories = OfEachPoint (λ site place history state.
     outbox_at state place ≡ after_all opening_outbox (traffic_at site place history))
@@ -168,7 +167,7 @@ CallsAreLeftUnlessConfirmed = OfEachPoint (λ site place history state.
     calls_confirmed_at site place history ++ (outbox_at state place).calls
     ≡ calls_made site place history)
 
--- the confirmed ones are those that Confirm takes note of, in this order
+-- the confirmed calls are those of the Confirm events, in this order
 abbrev pub ConfirmationsAreEvents : Type 0
 ConfirmationsAreEvents = OfEachPoint (λ site place history state.
     numbers_of_calls (calls_confirmed_at site place history)
@@ -182,13 +181,13 @@ abbrev pub AreKeptFrom : MachineState → ℕ → ℕ → Type 0
 AreKeptFrom state place first =
     AreFrom first (outbox_at state place).calls (outbox_at state place).next
 
--- at the opening from 0 on
+-- at the opening the numbers begin with 0
 abbrev pub CallsBeginAtZero : Type 0
 CallsBeginAtZero =
     (site : SiteState) (numbers : Numbers) (place : ℕ)
     → AreKeptFrom (opening_at site numbers) place 0
 
--- and where they have, they do so after every history, from as much later on as were confirmed
+-- consecutive numbers stay so after every history, and begin later by the number of calls confirmed
 -- since
 abbrev pub CallsStayConsecutive : Type 0
 CallsStayConsecutive = FromAnyState (λ old place history new.
@@ -196,7 +195,7 @@ CallsStayConsecutive = FromAnyState (λ old place history new.
     → AreKeptFrom new place (first + length (calls_confirmed (outbox_at old place)
     (traffic_since old place history))))
 
--- the calls that aren't confirmed in a state, and those since
+-- the unconfirmed calls of a state, and those added since
 abbrev pub calls_since : MachineState → ℕ → List Event → List Call
 calls_since old place history =
     (outbox_at old place).calls
@@ -214,7 +213,7 @@ CallsAreSentAsKept = FromAnyState (λ old place history new.
     AllByRecursion (Contains (calls_since old place history))
     (calls_sent old.site place history))
 
--- the calls of an outbox are those without the ones that were confirmed since, in order
+-- the calls of an outbox are those without the ones confirmed since, in order
 abbrev pub CallsStayUnlessConfirmed : Type 0
 CallsStayUnlessConfirmed = FromAnyState (λ old place history new.
     calls_confirmed (outbox_at old place) (traffic_since old place history)
@@ -223,7 +222,7 @@ CallsStayUnlessConfirmed = FromAnyState (λ old place history new.
 
 -- ---- its profiles
 
--- the rows after all that is done
+-- the rows after all these deeds
 abbrev pub rows_after_all : List Deed → List Row → List Row
 rows_after_all [] rows = rows
 rows_after_all (deed ∷ later) rows = rows_after_all later (rows_after rows deed)
@@ -236,18 +235,18 @@ accepted_since old place history = bodies_added (traffic_since old place history
 abbrev pub accepted : SiteState → ℕ → List Event → List CallBody
 accepted site place history = bodies_added (traffic_at site place history)
 
--- what calls 0, 1, .. of the point at a place tell it
+-- the bodies of calls 0, 1, .. to the point at a place
 abbrev pub bodies_of : SiteState → ℕ → List Event → List CallBody
 bodies_of site place history = all_calls (accepted site place history)
 
 -- ---- the laws of its profiles
 
--- the rows that the machine has for a point are what its events make of none
+-- a point's own events lead from no rows to those that the machine has for it
 abbrev pub RowsFollowHistories : Type 0
 RowsFollowHistories = OfEachPoint (λ site place history state.
     (book_at state place).rows ≡ rows_after_all (deeds_of site place history) [])
 
--- from any state, what they make of those of that state
+-- the same from the rows of any state
 abbrev pub RowsGoOn : Type 0
 RowsGoOn = FromAnyState (λ old place history new.
     (book_at new place).rows
@@ -274,11 +273,11 @@ EachCallHasItsMoment =
     → (number : ℕ) → number ≤ length (accepted site place history)
     → Moment (opening_at site numbers) history state place number
 
--- A point has any rows, and then obeys calls in the order of sending. Its lasting rows are then
--- those that the machine had for it at a moment of the last of these calls, whatever came later,
--- unless a transaction began there with a profile of its own.
--- The moments of call k begin when the k-th call was added, whatever it asks for, and end at the
--- next one. Those of call 0 come before the first.
+-- A point with any rows obeys calls in the order of sending. Its lasting rows are then those that the
+-- machine had for it at a moment of the last of these calls, whatever came later, unless a
+-- transaction began there with a profile of its own.
+-- The moments of call k begin when the k-th call was added, whatever its action, and end at the next
+-- one. Those of call 0 come before the first.
 abbrev pub PointsStayInStep : Type 0
 PointsStayInStep =
     (site : SiteState) (numbers : Numbers) (history : List Event) (state : MachineState)
@@ -291,8 +290,8 @@ PointsStayInStep =
     → lasting (obeyed (bodies_of site place history) (first ∷ others) rows)
     ≡ lasting (book_at moment.state place).rows
 
--- the numbers of the calls that the point at a place obeys, where for each sending in turn it is
--- said whether the point does; what is lost it doesn't
+-- the numbers of the calls that the point at a place obeys, given for each sending in turn whether
+-- it does; it doesn't obey a lost one
 abbrev pub numbers_obeyed_at : SiteState → ℕ → List Event → List Bool → List ℕ
 numbers_obeyed_at site place history are_obeyed =
     obeyed_numbers are_obeyed (numbers_of_calls (calls_sent site place history))
@@ -306,7 +305,7 @@ CallsAreObeyedInOrder = OfEachPoint (λ site place history state.
     (calls_confirmed_at site place history)
     → AreInSendingOrder (numbers_obeyed_at site place history are_obeyed))
 
--- The same of a point that obeys what is sent to it, in the order of the sendings. Any of them may
+-- The same of a point that obeys the calls sent to it, in the order of the sendings. Any of them may
 -- be lost, but it obeys each confirmed call at least once. Its lasting rows are then those that the
 -- machine had for it at a moment of the last call that it obeyed, unless a transaction began there
 -- with a profile of its own.

@@ -1,6 +1,6 @@
--- What the central system keeps of a charge point, and what a step does there. A step of a point
--- can't see other points or requests. `record old { .. }` is the point with these fields changed
--- and all else as it was.
+-- The state that the central system keeps of a charge point, and the effect of a step there. A step
+-- of a point can't see other points or requests. `record old { .. }` is the point with these fields
+-- changed and all others unchanged.
 use Rattle.std.specs.Prelude.{ℕ, ℤ, ◌-◌, Bool, List, [], Option, Some, None, slice_set}
 use Rattle.profile.specs.declared.charging_profile.Profile.{Profile}
 use Rattle.profile.specs.declared.row.Row.{Row}
@@ -23,11 +23,11 @@ use Rattle.site_core.specs.WaitingStart.{with_waiting, after_reply, ended_start,
 pub record ChargePointState : Type 0 where
   -- its ceilings, profiles and transactions
   pub book : BookState
-  -- the link to it, and the calls that it hasn't confirmed
+  -- the link to it, and its unconfirmed calls
   pub outbox : OutboxState
   -- its audit, once it was audited
   pub audit : Option AuditState
-  -- the starts that it was asked for, and that no transaction has ended
+  -- the starts that were requested from it, and that no transaction has ended
   pub waiting : List WaitingStart
 
 -- a point with nothing installed, no active transaction and no link, to which call 0 is to be sent
@@ -40,10 +40,10 @@ opening_point point =
       waiting = [];
     }
 
--- ---- what a step does at a point
+-- ---- the effect of a step at a point
 
--- All that is said of what a step does at its point is read from here. That is the point after it,
--- the call to the point, and what the laws over histories say.
+-- A deed determines everything about the effect of a step at its point: the point after it, the call
+-- to the point, and the laws over histories.
 pub data Deed : Type 0 where
   -- a profile is installed, and the point is called to install it (OCPP 1.6, 5.16)
   Installs : (row : Row) → Deed
@@ -56,22 +56,22 @@ pub data Deed : Type 0 where
   Stops : (connector : ℕ) → Deed
   -- the point has a new link
   Attaches : (link : ℕ) → Deed
-  -- it has none any more
+  -- the point loses its link
   Loses : Deed
   -- the first call goes out
   Sends : Deed
   -- the point has replied to the call of a number, and says whether it accepts
   Confirms : (number : ℕ) (accepted : Bool) → Deed
-  -- the point is called for its schedule of a connector over so many seconds (OCPP 1.6, 5.7), and
-  -- what it has now is kept
+  -- the point is called for its schedule of a connector over `duration` seconds (OCPP 1.6, 5.7), and
+  -- its present book is kept
   Audits : (connector duration : ℕ) (unit : Unit) → Deed
-  -- its reply to that call is judged so
+  -- its reply to that call gets this verdict
   Judges : (verdict : Verdict) → Deed
-  -- the point is called to start a transaction of an idTag at a connector, with a profile where one
-  -- is given (OCPP 1.6, 5.11), and that start waits
+  -- the point is called to start a transaction of an idTag at a connector, with a profile if one is
+  -- given (OCPP 1.6, 5.11), and that start waits
   RemoteStarts : (connector : ℕ) (id_tag : List ℕ) (profile : Option Profile) → Deed
 
--- its profiles then
+-- the point's profiles after a deed
 abbrev pub rows_after : List Row → Deed → List Row
 rows_after rows (Installs row) = installed rows row
 rows_after rows (Clears criteria) = cleared rows criteria
@@ -86,7 +86,7 @@ rows_after rows (Audits connector duration unit) = rows
 rows_after rows (Judges verdict) = rows
 rows_after rows (RemoteStarts connector id_tag profile) = rows
 
--- its transactions then
+-- its transactions after a deed
 abbrev pub transactions_after : List (Option Transaction) → Deed → List (Option Transaction)
 transactions_after active (Starts connector begin number profile) =
     slice_set active (connector - 1) (Some (record { id = number; begin = begin }))
@@ -101,8 +101,8 @@ transactions_after active (Audits connector duration unit) = active
 transactions_after active (Judges verdict) = active
 transactions_after active (RemoteStarts connector id_tag profile) = active
 
--- what comes to its outbox: a call that is added, or what becomes of its link and of the first
--- call. That a transaction begins or ends, a point knows by itself.
+-- The traffic of its outbox: a call that is added, or a change of its link or of the first call. The
+-- point itself knows that a transaction begins or ends.
 abbrev pub traffic_of : Deed → Option Traffic
 traffic_of (Installs row) = Some (Add (bodies.Set row.connector row.profile))
 traffic_of (Clears criteria) = Some (Add (bodies.Clear criteria))
@@ -125,7 +125,7 @@ call_in other = None
 abbrev pub call_of : Deed → Option CallBody
 call_of deed = call_in (traffic_of deed)
 
--- what a point that obeys a call at a moment makes of its profiles
+-- the profiles of a point after it obeys a call at a moment
 abbrev pub rows_by_call : ℕ → CallBody → List Row → List Row
 rows_by_call moment (bodies.Set connector profile) rows =
     installed rows (record { connector = connector; moment = moment; profile = profile })
@@ -133,7 +133,7 @@ rows_by_call moment (bodies.Clear criteria) rows = cleared rows criteria
 rows_by_call moment (bodies.Audit connector duration unit) rows = rows
 rows_by_call moment (bodies.RemoteStart connector id_tag profile) rows = rows
 
--- its audit then: an audit takes the place of the one before it
+-- its audit after a deed: an audit replaces the one before it
 abbrev pub audit_after : ChargePointState → Deed → Option AuditState
 audit_after old (Audits connector duration unit) =
     Some (begun_audit old.outbox.next old.book connector duration unit)
@@ -148,7 +148,7 @@ audit_after old Sends = old.audit
 audit_after old (Confirms number accepted) = old.audit
 audit_after old (RemoteStarts connector id_tag profile) = old.audit
 
--- the starts that wait then
+-- the starts that wait after a deed
 abbrev pub waiting_after : ChargePointState → Deed → List WaitingStart
 waiting_after old (RemoteStarts connector id_tag profile) = with_waiting old.waiting (record {
   connector = connector;
@@ -168,7 +168,7 @@ waiting_after old Sends = old.waiting
 waiting_after old (Audits connector duration unit) = old.waiting
 waiting_after old (Judges verdict) = old.waiting
 
--- ---- the point then
+-- ---- the point after a deed
 
 abbrev pub book_after : BookState → Deed → BookState
 book_after book deed = record book {
@@ -188,7 +188,7 @@ point_after old deed = record old {
   waiting = waiting_after old deed;
 }
 
--- after a step that does something there, or nothing
+-- the point after a step with a deed there, or without one
 abbrev pub point_with : Option Deed → ChargePointState → ChargePointState
 point_with None old = old
 point_with (Some deed) old = point_after old deed

@@ -1,12 +1,12 @@
--- What the numbers count of a history. Each change of a point's book draws a version of the store,
--- and each Take a request's number. A request is kept until its answer is handed out.
+-- The numbers count a history: each change of a point's book draws a version of the store, and each
+-- Take a request's number. A request is kept until its answer is handed out.
 use Rattle.std.specs.Prelude.{ℕ, ◌≡◌, ◌+◌, List, length}
 use Rattle.std.specs.List.{sum_by}
 use Rattle.site_core.specs.State.{MachineState}
 use Rattle.site_core.specs.Step.{counted}
 use Rattle.site_core.specs.History.{Event, Legal}
 
--- how many changes, Takes and answers there are in a history
+-- the numbers of changes, Takes and answers in a history
 abbrev pub changes_in : List Event → ℕ
 changes_in events = sum_by (λ (event : Event). (counted event.reply).changes) events
 
@@ -16,7 +16,7 @@ takes_in events = sum_by (λ (event : Event). (counted event.reply).takes) event
 abbrev pub answers_in : List Event → ℕ
 answers_in events = sum_by (λ (event : Event). (counted event.reply).answers) events
 
--- from one state to another the numbers tell of as many
+-- from one state to another the numbers grow by these counts
 pub record TellOf (old : MachineState) (changes takes answers : ℕ) (new : MachineState)
     : Type 0 where
   pub versions : new.numbers.version ≡ old.numbers.version + changes

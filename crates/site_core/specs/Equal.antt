@@ -1,5 +1,5 @@
--- Whether two books are equal, field by field. By the law `equal_books_are_one` these say no other
--- than that both are the same.
+-- Whether two books are equal, field by field. By the law `equal_books_are_one`, equal ones are the
+-- same.
 use Rattle.std.specs.Prelude.{ℕ, ◌≡◌, ◌↔◌, ◌==◌, ◌&&◌, Bool, true, false, List, [], ◌∷◌, Option}
 use Rattle.std.specs.Option.{option_eq}
 use Rattle.std.specs.Ordering.{int_eq}
@@ -102,7 +102,7 @@ same_book one other =
     && same_list same_row one.rows other.rows
     && same_transactions one.transactions other.transactions
 
--- what a point is asked, with what it had then
+-- the request of an audit, with the book that the point had then
 abbrev pub same_request : AuditRequest → AuditRequest → Bool
 same_request one other =
     same_book one.book other.book

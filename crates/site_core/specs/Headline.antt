@@ -1,5 +1,5 @@
--- The headline. After any steps, in any order, every schedule that is handed out is right for what
--- its point had when it was asked, whatever was changed since (OCPP 1.6, 5.7).
+-- The headline. After any steps, in any order, every schedule that is handed out is right for the
+-- book that its point had when the request was taken, whatever was changed since (OCPP 1.6, 5.7).
 use Rattle.std.specs.Prelude.{ℕ, ◌≡◌, ◌≤◌, ◌+◌, ◌⊎◌, true, List, ◌∷◌, ◌++◌, take, slice_get, Some, IfSome, Ok, Err}
 use Rattle.std.specs.List.{AllByRecursion, Contains}
 use Rattle.ocpp_scalars.specs.declared.refusal.Refusal.TheVariants.{Stopped}
@@ -40,7 +40,7 @@ pub record IsTakenIn (old : MachineState) (events : List Event) (number : ℕ) (
   -- The request was for a point, which has a place in the site file,
   pub place : ℕ
   pub point : place_of old.site asked.point ≡ Some place
-  -- and the book is what that point had in that state: its profiles and transactions.
+  -- and the book is that point's in that state: its profiles and transactions.
   pub had : book ≡ book_at state place
   -- The `Ask` is the one that the request made.
   pub asks : ask_at old.site.unit book asked ≡ Ok ask
@@ -49,11 +49,11 @@ pub record IsTakenIn (old : MachineState) (events : List Event) (number : ℕ) (
 -- events from an opening state, is right:
 pub record IsRightAfter (opening : MachineState) (events : List Event) (number : ℕ)
     (book : BookState) (ask : Ask) (answer : ScheduleAnswer) : Type 0 where
-  -- The request was taken in these events, with what its point had then.
+  -- The request was taken in these events, with the book that its point had then.
   pub taken : IsTakenIn opening events number book ask
   -- For this book and this `Ask` the answer is right: the exact schedule, or a permitted refusal.
   pub right : IsRight book ask answer
-  -- It is the refusal Stopped only where the central system was stopped since.
+  -- It is the refusal Stopped only if the central system was stopped since.
   pub stopped : answer ≡ Err Stopped → Contains taken.since finish_event
 
 -- Each answer that a run hands out, wherever in the run, is right after the steps that were made
@@ -68,8 +68,8 @@ AnswersAreRight opening steps outcomes =
 
 -- ---- the same from any state
 
--- In a state a kept request is right. Its number was drawn. Its answer, if it has one, is right for
--- its book and its `Ask`, and Stopped only where the central system is stopped.
+-- A kept request is right in a state. Its number was drawn. Its answer, if it has one, is right for
+-- its book and its `Ask`, and Stopped only if the central system is stopped.
 pub record IsKeptRight (state : MachineState) (kept : Kept) : Type 0 where
   pub drawn : kept.number ≤ state.numbers.request
   pub right : IfSome kept.answer (IsRight kept.book kept.ask)
@@ -89,7 +89,7 @@ pub record IsKeptBefore (old : MachineState) (events : List Event) (number : ℕ
   pub asks : kept.ask ≡ ask
   pub never : takes_of number events ≡ 0
 
--- a request was taken in these events, with what its point had then, or was kept before
+-- a request was taken in these events, with the book that its point had then, or was kept before
 abbrev pub Origin : MachineState → List Event → ℕ → BookState → Ask → Type 0
 Origin old events number book ask =
     IsTakenIn old events number book ask ⊎ IsKeptBefore old events number book ask
@@ -97,8 +97,8 @@ Origin old events number book ask =
 abbrev pub HasItsBook : MachineState → List Event → Kept → Type 0
 HasItsBook old events kept = Origin old events kept.number kept.book kept.ask
 
--- An answer to a request that was kept before is right for it, and Stopped only where the central
--- system was stopped before, or since.
+-- An answer to a request that was kept before is right for it, and Stopped only if the central system
+-- was stopped before, or since.
 pub record IsRightBefore (old : MachineState) (events : List Event) (number : ℕ)
     (book : BookState) (ask : Ask) (answer : ScheduleAnswer) : Type 0 where
   pub before : IsKeptBefore old events number book ask
@@ -109,7 +109,7 @@ pub record IsRightBefore (old : MachineState) (events : List Event) (number : �
 abbrev pub OpeningsKeepRight : Type 0
 OpeningsKeepRight = (site : SiteState) (numbers : Numbers) → KeepsRight (opening_at site numbers)
 
--- from a state that keeps what is right, every legal history leads to such a one
+-- from a state in which all kept requests are right, every legal history leads to another such state
 abbrev pub RequestsStayRight : Type 0
 RequestsStayRight =
     (old : MachineState) (events : List Event) (new : MachineState)
@@ -122,8 +122,8 @@ RequestsHaveTheirBooks =
     → KeepsRight old → Legal old events new
     → AllByRecursion (HasItsBook old events) new.requests
 
--- each answer that is handed out is right: for what the point had at the request's Take, or for
--- what the old state kept
+-- each answer that is handed out is right: for the book at the request's Take, or for the one that
+-- the old state kept
 abbrev pub AnswersGoOnRight : Type 0
 AnswersGoOnRight =
     (old : MachineState) (earlier later : List Event) (number : ℕ) (book : BookState) (ask : Ask)
@@ -138,7 +138,7 @@ abbrev pub AnsweredOnceStopped : MachineState → Type 0
 AnsweredOnceStopped state =
     state.is_stopped ≡ true → AllByRecursion IsAnswered state.requests
 
--- and a state like that leads to others like that
+-- every legal history from such a state leads to another such state
 abbrev pub StoppedRequestsStayAnswered : Type 0
 StoppedRequestsStayAnswered =
     (old : MachineState) (events : List Event) (new : MachineState)

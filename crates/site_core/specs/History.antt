@@ -1,4 +1,4 @@
--- Histories: what was done and what was replied, one event after another.
+-- Histories: steps that were made and their replies, one event after another.
 use Rattle.std.specs.Prelude.{ℕ, ◌≡◌, ◌==◌, ◌&&◌, Bool, true, false, List, [], ◌∷◌, IsSome}
 use Rattle.std.specs.List.{count_by}
 use Rattle.meaning.specs.declared.ask.Ask.{Ask}
@@ -13,7 +13,7 @@ use Rattle.site_core.specs.declared.outcome.Outcome.TheVariants.{Done, Refused}
 use Rattle.site_core.specs.State.{MachineState, Kept, ScheduleAnswer}
 use Rattle.site_core.specs.Step.{Steps}
 
--- a step that was made, and what it replied
+-- a step that was made, and its reply
 pub record Event : Type 0 where
   pub step : Step
   pub reply : Reply
@@ -25,7 +25,7 @@ Legal old [] new = new ≡ old
 Legal old (event ∷ later) new =
     (middle : MachineState) × Steps old event.step event.reply middle × Legal middle later new
 
--- The history of a run: its steps that were made, with their replies. A refused step is no event. A
+-- The history of a run: its steps that were made, with their replies. A refused step isn't in it. A
 -- step that is answered without a change (Unknown, Repeated, NoSuch, NotYet, Nothing, a second
 -- Finish) is one.
 abbrev pub history_of : List Step → List Outcome → List Event
@@ -34,11 +34,11 @@ history_of (step ∷ steps) (Done reply ∷ outcomes) =
 history_of (step ∷ steps) (Refused refused ∷ outcomes) = history_of steps outcomes
 history_of _ _ = []
 
--- the Take that began a request: its number, what its point had, and what is asked
+-- the Take that began a request, with its number, its point's book and its `Ask`
 abbrev pub taken_event : Take → ℕ → BookState → Ask → Event
 taken_event take number book ask = record { step = steps.Take take; reply = Taken number book ask }
 
--- the Answer of a number that handed out an answer, with what it is for
+-- the Answer that handed out the answer of a number, with its book and its `Ask`
 abbrev pub answered_event : ℕ → BookState → Ask → ScheduleAnswer → Event
 answered_event number book ask answer =
     record { step = steps.Answer number; reply = Answered book ask answer }

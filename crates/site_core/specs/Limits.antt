@@ -1,4 +1,4 @@
--- The limits of numbers, of kept requests and of calls. All are this system's choice but the
+-- The limits of numbers, of kept requests and of calls. All are this system's choice, except the
 -- highest transaction.
 use Rattle.std.specs.Prelude.{ℕ}
 
@@ -14,6 +14,6 @@ max_transaction = 2_147_483_647
 abbrev pub max_requests : ℕ
 max_requests = 64
 
--- the most calls of a point that aren't confirmed, the one in flight among them
+-- the most unconfirmed calls of a point, including the one in flight
 abbrev pub max_calls : ℕ
 max_calls = 256

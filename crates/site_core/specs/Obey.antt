@@ -1,5 +1,5 @@
--- That a point which obeys its calls stays in step, whatever is lost or sent again. The profiles
--- that outlast its transactions are those that the central system has for it.
+-- A point that obeys its calls stays in step, whatever is lost or sent again. The profiles that
+-- outlast its transactions are those that the central system has for it.
 use Rattle.std.specs.Prelude.{ℕ, ◌≡◌, not, List, [], ◌∷◌, filter, map, Option, None, Some, is_some, zero, suc, slice_get, if◌then◌else◌}
 use Rattle.std.specs.List.{AllByRecursion, filter_map}
 use Rattle.profile.specs.declared.row.Row.{Row}
@@ -11,8 +11,8 @@ use Rattle.site_core.specs.OutboxOrder.{AreInSendingOrder}
 
 -- ---- the central system
 
--- what the central system has for a point once it has done as much there as makes so many calls,
--- having had these rows before
+-- the rows that the central system has for a point, from these rows on, after the deeds up to the
+-- one that makes the call of this number
 abbrev pub rows_after_call : ℕ → List Deed → List Row → List Row
 rows_after_call zero deeds rows = rows
 rows_after_call (suc before) [] rows = rows
@@ -20,24 +20,23 @@ rows_after_call (suc before) (deed ∷ later) rows =
     rows_after_call (if is_some (call_of deed) then before else suc before) later
     (rows_after rows deed)
 
--- every call to the point: those that what is done there makes come after call 0
+-- every call to the point: call 0, and then those that the deeds make
 abbrev pub calls_of : List Deed → List CallBody
 calls_of deeds = all_calls (filter_map call_of deeds)
 
 -- ---- the point
 
--- that the point does as the call of this number tells it, at a moment of its own
+-- the point obeys the call of this number, at a moment of its own
 pub record Obeying : Type 0 where
   pub number : ℕ
   pub moment : ℕ
 
--- what the point has once it has done at a moment as a call tells it; a number without a call tells
--- it nothing
+-- the rows of the point after it obeys a call at a moment; without a call they stay
 abbrev pub obeyed_call : ℕ → Option CallBody → List Row → List Row
 obeyed_call moment None rows = rows
 obeyed_call moment (Some body) rows = rows_by_call moment body rows
 
--- what the point has once it has obeyed some of these calls in turn, having had these rows before
+-- the rows of the point after it obeys some of these calls in turn, from these rows on
 abbrev pub obeyed : List CallBody → List Obeying → List Row → List Row
 obeyed calls [] rows = rows
 obeyed calls (first ∷ later) rows =
@@ -51,7 +50,7 @@ abbrev pub last_number : ℕ → List Obeying → ℕ
 last_number number [] = number
 last_number number (obeying ∷ later) = last_number obeying.number later
 
--- ---- what is compared
+-- ---- the rows that are compared
 
 abbrev pub at_moment : ℕ → Row → Row
 at_moment moment row = record row { moment = moment }
@@ -69,8 +68,8 @@ abbrev pub BeginsAlone : Deed → Type 0
 BeginsAlone (Starts connector begin number profile) = profile ≡ None
 BeginsAlone deed = Unit {0}
 
--- A point has any rows, and then obeys calls in the order of sending. Its lasting rows are then
--- those that the central system had, which began with none, after the last of these calls.
+-- A point with any rows obeys calls in the order of sending. Its lasting rows are then those that the
+-- central system, which began with none, had after the last of these calls.
 abbrev pub StaysInStep : Type 0
 StaysInStep =
     (deeds : List Deed) (first : Obeying) (later : List Obeying) (rows : List Row)

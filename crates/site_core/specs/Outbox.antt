@@ -1,6 +1,6 @@
--- What the central system keeps of its calls to a charge point, and what changes it. A call is sent
--- again until it is confirmed, and the next one only then. `record old { .. }` is the outbox with
--- these fields changed and all else as it was.
+-- The calls of the central system to a charge point, and their changes. A call is sent again until it
+-- is confirmed, and the next one only then. `record old { .. }` is the outbox with these fields
+-- changed and all others unchanged.
 use Rattle.std.specs.Prelude.{ℕ, ◌+◌, ◌-◌, ◌<◌, ◌≤◌, ◌≡◌, nat_le, nat_lt, ◌==◌, Bool, true, false, ◌&&◌, List, [], ◌∷◌, ◌++◌, length, drop, map, Option, None, Some, IsSome, is_some, if◌then◌else◌}
 use Rattle.std.specs.List.{list_any, range_with_len}
 use Rattle.profile.specs.declared.criteria.Criteria.{Criteria}
@@ -12,11 +12,11 @@ use Rattle.site_core.specs.Limits.{max_number, max_calls}
 pub record OutboxState : Type 0 where
   -- the number of the present link to the point, where there is one
   pub link : Option ℕ
-  -- the calls that aren't confirmed, in the order of their numbers
+  -- the unconfirmed calls, in the order of their numbers
   pub calls : List Call
   -- the number of the next call
   pub next : ℕ
-  -- whether the first call was sent over this link, and isn't confirmed
+  -- whether the first call was sent over this link, and is unconfirmed
   pub is_in_flight : Bool
 
 -- ---- the opening
@@ -58,7 +58,7 @@ lost old = record old { link = None; is_in_flight = false }
 
 -- ---- calls
 
--- no more calls may be added: as many aren't confirmed as may be
+-- no more calls may be added: it has the most unconfirmed calls
 abbrev pub is_full : OutboxState → Bool
 is_full outbox = nat_le max_calls (length outbox.calls)
 
@@ -77,7 +77,7 @@ abbrev pub first_call : List Call → Option Call
 first_call [] = None
 first_call (call ∷ later) = Some call
 
--- what is to be sent: the first call, where there is a link and no call is in flight
+-- the call to send: the first one, if there is a link and no call is in flight
 abbrev pub sendable_by : Option ℕ → Bool → List Call → Option Call
 sendable_by None is_in_flight calls = None
 sendable_by (Some link) true calls = None
@@ -86,7 +86,7 @@ sendable_by (Some link) false calls = first_call calls
 abbrev pub sendable : OutboxState → Option Call
 sendable outbox = sendable_by outbox.link outbox.is_in_flight outbox.calls
 
--- the link over which it is to be sent, where there is such a call
+-- the link over which it can be sent, if there is such a call
 abbrev pub sending_link : OutboxState → Option ℕ
 sending_link outbox = if is_some (sendable outbox) then outbox.link else None
 
@@ -94,7 +94,7 @@ abbrev pub sent_by : Option Call → OutboxState → OutboxState
 sent_by None old = old
 sent_by (Some call) old = record old { is_in_flight = true }
 
--- after a sending, what was sent is in flight
+-- after a sending, the sent call is in flight
 abbrev pub sent : OutboxState → OutboxState
 sent old = sent_by (sendable old) old
 
@@ -112,14 +112,14 @@ is_number_in_flight outbox number = outbox.is_in_flight && is_number_of_first ou
 abbrev pub is_unconfirmed : List Call → ℕ → Bool
 is_unconfirmed calls number = list_any (λ (call : Call). call.number == number) calls
 
--- The call in flight goes, whatever the point answered to it. Another number confirms nothing.
+-- The call in flight is removed, whatever the point answered. Another number confirms nothing.
 abbrev pub confirmed : OutboxState → ℕ → OutboxState
 confirmed old number =
     if is_number_in_flight old number
     then record old { calls = drop 1 old.calls; is_in_flight = false }
     else old
 
--- ---- what comes to an outbox
+-- ---- the traffic of an outbox
 
 -- a new link, its loss, a call that is added, a sending, and the reply to the call of a number
 pub data Traffic : Type 0 where
@@ -129,7 +129,7 @@ pub data Traffic : Type 0 where
   Send : Traffic
   Confirm : (number : ℕ) → Traffic
 
--- the outbox then
+-- the outbox after it
 abbrev pub after : OutboxState → Traffic → OutboxState
 after old (Attach link) = attached old link
 after old Lose = lost old
@@ -141,7 +141,7 @@ abbrev pub after_all : OutboxState → List Traffic → OutboxState
 after_all old [] = old
 after_all old (event ∷ later) = after_all (after old event) later
 
--- ---- what is always so
+-- ---- the invariant
 
 -- the numbers of the calls go up by one and end before the next call's
 abbrev pub AreConsecutive : OutboxState → Type 0

@@ -1,4 +1,4 @@
--- In which order the calls of a point are sent, whatever sendings, replies and links are lost.
+-- The order in which the calls of a point are sent, whatever sendings, replies and links are lost.
 use Rattle.std.specs.Prelude.{ℕ, ◌+◌, ◌≡◌, ◌⊎◌, List, [], ◌∷◌, ◌++◌, Option, None, Some, take, if◌then◌else◌}
 use Rattle.messages.specs.declared.call.Call.{Call}
 use Rattle.messages.specs.declared.call.CallBody.{CallBody}
@@ -22,7 +22,7 @@ abbrev pub AreFrom : ℕ → List Call → ℕ → Type 0
 AreFrom first [] next = first ≡ next
 AreFrom first (call ∷ later) next = (call.number ≡ first) × AreFrom (first + 1) later next
 
--- ---- what an outbox does with it
+-- ---- the sendings and confirmations of an outbox
 
 abbrev pub number_of : Option Call → List ℕ
 number_of None = []

@@ -12,20 +12,20 @@ request_of number (kept ∷ others) =
 abbrev pub with_answer : Kept → ScheduleAnswer → Kept
 with_answer kept answer = record kept { answer = Some answer }
 
--- the request of a number has this answer now
+-- after the request of a number got this answer
 abbrev pub answered : ℕ → ScheduleAnswer → List Kept → List Kept
 answered number answer [] = []
 answered number answer (kept ∷ others) =
     if kept.number == number then with_answer kept answer ∷ others
     else kept ∷ answered number answer others
 
--- the request of a number is no longer kept
+-- after the request of a number was removed
 abbrev pub without : ℕ → List Kept → List Kept
 without number [] = []
 without number (kept ∷ others) =
     if kept.number == number then others else kept ∷ without number others
 
--- each request without an answer is answered that the central system is stopped
+-- a request without an answer is answered Stopped
 abbrev pub stopped_request : Kept → Kept
 stopped_request kept = with_answer kept (unwrap_or kept.answer (Err Stopped))
 

@@ -1,4 +1,4 @@
--- The state of the central system: what it knows between two steps.
+-- The state of the central system between two steps.
 use Rattle.std.specs.Prelude.{ℕ, ◌≡◌, ◌≤◌, ◌==◌, Bool, false, List, [], map, length, slice_index_or, Option, None, Some, option_map, if◌then◌else◌}
 use Rattle.meaning.specs.declared.ask.Ask.{Ask}
 pub use Rattle.sweep_compiler.specs.Right.{ScheduleAnswer}
@@ -17,9 +17,9 @@ pub record Kept : Type 0 where
   pub number : ℕ
   -- the place of its point in the site file
   pub place : ℕ
-  -- what the point had when the request was taken
+  -- the point's book when the request was taken
   pub book : BookState
-  -- what is asked
+  -- its connector, start and duration
   pub ask : Ask
   -- none before it is compiled
   pub answer : Option ScheduleAnswer
@@ -29,11 +29,11 @@ pub record MachineState : Type 0 where
   pub site : SiteState
   -- the version, request, transaction and link numbers that were drawn last
   pub numbers : Numbers
-  -- what is kept of each point, in the order of the site file
+  -- the state of each point, in the order of the site file
   pub points : List ChargePointState
   -- the requests that are kept, in the order of their numbers
   pub requests : List Kept
-  -- once it is, no step but compiling, answering and finishing is made any more
+  -- once it is stopped, it makes no more steps except Compile, Answer and Finish
   pub is_stopped : Bool
 
 -- before the first step, with these numbers drawn last
@@ -52,8 +52,8 @@ no_numbers = record { version = 0; request = 0; transaction = 0; link = 0 }
 abbrev pub opening : SiteState → MachineState
 opening site = opening_at site no_numbers
 
--- What is kept of the point at a place of the site file. Each place has its point, so none is read
--- as one without connectors.
+-- The default of a look-up of the point at a place of the site file. Each place has its point, so
+-- this one is never read.
 abbrev pub no_point : ChargePointState
 no_point = record {
   book = empty_book 0 [];
@@ -68,7 +68,7 @@ point_in points place = slice_index_or points place no_point
 abbrev pub point_at : MachineState → ℕ → ChargePointState
 point_at state place = point_in state.points place
 
--- what the point has, and the calls to it
+-- the point's book, and the calls to it
 abbrev pub book_at : MachineState → ℕ → BookState
 book_at state place = (point_at state place).book
 
@@ -79,7 +79,7 @@ outbox_at state place = (point_at state place).outbox
 abbrev pub audit_at : MachineState → ℕ → Option AuditState
 audit_at state place = (point_at state place).audit
 
--- the present link of the point at a place, and of the point of an identity; a stranger has none
+-- the present link of the point at a place, and of the point of an identity; an unknown point has none
 abbrev pub link_at : MachineState → Option ℕ → Option ℕ
 link_at state None = None
 link_at state (Some place) = (outbox_at state place).link
@@ -92,8 +92,8 @@ abbrev pub is_this_number : ℕ → Option ℕ → Bool
 is_this_number number None = false
 is_this_number number (Some other) = other == number
 
--- The link over which a call is to be sent now to the point at a place, and to the point of an
--- identity, where there is such a call. A stranger has none, and nothing is sent once the central
+-- The link over which a call can be sent now to the point at a place, and to the point of an
+-- identity, if there is such a call. An unknown point has none, and nothing is sent once the central
 -- system is stopped.
 abbrev pub link_to_send_at : MachineState → Option ℕ → Option ℕ
 link_to_send_at state None = None
@@ -103,7 +103,7 @@ abbrev pub link_to_send : MachineState → List ℕ → Option ℕ
 link_to_send state point =
     if state.is_stopped then None else link_to_send_at state (place_of state.site point)
 
--- how many calls of the point aren't confirmed; a stranger has none
+-- the number of unconfirmed calls of the point; an unknown point has none
 abbrev pub outbox_len_at : MachineState → Option ℕ → ℕ
 outbox_len_at state None = 0
 outbox_len_at state (Some place) = length (outbox_at state place).calls
@@ -111,7 +111,7 @@ outbox_len_at state (Some place) = length (outbox_at state place).calls
 abbrev pub outbox_len : MachineState → List ℕ → ℕ
 outbox_len state point = outbox_len_at state (place_of state.site point)
 
--- the audit of the point of an identity, once it was audited; a stranger has none
+-- the audit of the point of an identity, once it was audited; an unknown point has none
 abbrev pub audit_in : MachineState → Option ℕ → Option AuditState
 audit_in state None = None
 audit_in state (Some place) = audit_at state place
@@ -119,7 +119,7 @@ audit_in state (Some place) = audit_at state place
 abbrev pub audit_of : MachineState → List ℕ → Option AuditState
 audit_of state point = audit_in state (place_of state.site point)
 
--- the starts that wait at the point of an identity; a stranger has none
+-- the starts that wait at the point of an identity; an unknown point has none
 abbrev pub waiting_in : MachineState → Option ℕ → List WaitingStart
 waiting_in state None = []
 waiting_in state (Some place) = (point_at state place).waiting
@@ -127,8 +127,8 @@ waiting_in state (Some place) = (point_at state place).waiting
 abbrev pub waiting_of : MachineState → List ℕ → List WaitingStart
 waiting_of state point = waiting_in state (place_of state.site point)
 
--- what the audit of the point at a place, and of an identity, asked, with what the point had then,
--- while it has no verdict; a stranger has none
+-- the request of the audit of the point at a place, and of an identity, with the book of that time,
+-- while the audit has no verdict; an unknown point has none
 abbrev pub audit_job_at : MachineState → Option ℕ → ℕ → Option AuditRequest
 audit_job_at state None call = None
 audit_job_at state (Some place) call =
@@ -137,7 +137,7 @@ audit_job_at state (Some place) call =
 abbrev pub audit_job : MachineState → List ℕ → ℕ → Option AuditRequest
 audit_job state point call = audit_job_at state (place_of state.site point) call
 
--- ---- what is always so
+-- ---- the invariant
 
 -- the connectors of a point by the site file, and by its book
 abbrev pub connectors_in_file : PointEntry → ℕ

@@ -1,5 +1,5 @@
--- One step of the central system: what it replies and what it changes, or the first cause why it is
--- refused. All that a step doesn't name stays as it was, and a refused step changes nothing.
+-- One step of the central system: its reply and its changes, or the first cause of its refusal. A
+-- step changes only what it names, and a refused step changes nothing.
 use Rattle.std.specs.Prelude.{ℕ, ℤ, pos, ◌≡◌, ◌≤◌, ◌+◌, not, nat_lt, nat_le, ◌==◌, ◌||◌, Bool, true, false, List, [], ◌∷◌, ◌++◌, length, Option, Some, None, is_some, option_map, IfSome, Result, Ok, Err, IfOk, slice_set, if◌then◌else◌}
 use Rattle.std.specs.List.{list_any}
 use Rattle.ocpp_scalars.specs.ResultSteps.{◌>>=◌}
@@ -46,23 +46,23 @@ use Rattle.site_core.specs.Requests.{request_of, answered, without, all_stopped}
 use Rattle.site_core.specs.Ask.{ask_at}
 use Rattle.site_core.specs.Right.{IsCompiledFor}
 
--- ---- what replies tell
+-- ---- facts about replies
 
 -- a reply that counts no change, Take or answer
 abbrev pub no_count : Counted
 no_count = record { changes = 0; takes = 0; answers = 0 }
 
--- what is so of a reply
+-- the facts about a reply
 pub record Facts : Type 0 where
-  -- Whether its step is an event, where it is known if the central system was stopped before: what
-  -- is answered without a change is none.
+  -- whether its step is an event, given whether the central system was stopped before; an answer
+  -- without a change is none
   pub is_event : Bool → Bool
   -- the numbers that were drawn last, after its step
   pub drawn : Numbers → Numbers
   pub counts : Counted
-  -- whether its step wants memory
+  -- whether its step needs memory
   pub wants_memory : Bool
-  -- a book and what is asked of it, where it tells them
+  -- its book and `Ask`, if it has them
   pub asks : Option (BookState × Ask)
 
 -- nothing changes
@@ -75,7 +75,7 @@ answer_alone = record {
   asks = None;
 }
 
--- an event that draws no number and wants no memory
+-- an event that draws no number and needs no memory
 abbrev pub quiet_event : Facts
 quiet_event = record answer_alone { is_event = λ was_stopped. true }
 
@@ -134,12 +134,12 @@ counted reply = (facts reply).counts
 abbrev pub drawn : Reply → Numbers → Numbers
 drawn reply numbers = (facts reply).drawn numbers
 
--- What wants memory: a profile, a clear, an audit and a remote start with their calls, a
+-- The steps that need memory: an install, a clear, an audit and a remote start with their calls, a
 -- transaction and its end, a request that is kept, and a call that is copied to be sent.
 abbrev pub wants_memory : Reply → Bool
 wants_memory reply = (facts reply).wants_memory
 
--- a book that is replied with an `Ask` has the connector that is asked
+-- a book in a reply has the connector of the `Ask` beside it
 abbrev pub HasAskedConnector : Reply → Type 0
 HasAskedConnector reply = IfSome (facts reply).asks (λ (asked : BookState × Ask).
     asked.1.connector ≤ length asked.0.ceilings)
@@ -171,7 +171,7 @@ is_reply_to step reply = false
 
 -- ---- steps at a point are decided first, from the site, the numbers drawn last and the point
 
--- it replies this, unless there is a cause against it
+-- this reply, unless there is a cause of refusal
 abbrev pub unless : {X : Type 0} → Option Refusal → X → Result X Refusal
 unless (Some refusal) x = Err refusal
 unless None x = Ok x
@@ -179,7 +179,7 @@ unless None x = Ok x
 abbrev pub version_refusal : Numbers → Option Refusal
 version_refusal numbers = if numbers.version == max_number then Some VersionsExhausted else None
 
--- why no call is added to those that wait for a point
+-- the reason why no call can be added for a point, if there is one
 abbrev pub refusal_to_add : OutboxState → Option Refusal
 refusal_to_add outbox =
     if is_full outbox then Some OutboxFull
@@ -189,8 +189,8 @@ refusal_to_add outbox =
 abbrev pub refusal_to_call : Numbers → ChargePointState → Option Refusal
 refusal_to_call numbers point = first_cause (refusal_to_add point.outbox) (version_refusal numbers)
 
--- Install (OCPP 1.6, 5.16): by the rules of the site, and then by the point's book. It is a call to
--- the point too, and so is a clear.
+-- Install (OCPP 1.6, 5.16): checked by the rules of the site, and then by the point's book. It also
+-- adds a call to the point, as a clear does.
 abbrev pub refusal_to_install : SiteState → Numbers → List ℕ → Row → ChargePointState
     → Option Refusal
 refusal_to_install site numbers id row point =
@@ -200,7 +200,7 @@ refusal_to_install site numbers id row point =
 abbrev pub installs : SiteState → Numbers → List ℕ → Row → ChargePointState → Result Reply Refusal
 installs site numbers id row point = unless (refusal_to_install site numbers id row point) Accepted
 
--- Clear (OCPP 1.6, 5.5): where no profile matches, that is the answer, and nothing changes
+-- Clear (OCPP 1.6, 5.5): if no profile matches, the reply is Unknown, and nothing changes
 abbrev pub clears : Numbers → Criteria → ChargePointState → Result Reply Refusal
 clears numbers criteria point =
     if list_any (matches criteria) point.book.rows
@@ -208,7 +208,7 @@ clears numbers criteria point =
     else Ok Unknown
 
 -- Start (OCPP 1.6, 4.8): transactions are numbered over the whole site. A retransmitted start
--- changes nothing. A transaction is at a connector of the point, and connector 0 is none.
+-- changes nothing. A transaction is at a connector of the point from 1 on.
 abbrev pub next_transaction : Numbers → ℤ
 next_transaction numbers = pos (numbers.transaction + 1)
 
@@ -240,7 +240,7 @@ stops numbers number point =
     then unless (version_refusal numbers) Ended
     else Ok NoSuch
 
--- Attach (OCPP-J 1.6, 3): the point has a new link, and none before it any more
+-- Attach (OCPP-J 1.6, 3): the point gets a new link, which replaces the one before
 abbrev pub refusal_to_attach : Numbers → Option Refusal
 refusal_to_attach numbers = if numbers.link == max_number then Some VersionsExhausted else None
 
@@ -255,7 +255,7 @@ sends_call (Some call) = Sent call
 abbrev pub sends : ChargePointState → Result Reply Refusal
 sends point = Ok (sends_call (sendable point.outbox))
 
--- Confirm: the call in flight has this number, and is done with
+-- Confirm: the call in flight, which must have this number, is removed
 abbrev pub confirms : ℕ → ChargePointState → Result Reply Refusal
 confirms number point =
     if is_number_in_flight point.outbox number then Ok Confirmed else Err NothingInFlight
@@ -264,8 +264,8 @@ confirms number point =
 abbrev pub loses : ChargePointState → Result Reply Refusal
 loses point = Ok LinkLost
 
--- Audit: the point is asked for its own schedule of a connector, 0 being the whole point, unless it
--- still has to answer the audit before. It is asked in the site's unit.
+-- Audit: the point's own schedule of a connector is requested, 0 being the whole point, unless it
+-- still has to answer the audit before. The request is in the site's unit.
 abbrev pub is_no_duration : ℕ → Bool
 is_no_duration duration = (duration == 0) || nat_lt max_duration duration
 
@@ -280,7 +280,7 @@ abbrev pub audits : SiteState → ℕ → ℕ → ChargePointState → Result Re
 audits site connector duration point =
     unless (refusal_to_audit connector duration point) (Audited point.outbox.next site.unit)
 
--- Judge: the audit of this number has no verdict yet, and what was judged is that audit
+-- Judge: the audit of this number has no verdict yet, and is the one that was judged
 abbrev pub judges_audit : Judgement → Option AuditState → Result Reply Refusal
 judges_audit judged None = Err UnknownRequest
 judges_audit judged (Some audit) =
@@ -289,7 +289,7 @@ judges_audit judged (Some audit) =
 abbrev pub judges : ℕ → Judgement → ChargePointState → Result Reply Refusal
 judges number judged point = judges_audit judged (unjudged number point.audit)
 
--- Status: the version of the store, how many calls the point hasn't confirmed, and its audit
+-- Status: the version of the store, the number of the point's unconfirmed calls, and its audit
 abbrev pub status_of : Numbers → ChargePointState → PointStatus
 status_of numbers point = record {
   version = numbers.version;
@@ -300,8 +300,8 @@ status_of numbers point = record {
 abbrev pub tells_status : Numbers → ChargePointState → Result Reply Refusal
 tells_status numbers point = Ok (Status (status_of numbers point))
 
--- RemoteStart (OCPP 1.6, 5.11): the point is asked to start a transaction at a connector, and
--- connector 0 is none. A profile that comes with it is a TxProfile in the site's unit.
+-- RemoteStart (OCPP 1.6, 5.11): the point is asked to start a transaction at a connector from 1 on.
+-- A profile that comes with it must be a TxProfile in the site's unit.
 abbrev pub refusal_of_profile : SiteState → Option Profile → Option Refusal
 refusal_of_profile site None = None
 refusal_of_profile site (Some profile) =
@@ -327,8 +327,8 @@ abbrev pub profile_at_start : ChargePointState → ℕ → Begin → Option Prof
 profile_at_start point connector begin =
     profile_for begin.id_tag (ended_start point.outbox point.waiting connector)
 
--- what a step does at its point, which is read from the point, the step and what is replied: no
--- other step with its reply does anything at a point
+-- The deed of a step at its point, which follows from the point, the step and its reply. No other
+-- step with its reply does anything at a point.
 abbrev pub deed : ChargePointState → Step → Reply → Option Deed
 deed point (steps.Install id row) Accepted = Some (Installs row)
 deed point (steps.Clear id criteria) Accepted = Some (Clears criteria)
@@ -349,19 +349,19 @@ deed point step reply = None
 
 -- ---- the whole state
 
--- what a step that is made replies, and the state after it
+-- the reply to a step that was made, and the state after it
 pub record Made : Type 0 where
   pub reply : Reply
   pub after : MachineState
 
--- it replies this and changes nothing
+-- this reply, without a change
 abbrev pub unchanged : MachineState → Reply → Made
 unchanged old reply = record { reply = reply; after = old }
 
 -- ---- where a step is made
 
--- the place of a point of the site; over a link, only where that is the point's present one. A
--- stranger has no link and no audit.
+-- The place of a point of the site; by a link, only if that is the point's present one. An unknown
+-- point has no link and no audit.
 abbrev pub found_place : MachineState → Via → Option ℕ → Result ℕ Refusal
 found_place old Name None = Err UnknownPoint
 found_place old Name (Some place) = Ok place
@@ -371,13 +371,13 @@ found_place old (Link link) (Some place) =
 found_place old Audit None = Err UnknownRequest
 found_place old Audit (Some place) = Ok place
 
--- while the central system isn't stopped
+-- the same, unless the central system is stopped
 abbrev pub place_for : MachineState → List ℕ → Via → Result ℕ Refusal
 place_for old point via =
     if old.is_stopped then Err refusals.Stopped
     else found_place old via (place_of old.site point)
 
--- what a step makes of the whole state that does something at the point at a place, or nothing
+-- the whole state after a step with a deed at the point at a place, or without one
 abbrev pub done_at : MachineState → ℕ → Reply → Option Deed → Made
 done_at old place reply None = unchanged old reply
 done_at old place reply (Some deed) = record {
@@ -393,7 +393,7 @@ made_at old step place reply = done_at old place reply (deed (point_at old place
 
 -- ---- requests for composite schedules (OCPP 1.6, 5.7)
 
--- Take: the request is kept with what the point has now. `seen` is the version that its asker saw.
+-- Take: the request is kept with the point's present book. `seen` is the version that its client saw.
 abbrev pub refusal_to_take : MachineState → Take → Option Refusal
 refusal_to_take old take =
     if nat_le max_requests (length old.requests) then Some TooManyOpen
@@ -425,7 +425,7 @@ takes old take = do
   ask ← ask_at old.site.unit (book_at old place) take
   unless (refusal_to_take old take) (taking old place ask)
 
--- Compile: the request has this answer now, which it had not before
+-- Compile: the request, which had no answer, has this one now
 abbrev pub compiles_kept : MachineState → ℕ → ScheduleAnswer → Option Kept → Result Made Refusal
 compiles_kept old number answer None = Err UnknownRequest
 compiles_kept old number answer (Some kept) =
@@ -438,8 +438,7 @@ compiles_kept old number answer (Some kept) =
 abbrev pub compiles : MachineState → ℕ → ScheduleAnswer → Result Made Refusal
 compiles old number answer = compiles_kept old number answer (request_of number old.requests)
 
--- Answer: the answer is handed out with the book and the `Ask` that it is for, and the request is
--- no longer kept
+-- Answer: the answer is handed out with its book and its `Ask`, and the request is removed
 abbrev pub answers_with : MachineState → Kept → Option ScheduleAnswer → Made
 answers_with old kept None = unchanged old NotYet
 answers_with old kept (Some answer) = record {
@@ -454,7 +453,7 @@ answers_kept old (Some kept) = Ok (answers_with old kept kept.answer)
 abbrev pub answers : MachineState → ℕ → Result Made Refusal
 answers old number = answers_kept old (request_of number old.requests)
 
--- Finish: nothing is changed or taken any more. A second one changes nothing.
+-- Finish: no more changes or Takes follow. A second one changes nothing.
 abbrev pub finishes : MachineState → Made
 finishes old =
     if old.is_stopped then unchanged old Finished
@@ -465,7 +464,7 @@ finishes old =
 
 -- ---- all steps
 
--- a step at a point: the point that it names, how it comes to it, and what it comes to there
+-- a step at a point: the point that it names, the way to it, and the decision there
 pub record PointStep : Type 0 where
   pub point : List ℕ
   pub via : Via
@@ -522,7 +521,7 @@ made_there old step at = do
   reply ← at.decided old.site old.numbers (point_at old place)
   Ok (made_at old step place reply)
 
--- What a step does. The answer is the compiler's, and only a Compile looks at it.
+-- The effect of a step. The answer is the compiler's, and only a Compile uses it.
 abbrev pub worked : ScheduleAnswer → MachineState → Step → Work → Result Made Refusal
 worked answer old step (AtPoint at) = made_there old step at
 worked answer old step (Takes take) = takes old take
@@ -533,7 +532,7 @@ worked answer old step Finishing = Ok (finishes old)
 abbrev pub stepped : ScheduleAnswer → MachineState → Step → Result Made Refusal
 stepped answer old step = worked answer old step (work step)
 
--- an answer that no step but a Compile is given
+-- the answer for every step other than a Compile, which ignores it
 abbrev pub no_answer : ScheduleAnswer
 no_answer = Err OutOfMemory
 
@@ -546,7 +545,7 @@ pub record Compiles (old : MachineState) (number : ℕ) (reply : Reply) (new : M
   pub right : IsCompiledFor kept.book kept.ask answer
   pub made : compiles old number answer ≡ Ok (record { reply = reply; after = new })
 
--- from one state a step leads to another, and replies
+-- a step leads from one state to another, with this reply
 abbrev pub Works : MachineState → Step → Work → Reply → MachineState → Type 0
 Works old step (Compiling number) reply new = Compiles old number reply new
 Works old step other reply new =
@@ -555,14 +554,14 @@ Works old step other reply new =
 abbrev pub Steps : MachineState → Step → Reply → MachineState → Type 0
 Steps old step reply new = Works old step (work step) reply new
 
--- ---- what would come of a step
+-- ---- the outlook of a step
 
 -- whether it would be an event, or why it would be refused
 abbrev pub outlook_of : MachineState → Result Made Refusal → Result Bool Refusal
 outlook_of old (Ok made) = Ok (is_event old made.reply)
 outlook_of old (Err refusal) = Err refusal
 
--- of a step, if memory lasts
+-- the outlook of a step, as if memory always lasted
 abbrev pub outlook : MachineState → Step → Result Bool Refusal
 outlook old step = outlook_of old (stepped no_answer old step)
 
@@ -572,18 +571,17 @@ abbrev pub cause_of : Result Made Refusal → Option Refusal
 cause_of (Ok made) = None
 cause_of (Err refusal) = Some refusal
 
--- why a step is refused, the first cause in the order above
+-- the refusal of a step: the first cause in the order above
 abbrev pub first_refusal : MachineState → Step → Option Refusal
 first_refusal old step = cause_of (stepped no_answer old step)
 
--- Send over this link sends nothing to the point of this identity: where it is made, it replies so
+-- Send over this link sends nothing to the point of this identity: if it is made, it replies Nothing
 -- and changes nothing.
 abbrev pub SendsNothing : MachineState → List ℕ → ℕ → Type 0
 SendsNothing old point link =
     IfOk (stepped no_answer old (steps.Send point link)) (λ made. made ≡ unchanged old Nothing)
 
--- why a step is refused: its first cause, or else, where it would do what wants memory, that memory
--- ran out
+-- the refusal of a step: its first cause, or else, if it needs memory, OutOfMemory
 abbrev pub IsRefusalOf : Result Made Refusal → Refusal → Type 0
 IsRefusalOf (Err cause) refusal = refusal ≡ cause
 IsRefusalOf (Ok made) refusal = (wants_memory made.reply ≡ true) × (refusal ≡ OutOfMemory)
@@ -597,13 +595,13 @@ pub record IsRefused (old : MachineState) (step : Step) (refused : Refused) (new
 
 -- ---- the laws of replies
 
--- each step has one of its own
+-- each step has only replies of its own
 abbrev pub RepliesAreTheirSteps : Type 0
 RepliesAreTheirSteps =
     (old : MachineState) (step : Step) (reply : Reply) (new : MachineState)
     → Steps old step reply new → is_reply_to step reply ≡ true
 
--- what is answered without an event wants no memory
+-- an answer without an event needs no memory
 abbrev pub OnlyEventsWantMemory : Type 0
 OnlyEventsWantMemory =
     (old : MachineState) (reply : Reply) → wants_memory reply ≡ true → is_event old reply ≡ true

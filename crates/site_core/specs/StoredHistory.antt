@@ -1,5 +1,5 @@
--- Histories as they are stored: of each event its step, and for a Compile the answer that it
--- brought. Then a history leads to one state, its replay, and every reply is read from there.
+-- Histories as they are stored: the step of each event, and for a Compile the answer that it brought.
+-- So a history leads to one state, its replay, which determines every reply.
 use Rattle.std.specs.Prelude.{◌≡◌, ℕ, List, [], ◌∷◌, ◌++◌, Some, Result, Ok, IfOk}
 use Rattle.ocpp_scalars.specs.declared.refusal.Refusal.{Refusal}
 use Rattle.ocpp_scalars.specs.ResultSteps.{◌>>=◌}
@@ -12,12 +12,12 @@ use Rattle.site_core.specs.Requests.{request_of}
 use Rattle.site_core.specs.Step.{Made, stepped}
 use Rattle.site_core.specs.History.{Event, Legal}
 
--- an event as it is stored: no step but a Compile looks at the answer
+-- an event as it is stored: only a Compile uses the answer
 pub record StoredEvent : Type 0 where
   pub step : Step
   pub answer : ScheduleAnswer
 
--- what comes of it in a state
+-- its result in a state
 abbrev pub made_of : MachineState → StoredEvent → Result Made Refusal
 made_of old stored = stepped stored.answer old stored.step
 
@@ -31,7 +31,7 @@ pub record Replay : Type 0 where
 abbrev pub event_of : Step → Reply → Event
 event_of step reply = record { step = step; reply = reply }
 
--- what it is from a state on; where one of the steps would be refused there, it is none
+-- the replay from a state on; there is none if one of the steps would be refused
 abbrev pub replayed : MachineState → List StoredEvent → Result Replay Refusal
 replayed old [] = Ok (record { events = []; after = old })
 replayed old (stored ∷ later) = do
@@ -41,14 +41,14 @@ replayed old (stored ∷ later) = do
 
 -- ---- answers
 
--- where it compiles a kept request, a compiler may give it this answer
+-- if the event compiles a kept request, a compiler may give this answer to it
 abbrev pub MayBeGiven : MachineState → StoredEvent → Type 0
 MayBeGiven old stored =
     (number : ℕ) (kept : Kept)
     → stored.step ≡ steps.Compile number → request_of number old.requests ≡ Some kept
     → IsCompiledFor kept.book kept.ask stored.answer
 
--- and so it is along a stored history
+-- the same along a stored history
 abbrev pub AllMayBeGiven : MachineState → List StoredEvent → Type 0
 AllMayBeGiven old [] = Unit {0}
 AllMayBeGiven old (stored ∷ later) =
@@ -69,7 +69,7 @@ ReplaysAreOne =
     (old : MachineState) (stored : List StoredEvent) (one other : Replay)
     → replayed old stored ≡ Ok one → replayed old stored ≡ Ok other → one ≡ other
 
--- what is replayed is a legal history
+-- each replay is a legal history
 abbrev pub ReplaysAreLegal : Type 0
 ReplaysAreLegal =
     (old : MachineState) (events : List Event) (new : MachineState) (stored : List StoredEvent)
@@ -81,7 +81,7 @@ HistoriesCanBeStored =
     (old : MachineState) (events : List Event) (new : MachineState) → Legal old events new
     → (stored : List StoredEvent) × IsStoredAs old events new stored
 
--- one event more is replayed after those before it
+-- one more event is replayed after those before it
 abbrev pub ReplaysGoOn : Type 0
 ReplaysGoOn =
     (old : MachineState) (events : List Event) (middle : MachineState) (stored : List StoredEvent)

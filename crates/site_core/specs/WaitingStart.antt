@@ -1,5 +1,5 @@
--- Starts that an operator asked a charge point for (OCPP 1.6, 5.11). Each waits beside the point's
--- book until a transaction begins at its connector, and may have a profile for that transaction.
+-- Starts that an operator requested from a charge point (OCPP 1.6, 5.11). Each waits beside the
+-- point's book until a transaction begins at its connector, and may have a profile for it.
 use Rattle.std.specs.Prelude.{ℕ, ◌==◌, Bool, true, false, not, ◌||◌, List, [], ◌∷◌, ◌++◌, filter, Option, Some, None, option_and_then, slice_get, if◌then◌else◌}
 use Rattle.std.specs.List.{position}
 use Rattle.std.specs.Str.{str_eq_ignore_ascii_case}
@@ -28,8 +28,8 @@ with_waiting starts new = without_waiting starts new.connector ++ new ∷ []
 abbrev pub is_of_call : ℕ → WaitingStart → Bool
 is_of_call number start = start.call == number
 
--- The point replied to the call of a number. Where it doesn't accept, the start that came with that
--- call is dropped; of the replies to other calls there is none to drop.
+-- After the point replied to the call of a number. If it doesn't accept, the start that came with
+-- that call is dropped; other calls came with none.
 abbrev pub after_reply : ℕ → Bool → List WaitingStart → List WaitingStart
 after_reply number true starts = starts
 after_reply number false starts = filter (λ start. not (is_of_call number start)) starts
@@ -45,19 +45,19 @@ abbrev pub if_gone_out : OutboxState → Option WaitingStart → Option WaitingS
 if_gone_out outbox None = None
 if_gone_out outbox (Some start) = if has_gone_out outbox start.call then Some start else None
 
--- The start that a transaction at a connector ends, whoever begins it: the one that waits there,
+-- The start that a transaction at a connector ends, whatever its idTag: the one that waits there,
 -- unless its call still waits, too.
 abbrev pub ended_start : OutboxState → List WaitingStart → ℕ → Option WaitingStart
 ended_start outbox starts connector = if_gone_out outbox (waiting_at starts connector)
 
--- The profile with which the transaction of an idTag begins: that of the start, where it is for
--- this idTag. ASCII letters of either case are equal (chapter 7, IdToken: CiString20Type).
+-- The profile with which the transaction of an idTag begins: that of the start, if it is for this
+-- idTag. ASCII letters of either case are equal (chapter 7, IdToken: CiString20Type).
 abbrev pub profile_for : List ℕ → Option WaitingStart → Option Profile
 profile_for id_tag None = None
 profile_for id_tag (Some start) =
     if str_eq_ignore_ascii_case start.id_tag id_tag then start.profile else None
 
--- those that wait then
+-- the starts that still wait
 abbrev pub without_ended : Option WaitingStart → List WaitingStart → List WaitingStart
 without_ended None starts = starts
 without_ended (Some ended) starts = without_waiting starts ended.connector

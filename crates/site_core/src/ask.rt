@@ -9,8 +9,9 @@ use ocpp_scalars::Refusal;
 use point_book::PointBook;
 use profile::Unit;
 
-/// The `Ask` of a Take at a point with this book, on a site with limits in this unit. Or the first
-/// cause why there is none: `UnknownConnector`, `WrongUnit`, `BadDuration` or `PastCalendar`.
+/// Returns the `Ask` of a Take at a point with this book, on a site with limits in this unit. If
+/// there is none, the refusal is the first cause: `UnknownConnector`, `WrongUnit`, `BadDuration` or
+/// `PastCalendar`.
 pub(crate) fn ask_at(unit: Unit, book: &PointBook, take: &Take) -> Result<Ask, Refusal>
     ensures ask { result ≡ ask_at unit book.now take.now }
     ensures connector { IfOk result (λ ask. ask.connector ≤ length book.now.ceilings) }

@@ -11,8 +11,8 @@ use std::alloc::AllocError;
 use std::marker::Model;
 use sweep_compiler::{AuditJob, Judged, Verdict};
 
-/// The audit of a charge point (this system's own): what it was asked, with what it had then, and
-/// how its reply was judged.
+/// The audit of a charge point (this system's own): the request to it, with the book that it had
+/// then, and the verdict on its reply.
 #[derive(Drop)]
 pub struct PointAudit {
     /// The number of its call.
@@ -42,14 +42,14 @@ impl PointAudit {
         self.number
     }
 
-    /// What the point was asked, and what it had then.
+    /// Returns the request to the point, with the book that it had then.
     pub fn asked(&self) -> &AuditJob
         ensures { result.now ≡ self.now.asked }
     {
         &self.asked
     }
 
-    /// A copy, which shares the book.
+    /// Copies the audit, sharing the book.
     pub(crate) fn copy(&self) -> Result<PointAudit, AllocError>
         ensures { IfOk result (λ copy. copy ≡ self.now) }
     {
@@ -60,7 +60,8 @@ impl PointAudit {
         })
     }
 
-    /// Whether what was judged is this audit. With what is so of whatever was judged.
+    /// Whether the judged audit is this one. Also shows that the verdict of any `Judged` is right
+    /// for the audit that was judged.
     pub fn is_judged_by(&self, judged: &Judged) -> bool
         ensures same { result ≡ same_request self.now.asked judged.now.audit }
         ensures right { IsJudged judged.now.audit judged.now.verdict judged.now.short }
@@ -68,18 +69,20 @@ impl PointAudit {
         self.asked.same(judged.audit())
     }
 
-    /// The verdict that is kept, where the point has this book now.
+    /// Returns the verdict to keep, if the point has this book now.
     pub fn kept_verdict(&self, now: &PointBook, verdict: Verdict) -> Verdict
         ensures { result ≡ kept_verdict self.now.asked.book now.now.transactions verdict }
     {
         match verdict {
+            // A schedule depends on the transactions: once they have changed, comparing it with the
+            // point's says nothing about the point.
             Verdict::Agrees | Verdict::Differs if !self.has_transactions_of(now) =>
                 Verdict::Unsettled,
             _ => verdict,
         }
     }
 
-    /// Whether the point had the transactions of this book when it was asked.
+    /// Whether the audited book has the same transactions as this one.
     fn has_transactions_of(&self, now: &PointBook) -> bool
         ensures { result
             ≡ same_transactions self.now.asked.book.transactions now.now.transactions }
@@ -87,7 +90,7 @@ impl PointAudit {
         self.asked.book().same_transactions(now)
     }
 
-    /// What is told of it.
+    /// Returns the outcome of the audit, as a status reports it.
     pub fn outcome(&self) -> AuditOutcome
         ensures { result ≡ outcome_of_verdict self.now.verdict }
     {

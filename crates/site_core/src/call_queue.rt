@@ -9,15 +9,16 @@ use std::collections::LinkedList;
 use std::marker::Model;
 use std::sync::Arc;
 
-/// Calls that wait one after another. Those that were gathered are shared with the copies made
-/// since, so that a copy wants no memory for them.
+/// Calls that wait one after another. Gathered ones are shared with copies made since, so that a
+/// copy needs no memory for them.
 #[derive(Drop)]
 pub(crate) struct CallQueue {
     /// The calls up to the last gathering.
     gathered: Arc<Vec<CallBody>>,
-    /// How many of these have left.
+    /// The number of gathered calls that have left.
     left: usize,
-    /// The calls since. A linked list, since each brings its place along.
+    /// The calls since then.
+    // A linked list takes a node made before; a `Vec` could fail to grow after the book changed.
     later: LinkedList<CallBody>,
 }
 
@@ -37,7 +38,7 @@ impl Model for CallQueue {
 }
 
 impl CallQueue {
-    /// A queue of one call.
+    /// Makes a queue of one call.
     pub fn new(alloc: Global, body: CallBody) -> Result<CallQueue, AllocError>
         ensures { IfOk result (λ queue. queue ≡ body ∷ []) }
     {
@@ -50,7 +51,7 @@ impl CallQueue {
         })
     }
 
-    /// A copy, which shares the calls that were gathered.
+    /// Copies the queue, sharing the gathered calls.
     pub fn copy(&self) -> Result<CallQueue, AllocError>
         ensures { IfOk result (λ copy. copy ≡ self.now) }
     {
@@ -61,12 +62,12 @@ impl CallQueue {
         })
     }
 
-    /// Where its memory comes from.
+    /// Returns the allocator of its memory.
     pub fn allocator(&self) -> Global {
         *self.later.allocator()
     }
 
-    /// How many calls wait.
+    /// Returns the number of calls that wait.
     pub fn len(&self) -> usize
         ensures value { result ≡ length self.now }
         ensures few { length self.now ≤ max_calls }
@@ -74,7 +75,7 @@ impl CallQueue {
         self.gathered.len() - self.left + self.later.len()
     }
 
-    /// The first call.
+    /// Returns the first call.
     pub fn front(&self) -> Option<&CallBody>
         ensures variant { IsSome result ↔ (0 < length self.now) }
         ensures lookup { IfSome result (λ body. body.now ≡ slice_index_or self.now 0 body.now) }
@@ -106,11 +107,12 @@ impl CallQueue {
         }
     }
 
-    /// Gathers the calls, so that copies share them, where there are new ones or half of those that
-    /// were gathered have left, and memory lasts. The calls stay the same.
+    /// Gathers the calls, so that copies share them, if there are new ones, or if more than half of
+    /// the gathered ones have left. Without memory it does nothing. The calls stay the same.
     pub fn gather(&mut self)
         ensures { self.new ≡ self.old }
     {
+        // Gathering copies all calls: without new ones, only once it frees more than it copies.
         if self.later.is_empty() && self.left <= self.gathered.len() - self.left {
             return;
         }
@@ -126,7 +128,7 @@ impl CallQueue {
         self.later = LinkedList::new(alloc);
     }
 
-    /// A copy of all calls.
+    /// Copies all calls.
     pub fn bodies(&self, alloc: Global) -> Result<Vec<CallBody>, AllocError>
         ensures { IfOk result (λ bodies. bodies.items ≡ self.now) }
     {

@@ -1,4 +1,4 @@
-//! What the central system keeps of a charge point, and what a step does there: a method sees
+//! The state that the central system keeps of a charge point, and the steps there: a method sees
 //! neither other points nor requests. A step is decided first, without a change, and then done.
 
 ghost use Rattle.std.specs.Option.{option_copied};
@@ -41,8 +41,8 @@ use std::marker::Model;
 use sweep_compiler::{AuditJob, Judged, Verdict};
 use transactions::{Began, Begin};
 
-/// What the central system keeps of a charge point: its profiles and transactions, the link to it,
-/// the calls that it hasn't confirmed, its audit, and the starts that it was asked for.
+/// The state that the central system keeps of a charge point: its profiles and transactions, the
+/// link to it, its unconfirmed calls, its audit, and the starts that an operator requested.
 #[derive(Drop)]
 pub(crate) struct ChargePoint {
     alloc: Global,
@@ -66,7 +66,7 @@ impl Model for ChargePoint {
 }
 
 impl ChargePoint {
-    /// A point of the site file with nothing installed, no active transaction and no link.
+    /// Makes a point of the site file with nothing installed, no active transaction and no link.
     pub fn new(alloc: Global, point: &SitePoint<'_>) -> Result<ChargePoint, AllocError>
         ensures { IfOk result (λ kept. kept ≡ opening_point (point_entry point.now)) }
     {
@@ -81,7 +81,7 @@ impl ChargePoint {
         })
     }
 
-    /// A copy, which shares the book.
+    /// Copies the point, sharing the book.
     pub fn copy(&self) -> Result<ChargePoint, AllocError>
         ensures { IfOk result (λ copy. copy ≡ self.now) }
     {
@@ -94,29 +94,29 @@ impl ChargePoint {
         })
     }
 
-    /// Gathers the calls to the point, as far as memory lasts, so that copies share them. Nothing
-    /// else is changed.
+    /// Gathers the calls to the point, if memory lasts, so that copies share them. Changes nothing
+    /// else.
     pub fn gather_calls(&mut self)
         ensures { self.new ≡ self.old }
     {
         self.outbox.gather_calls();
     }
 
-    /// What the point has.
+    /// Returns the point's book.
     pub fn book(&self) -> &PointBook
         ensures { result.now ≡ self.now.book }
     {
         self.book.book()
     }
 
-    /// What the point has, with one owner more. Copies nothing.
+    /// Returns the point's book, with one more owner. Copies nothing.
     pub fn share_book(&self) -> Result<SharedBook, AllocError>
         ensures { IfOk result (λ shared. shared ≡ self.now.book) }
     {
         self.book.share()
     }
 
-    /// The calls to the point, and the link to it.
+    /// Returns the calls to the point, and the link to it.
     pub fn outbox(&self) -> &Outbox
         ensures { result.now ≡ self.now.outbox }
     {
@@ -125,8 +125,8 @@ impl ChargePoint {
 
     // ---- all steps
 
-    /// What a step at this point comes to, or why it is refused, if memory lasts. Allocates
-    /// nothing.
+    /// Decides a step at this point, or returns the reason why it is refused, as if memory always
+    /// lasted. Allocates nothing.
     pub fn decide(&self, site: &Site, numbers: &Numbers, step: &Step) -> Result<Decision, Refusal>
         requires { IsAtPoint (work step.now) }
         ensures { IsDecided (work step.now) site.now numbers.now self.now result }
@@ -160,8 +160,8 @@ impl ChargePoint {
         }
     }
 
-    /// Makes a step at this point, or says why not: then nothing has changed. The refusal is the
-    /// one by which it is decided, or else `OutOfMemory`.
+    /// Makes a step at this point. On a refusal nothing has changed. The refusal is the decision's,
+    /// or else `OutOfMemory`.
     pub fn make(&mut self, site: &Site, numbers: &Numbers, step: &Step) -> Result<Reply, Refusal>
         requires named { IsAtPoint (work step.now) }
         requires numbers { AreNumbers numbers.now }
@@ -239,7 +239,7 @@ impl ChargePoint {
         }
     }
 
-    /// Installs a copy of a row, and adds the call that tells so.
+    /// Installs a copy of a row, and adds the call that installs it at the point.
     fn install(
         &mut self,
         site: &Site,
@@ -255,7 +255,7 @@ impl ChargePoint {
         match self.decide_install(site, numbers, point, row)? {
             Decision::Answers(reply) => Ok(reply),
             Decision::Does => {
-                // The call's memory comes first, so that a refusal leaves the book.
+                // The call's memory comes first, so that a refusal leaves the book unchanged.
                 let call = call_of(self.alloc, row)?;
                 let row = row.copy()?;
                 self.book.install(row)?;
@@ -273,6 +273,7 @@ impl ChargePoint {
         ensures room { OnDoes result (length self.now.outbox.calls < max_calls) }
         ensures number { OnDoes result (self.now.outbox.next ≤ max_number) }
     {
+        // Before the checks of room: an answer without a change adds no call and draws no version.
         if !self.book().has_match(criteria) {
             return Ok(Decision::Answers(Reply::Unknown));
         }
@@ -282,8 +283,8 @@ impl ChargePoint {
         }
     }
 
-    /// Removes the profiles that match each criterion that is given, and adds the call that tells
-    /// so.
+    /// Removes the profiles that match each given criterion, and adds the call that clears them at
+    /// the point.
     fn clear(
         &mut self,
         numbers: &Numbers,
@@ -335,9 +336,9 @@ impl ChargePoint {
         }
     }
 
-    /// Begins a transaction with the next number, with a copy of what began, or answers a
-    /// retransmitted start. A start that waits at the connector ends, and where it is for this
-    /// idTag, the transaction begins with its profile.
+    /// Begins a transaction with the next number and a copy of `begin`, or answers a retransmitted
+    /// start. A start that waits at the connector ends. If it is for this idTag, the transaction
+    /// begins with its profile.
     fn start(
         &mut self,
         numbers: &Numbers,
@@ -355,6 +356,7 @@ impl ChargePoint {
                 let number = numbers.next_transaction();
                 let begin = begin.copy(self.alloc)?;
                 let profile = self.profile_at_start(connector, &begin)?;
+                // The waiting start ends last, since the book may still run out of memory.
                 self.book.start(connector, begin, number, profile)?;
                 self.end_start(connector);
                 Ok(Reply::Started(number))
@@ -362,7 +364,7 @@ impl ChargePoint {
         }
     }
 
-    /// A copy of the profile with which a transaction begins at a connector.
+    /// Copies the profile with which a transaction begins at a connector.
     fn profile_at_start(&self, connector: u32, begin: &Begin) -> Result<Option<Profile>, AllocError>
         ensures { IfOk result
             (λ profile. profile ≡ profile_at_start self.now connector begin.now) }
@@ -373,18 +375,20 @@ impl ChargePoint {
         }
     }
 
-    /// The start that a transaction at a connector ends: it waits there, and its call has gone out.
+    /// Returns the start that a transaction at a connector ends: it waits there, and its call has
+    /// gone out.
     fn ended_start(&self, connector: u32) -> Option<&WaitingStart>
         ensures { option_copied result
             ≡ ended_start self.now.outbox self.now.waiting connector }
     {
         match self.waiting.at(connector) {
+            // Before its call went out, the point can't have begun this transaction for it.
             Some(start) if self.has_gone_out(start.call) => Some(start),
             _ => None,
         }
     }
 
-    /// The start that a transaction at a connector ends waits no more.
+    /// Removes the waiting start that a transaction at a connector ends.
     fn end_start(&mut self, connector: u32)
         ensures { self.new ≡ record self.old {
           waiting = without_ended (ended_start self.old.outbox self.old.waiting connector)
@@ -419,7 +423,7 @@ impl ChargePoint {
         }
     }
 
-    /// Ends the transaction of this number, where it is active.
+    /// Ends the transaction of this number, if it is active.
     fn stop(&mut self, numbers: &Numbers, point: &PointId, number: i32) -> Result<Reply, Refusal>
         ensures { IsMadeAt (stops numbers.now number self.old)
             (steps.Stop point.now number) self.old result self.new }
@@ -460,7 +464,7 @@ impl ChargePoint {
         }
     }
 
-    /// The link to the point is lost. A call in flight waits again.
+    /// Removes the link to the point. A call in flight waits again.
     fn lose(&mut self, point: &PointId, link: u64) -> Reply
         ensures { IsMadeAt (loses self.old) (steps.Lost point.now link)
             self.old (Ok result) self.new }
@@ -481,7 +485,7 @@ impl ChargePoint {
         }
     }
 
-    /// Sends the first call, unless one is in flight. Only its copy wants memory.
+    /// Sends the first call, unless one is in flight. Only its copy needs memory.
     fn send(&mut self, point: &PointId, link: u64) -> Result<Reply, Refusal>
         ensures { IsMadeAt (sends self.old) (steps.Send point.now link) self.old result self.new }
     {
@@ -501,8 +505,8 @@ impl ChargePoint {
         }
     }
 
-    /// Takes note that the point has answered the call of this number. A start that came with it
-    /// waits no more if it isn't accepted.
+    /// Records that the point has answered the call of this number. If the answer isn't Accepted, a
+    /// start that came with the call is dropped.
     fn confirm(
         &mut self,
         point: &PointId,
@@ -547,7 +551,7 @@ impl ChargePoint {
         }
     }
 
-    /// Asks the point for its schedule, and keeps what it has now, in place of an audit before.
+    /// Requests the point's schedule, and keeps its present book, in place of an earlier audit.
     fn begin_audit(
         &mut self,
         site: &Site,
@@ -562,6 +566,8 @@ impl ChargePoint {
             Decision::Answers(reply) => Ok(reply),
             Decision::Does => {
                 let unit = site.unit();
+                // The reply is compared with the book of this moment: later installs may not have
+                // reached the point when it replies.
                 let book = self.book.share()?.into_arc();
                 let call = audit_call(self.alloc, connector, duration, unit)?;
                 let number = self.outbox.next_number();
@@ -576,8 +582,8 @@ impl ChargePoint {
         }
     }
 
-    /// Why a verdict isn't kept: `UnknownRequest`, where the audit of this number isn't the
-    /// present one or has its verdict, and then `StrangerInput`.
+    /// Checks whether a verdict is kept. The refusals are `UnknownRequest`, if the audit of this
+    /// number isn't the present one or has its verdict, and then `StrangerInput`.
     fn check_judged(&self, call: u64, judged: &Judged) -> Result<(), Refusal>
         ensures kept { OnOk result (judges call judged.now self.now ≡ Ok Reply.VerdictKept) }
         ensures refused { IfErr result (λ refusal. judges call judged.now self.now ≡ Err refusal) }
@@ -630,7 +636,7 @@ impl ChargePoint {
         }
     }
 
-    /// What is told of the point.
+    /// Returns the status of the point.
     fn status(&self, numbers: &Numbers) -> PointStatus
         ensures { result ≡ status_of numbers.now self.now }
     {
@@ -644,7 +650,7 @@ impl ChargePoint {
         }
     }
 
-    /// Its audit, while the call of that hasn't been confirmed.
+    /// Whether the call of the point's audit is still unconfirmed.
     fn is_audit_open(&self) -> bool
         ensures { result ≡ is_open_among self.now.outbox.calls self.now.audit }
     {
@@ -654,14 +660,14 @@ impl ChargePoint {
         }
     }
 
-    /// Its audit, if it was audited.
+    /// Returns the point's audit, if it was audited.
     pub fn audit(&self) -> Option<&PointAudit>
         ensures { option_map (λ audit. audit.now) result ≡ self.now.audit }
     {
         self.audit.as_ref()
     }
 
-    /// The audit whose call has this number, while it has no verdict.
+    /// Returns the audit whose call has this number, while it has no verdict.
     pub fn unjudged(&self, call: u64) -> Option<&PointAudit>
         ensures { option_map (λ audit. audit.now) result ≡ unjudged call self.now.audit }
     {
@@ -698,7 +704,8 @@ impl ChargePoint {
         }
     }
 
-    /// Asks the point to start a transaction. The start waits, in place of one at its connector.
+    /// Adds the call that asks the point to start a transaction. The start waits, in place of an
+    /// earlier one at its connector.
     fn remote_start(
         &mut self,
         site: &Site,
@@ -729,7 +736,7 @@ impl ChargePoint {
         }
     }
 
-    /// The starts that wait, in the order in which they were asked for.
+    /// Returns the starts that wait, in the order of their requests.
     pub fn waiting_starts(&self) -> &[WaitingStart]
         ensures { result.now ≡ self.now.waiting }
     {
@@ -738,7 +745,7 @@ impl ChargePoint {
 
     // ---- all calls
 
-    /// Why no call is added to those that wait for the point.
+    /// Returns the reason why no call can be added for the point, if there is one.
     fn refusal_to_add(&self) -> Option<Refusal>
         ensures refusal { result ≡ refusal_to_add self.now.outbox }
         ensures room { IfNone result (length self.now.outbox.calls < max_calls) }
@@ -753,7 +760,7 @@ impl ChargePoint {
         None
     }
 
-    /// Why no call that tells of a change is added to those that wait for the point.
+    /// Returns the reason why no call of a change can be added for the point, if there is one.
     fn refusal_to_call(&self, numbers: &Numbers) -> Option<Refusal>
         ensures refusal { result ≡ refusal_to_call numbers.now self.now }
         ensures room { IfNone result (length self.now.outbox.calls < max_calls) }
@@ -766,7 +773,7 @@ impl ChargePoint {
     }
 }
 
-/// The call that tells a point of the install of a row.
+/// Makes the call that installs a row at a point.
 fn call_of(alloc: Global, row: &Row) -> Result<PreparedCall, AllocError>
     ensures { IfOk result (λ call. call ≡ CallBody.Set row.now.connector row.now.profile) }
 {
@@ -780,7 +787,7 @@ fn call_of(alloc: Global, row: &Row) -> Result<PreparedCall, AllocError>
     }
 }
 
-/// The call that asks a point for its schedule.
+/// Makes the call that requests a point's schedule.
 fn audit_call(
     alloc: Global,
     connector: u32,
@@ -800,7 +807,7 @@ fn audit_call(
     }
 }
 
-/// The call that asks a point to start a transaction.
+/// Makes the call that asks a point to start a transaction.
 fn remote_start_call(
     alloc: Global,
     connector: u32,
@@ -821,7 +828,8 @@ fn remote_start_call(
     }
 }
 
-/// Why no transaction begins with a profile: `WrongUnit`, and then `NotTxProfile`.
+/// Returns the reason why no transaction can begin with a profile: `WrongUnit`, or else
+/// `NotTxProfile`.
 fn refusal_of_profile(site: &Site, profile: &Option<Profile>) -> Option<Refusal>
     ensures { result ≡ refusal_of_profile site.now profile.now }
 {

@@ -8,7 +8,7 @@ use crate::charge_point::ChargePoint;
 use site_rules::Site;
 use std::alloc::{AllocError, Global};
 
-/// The points of a site with nothing installed, no active transaction and no link.
+/// Makes the points of a site with nothing installed, no active transaction and no link.
 pub(crate) fn opening_points(alloc: Global, site: &Site) -> Result<Vec<ChargePoint>, AllocError>
     ensures { IfOk result (λ points. points.items ≡ map opening_point site.now.points) }
 {
@@ -19,7 +19,7 @@ pub(crate) fn opening_points(alloc: Global, site: &Site) -> Result<Vec<ChargePoi
     Ok(points)
 }
 
-/// A copy, which shares the points' books.
+/// Copies the points, sharing their books.
 pub(crate) fn copy_of_points(
     alloc: Global,
     points: &[ChargePoint],
@@ -33,7 +33,7 @@ pub(crate) fn copy_of_points(
     Ok(copies)
 }
 
-/// Gathers the calls to each point, as far as memory lasts, so that copies share them.
+/// Gathers the calls to each point, if memory lasts, so that copies share them.
 pub(crate) fn gather_calls(points: &mut Vec<ChargePoint>)
     ensures { points.new.items ≡ points.old.items }
 {
@@ -42,7 +42,7 @@ pub(crate) fn gather_calls(points: &mut Vec<ChargePoint>)
     }
 }
 
-/// The point at a place.
+/// Returns the point at a place.
 pub(crate) fn point_at(points: &Vec<ChargePoint>, place: usize) -> &ChargePoint
     requires { place < length points.now.items }
     ensures { result.now ≡ point_in points.now.items place }

@@ -1,11 +1,11 @@
-//! What a step at a point comes to, before anything is done.
+//! The decision on a step at a point, before anything is done.
 
 use crate::reply::Reply;
 
-/// What a step at a point comes to.
+/// The decision on a step at a point that isn't refused.
 #[derive(Drop)]
 pub(crate) enum Decision {
-    /// Something is done.
+    /// The step is an event.
     Does,
     /// Nothing changes, and this is the reply.
     Answers(Reply),

@@ -41,8 +41,8 @@ pub fn answers_follow_one_take()
 {}
 
 /// The law that each answer that is handed out is right, in every legal history from an opening
-/// state. It is right for what the point of that one Take had when the Take was made, and for its
-/// `Ask`.
+/// state. It is right for the `Ask` of its one Take, and for the book that the point had when that
+/// was made.
 pub fn answers_are_right()
     ensures { (site : SiteState) (numbers : Numbers) (earlier later : List Event) (number : ℕ)
         (book : BookState) (ask : Ask) (answer : ScheduleAnswer) (new : MachineState)
@@ -52,14 +52,15 @@ pub fn answers_are_right()
 {}
 
 /// The headline. In every run from an opening state, each schedule that is handed out is right for
-/// what its point had when it was asked. The run may have any steps, in any order.
+/// the book that its point had when the request was taken. The run may have any steps, in any
+/// order.
 pub fn answered_schedules_are_right()
     ensures { (site : SiteState) (numbers : Numbers) (steps : List Step) (outcomes : List Outcome)
         (state : MachineState) → Runs (opening_at site numbers) steps outcomes state
         → AnswersAreRight (opening_at site numbers) steps outcomes }
 {}
 
-/// The law that a run after a run is one run of the steps of both: a machine may be run in parts.
+/// The law that a run after another is one run of the steps of both: a machine may run in parts.
 pub fn runs_join()
     ensures { (old middle new : MachineState) (steps more : List Step)
         (outcomes others : List Outcome)
@@ -67,16 +68,16 @@ pub fn runs_join()
         → Runs old (steps ++ more) (outcomes ++ others) new }
 {}
 
-/// The law that what is answered without an event changes nothing: of the steps that are made, only
-/// the events lead to another state.
+/// The law that an answer without an event changes nothing: of the steps that are made, only events
+/// lead to another state.
 pub fn only_events_change_the_state()
     ensures { (old new : MachineState) (step : Step) (reply : Reply)
         → Steps old step reply new → is_event old reply ≡ false → new ≡ old }
 {}
 
-/// The laws of stored histories, in which a Compile has the answer that it brought: each has one
-/// replay, so one state at its end. The replay is a legal history, where a compiler may give these
-/// answers, and every legal history is the replay of a stored one. An event more is replayed after
+/// The laws of stored histories, in which a Compile has the answer that it brought. Each has one
+/// replay, and so one state at its end. The replay is a legal history if a compiler may give these
+/// answers, and every legal history is the replay of a stored one. One more event is replayed after
 /// those before it.
 pub fn stored_histories_replay()
     ensures one { ReplaysAreOne }
@@ -91,15 +92,15 @@ pub fn runs_keep_the_site()
         → Runs old steps outcomes new → new.site ≡ old.site }
 {}
 
-/// The law that what the points have after a legal history is determined by its events. Two states
-/// that it may lead to differ only in answers that aren't handed out yet, and have the same points.
+/// The law that the events of a legal history determine the points after it. Two states that it may
+/// lead to have the same points, and differ only in answers that aren't handed out yet.
 pub fn points_follow_events()
     ensures { (old one other : MachineState) (events : List Event)
         → Legal old events one → Legal old events other → one.points ≡ other.points }
 {}
 
 /// The law that no request is lost and none is answered twice. In every legal history from an
-/// opening state a number is taken once at most, and then it is answered or still kept.
+/// opening state a number is taken at most once, and then its request is answered or still kept.
 pub fn requests_are_answered_once()
     ensures once { (site : SiteState) (numbers : Numbers) (events : List Event)
         (state : MachineState) → Legal (opening_at site numbers) events state
@@ -110,8 +111,8 @@ pub fn requests_are_answered_once()
         → takes_of number events ≡ answers_of number events + kept_of number state.requests }
 {}
 
-/// The law that a request that has its answer keeps it, with its book and its `Ask`, until that
-/// answer is handed out.
+/// The law that a request with an answer keeps it, with its book and its `Ask`, until the answer is
+/// handed out.
 pub fn answers_stay()
     ensures { (old new : MachineState) (events : List Event) (number : ℕ) (kept : Kept)
         (answer : ScheduleAnswer) → Legal old events new
@@ -120,18 +121,19 @@ pub fn answers_stay()
         ⊎ Contains events (answered_event number kept.book kept.ask answer) }
 {}
 
-/// The law that each request that is kept has its answer once the central system is stopped.
+/// The law that each kept request has its answer once the central system is stopped.
 pub fn stopped_requests_are_answered()
     ensures { (site : SiteState) (numbers : Numbers) (events : List Event) (state : MachineState)
         → Legal (opening_at site numbers) events state → IsTrue state.is_stopped
         → All IsAnswered state.requests }
 {}
 
-/// The laws of requests from any state that keeps what is right, as the opening does, along every
-/// legal history. It leads to such a state again. Each kept request has the book that its point had
-/// at its Take, or that the old state kept for it. Each answer that is handed out is right for that
-/// book and the `Ask`. Once the central system is stopped, each kept request has its answer, where
-/// so it was at first. And from whatever state, no request is lost and none is answered twice.
+/// The laws of requests along every legal history, from any state in which all kept requests are
+/// right, as at the opening. The history leads to such a state again. Each kept request has the
+/// book that its point had at its Take, or that the old state kept for it. Each answer that is
+/// handed out is right for that book and the `Ask`. Once the central system is stopped, each kept
+/// request has its answer, if that held at first. From any state at all, no request is lost and
+/// none is answered twice.
 pub fn requests_go_on_from_any_state()
     ensures opening { OpeningsKeepRight }
     ensures stay { RequestsStayRight }
@@ -148,8 +150,8 @@ pub fn numbers_tell_of_histories()
     ensures { NumbersTellOfHistories }
 {}
 
-/// The law that each step has a reply of its own, as an Install has none but Accepted, and that
-/// what is answered without an event wants no memory.
+/// The law that each step has only replies of its own, as an Install only Accepted, and that an
+/// answer without an event needs no memory.
 pub fn replies_are_their_steps()
     ensures own { RepliesAreTheirSteps }
     ensures memory { OnlyEventsWantMemory }

@@ -1,8 +1,7 @@
 //! The central system as one machine: the state of a site between two steps, and its steps. In any
 //! order, operators install and clear charging profiles, and points start and stop transactions.
 //! Requests for composite schedules are taken, compiled and answered, and calls are sent to the
-//! points. What a step does stands in `specs/Step.antt`, what holds after any run in
-//! `specs/Headline.antt`.
+//! points. `specs/Step.antt` defines the steps, `specs/Headline.antt` the law of all runs.
 #![tactic(auto)]
 
 mod ask;

@@ -36,8 +36,8 @@ use std::marker::Model;
 use std::sync::Arc;
 use sweep_compiler::AuditJob;
 
-/// The central system of a site: what each of its points has, the requests for schedules that are
-/// kept, and the numbers that were drawn last.
+/// The central system of a site: the state of each point, the kept requests for schedules, and the
+/// numbers that were drawn last.
 #[derive(Drop)]
 pub struct Machine {
     alloc: Global,
@@ -75,7 +75,7 @@ impl Model for Machine {
 }
 
 impl Machine {
-    /// The central system of a site with nothing installed and no number drawn.
+    /// Makes the central system of a site with nothing installed and no number drawn.
     pub fn new(alloc: Global, site: Site) -> Result<Machine, AllocError>
         ensures { IfOk result (λ machine. machine ≡ opening site) }
     {
@@ -88,7 +88,7 @@ impl Machine {
         Machine::new_at(alloc, site, numbers)
     }
 
-    /// The central system of a site with nothing installed and these numbers drawn last.
+    /// Makes the central system of a site with nothing installed and these numbers drawn last.
     pub fn new_at(alloc: Global, site: Site, numbers: Numbers) -> Result<Machine, AllocError>
         requires { AreNumbers numbers }
         ensures { IfOk result (λ machine. machine ≡ opening_at site numbers) }
@@ -105,7 +105,7 @@ impl Machine {
         })
     }
 
-    /// A copy, which shares the site, the points' books and the calls that were gathered.
+    /// Copies the machine, sharing the site, the points' books and the gathered calls.
     pub fn copy(&self) -> Result<Machine, AllocError>
         ensures { IfOk result (λ copy. copy ≡ self.now) }
     {
@@ -119,32 +119,32 @@ impl Machine {
         })
     }
 
-    /// Gathers the calls to each point, as far as memory lasts, so that copies made from then on
-    /// share them. Nothing else is changed by it.
+    /// Gathers the calls to each point, if memory lasts, so that copies made from then on share
+    /// them. Changes nothing else.
     pub fn gather_calls(&mut self)
         ensures { self.new ≡ self.old }
     {
         gather_calls(&mut self.points);
     }
 
-    /// Its site.
+    /// Returns the site.
     pub fn site(&self) -> &Site
         ensures { result.now ≡ self.now.site }
     {
         &self.site
     }
 
-    /// The version of the store: how many changes of points' books were made, after the one it
-    /// began with.
+    /// Returns the version of the store: the number at the start, plus the changes of points' books
+    /// since.
     pub fn version(&self) -> u64
         ensures { result ≡ self.now.numbers.version }
     {
         self.numbers.version
     }
 
-    /// How many requests for schedules are kept. With what is always so of the central system. No
-    /// number is above its limit, no more requests are kept than may be, and each point of the site
-    /// is kept.
+    /// Returns the number of kept requests for schedules. Also shows the invariant of the central
+    /// system: no number is above its limit, no more requests are kept than allowed, and each point
+    /// of the site is kept.
     pub fn open_requests(&self) -> usize
         ensures value { result ≡ length self.now.requests }
         ensures machine { IsMachine self.now }
@@ -152,15 +152,15 @@ impl Machine {
         self.requests.len()
     }
 
-    /// Whether it is stopped, so that no step but compiling, answering and finishing is made any
-    /// more.
+    /// Whether the central system is stopped. Then it makes no more steps except Compile, Answer
+    /// and Finish.
     pub fn is_stopped(&self) -> bool
         ensures { result ≡ self.now.is_stopped }
     {
         self.is_stopped
     }
 
-    /// What the point of an identity has, if the site has such a point.
+    /// Returns the book of the point of an identity, if the site has such a point.
     pub fn book_of(&self, point: &str) -> Option<&PointBook>
         ensures { option_map (λ book. book.now) result
             ≡ option_map (book_at self.now) (place_of self.now.site point.now) }
@@ -171,7 +171,8 @@ impl Machine {
         }
     }
 
-    /// The calls to the point of an identity, and the link to it, if the site has such a point.
+    /// Returns the calls to the point of an identity, and the link to it, if the site has such a
+    /// point.
     pub fn outbox_of(&self, point: &str) -> Option<&Outbox>
         ensures { option_map (λ outbox. outbox.now) result
             ≡ option_map (outbox_at self.now) (place_of self.now.site point.now) }
@@ -182,8 +183,8 @@ impl Machine {
         }
     }
 
-    /// The place of its point in the site file and the `Ask` of the request of a number, if it is
-    /// kept.
+    /// Returns the `Ask` of the request of a number and the place of its point in the site file, if
+    /// the request is kept.
     pub fn request_asked(&self, number: u64) -> Option<(usize, Ask)>
         ensures { result
             ≡ option_map (λ (kept : Kept). (kept.place, kept.ask))
@@ -192,9 +193,9 @@ impl Machine {
         request_asked(&self.requests, number)
     }
 
-    /// What the audit of the point of an identity asked, with what the point had then, if its call
-    /// has this number and it has no verdict yet. Copies nothing, and only an audit that is there
-    /// may want memory.
+    /// Returns the request of the audit of the point of an identity, with the book of that time, if
+    /// the audit's call has this number and it has no verdict yet. Copies nothing, and may need
+    /// memory only if there is such an audit.
     pub fn audit_job(&self, point: &str, call: u64) -> Result<Option<AuditJob>, Refusal>
         ensures job { IfOk result (λ job. job ≡ audit_job self.now point.now call) }
         ensures certain { audit_job self.now point.now call ≡ None → result ≡ Ok None }
@@ -209,7 +210,8 @@ impl Machine {
         }
     }
 
-    /// The audit of the point of an identity, if the site has such a point and it was audited.
+    /// Returns the audit of the point of an identity, if the site has such a point and it was
+    /// audited.
     pub fn audit_of(&self, point: &str) -> Option<&PointAudit>
         ensures { option_map (λ audit. audit.now) result ≡ audit_of self.now point.now }
     {
@@ -217,8 +219,7 @@ impl Machine {
         point_at(&self.points, place).audit()
     }
 
-    /// The starts that the point of an identity was asked for, and that wait. None where the site
-    /// has no such point.
+    /// Returns the waiting starts of the point of an identity: none if the site has no such point.
     pub fn waiting_of(&self, point: &str) -> &[WaitingStart]
         ensures { result.now ≡ waiting_of self.now point.now }
     {
@@ -228,7 +229,7 @@ impl Machine {
         }
     }
 
-    /// The present link of the point of an identity, if it has one.
+    /// Returns the present link of the point of an identity, if it has one.
     pub fn link_of(&self, point: &str) -> Option<u64>
         ensures { result ≡ link_of self.now point.now }
     {
@@ -236,8 +237,8 @@ impl Machine {
         point_at(&self.points, place).outbox().link()
     }
 
-    /// The link over which a call is to be sent now to the point of an identity, if there is such a
-    /// call. There is none if the site has no such point, and none once the central system is
+    /// Returns the link over which a call can be sent now to the point of an identity, if there is
+    /// such a call. There is none if the site has no such point, or once the central system is
     /// stopped. Allocates nothing.
     pub fn link_to_send(&self, point: &str) -> Option<u64>
         ensures { result ≡ link_to_send self.now point.now }
@@ -250,8 +251,8 @@ impl Machine {
         }
     }
 
-    /// How many calls of the point of an identity aren't confirmed, 0 where the site has no such
-    /// point.
+    /// Returns the number of unconfirmed calls of the point of an identity, 0 if the site has no
+    /// such point.
     pub fn outbox_len(&self, point: &str) -> usize
         ensures { result ≡ outbox_len self.now point.now }
     {
@@ -261,11 +262,11 @@ impl Machine {
         }
     }
 
-    /// Makes a step, or says why not: then nothing has changed, and the step comes back. The
-    /// refusal is the first cause. It is `OutOfMemory` only if there is no other cause and the step
-    /// needs memory. These need it: an install, a clear that removes a profile, an audit, a start
-    /// that isn't retransmitted, a stop, a take, and a sending. A book that is replied with an
-    /// `Ask` has the connector that is asked.
+    /// Makes a step. On a refusal nothing has changed, and the step comes back. The refusal is the
+    /// first cause. It is `OutOfMemory` only if there is no other cause and the step needs memory.
+    /// These need it: an install, a clear that removes a profile, an audit, a remote start, a start
+    /// that isn't retransmitted, a stop, a take, and a sending. A book in a reply has the connector
+    /// of the `Ask` beside it.
     pub fn step(&mut self, step: Step) -> Result<Reply, Refused>
         ensures made { MatchResult result (λ reply. Steps self.old step reply self.new)
             (λ refused. IsRefused self.old step refused self.new) }
@@ -275,9 +276,10 @@ impl Machine {
         with_step(self.make(&step), step)
     }
 
-    /// Makes a step as `step` does, but copies what is kept of it, so that the caller still has it.
+    /// Makes a step as `step` does, but copies the parts that it keeps, so that the caller still
+    /// has the step.
     // The methods are marked not to be inlined: with all of them in one function, each step would
-    // clear the stack that the others want.
+    // clear the stack that the others need.
     pub fn make(&mut self, step: &Step) -> Result<Reply, Refusal>
         ensures made { IfOk result (λ reply. Steps self.old step.now reply self.new) }
         ensures refused { IfErr result (λ refusal.
@@ -294,8 +296,8 @@ impl Machine {
         }
     }
 
-    /// What would come of a step, if memory lasts: whether it would be an event, or be answered
-    /// without a change, or why it would be refused. Nothing is changed and nothing allocated.
+    /// Returns the outlook of a step, as if memory always lasted: whether it would be an event, or
+    /// an answer without a change, or the refusal. Changes and allocates nothing.
     pub fn outlook(&self, step: &Step) -> Result<bool, Refusal>
         ensures { result ≡ outlook self.now step.now }
     {
@@ -308,7 +310,7 @@ impl Machine {
         }
     }
 
-    /// Makes a step at its point: it is decided there, and done.
+    /// Makes a step at its point: decides it there, and does it.
     #[inline(never)]
     fn make_at_point(&mut self, step: &Step) -> Result<Reply, Refusal>
         requires { IsAtPoint (work step.now) }
@@ -323,6 +325,7 @@ impl Machine {
         let numbers = self.numbers;
         match self.points[place].make(&self.site, &numbers, step) {
             Ok(reply) => {
+                // Only the reply of a made step draws numbers, so a refused one uses none up.
                 self.numbers = reply.drawn(numbers);
                 Ok(reply)
             }
@@ -339,13 +342,14 @@ impl Machine {
         outlook_by(point_at(&self.points, place).decide(&self.site, &self.numbers, step))
     }
 
-    /// Makes steps one after another, each made or refused. Out of memory for the outcomes no step
-    /// was made, and all come back.
+    /// Makes or refuses steps one after another. Without memory for the outcomes it makes none, and
+    /// returns all steps.
     pub fn run(&mut self, steps: Vec<Step>) -> Result<Vec<Outcome>, RunFault>
         ensures { MatchResult result
             (λ outcomes. Runs self.old steps.items outcomes.items self.new)
             (λ fault. (self.new ≡ self.old) × (fault.steps ≡ steps)) }
     {
+        // Memory for all outcomes comes first, since a step that was made can't be taken back.
         let mut outcomes = match Vec::with_capacity(self.alloc, steps.len()) {
             Ok(outcomes) => outcomes,
             Err(_) => return Err(RunFault { steps }),
@@ -357,7 +361,7 @@ impl Machine {
         Ok(outcomes)
     }
 
-    /// What comes of a step.
+    /// Makes or refuses a step, and returns its outcome.
     fn outcome_of(&mut self, step: Step) -> Outcome
         ensures { HasOutcome self.old step result self.new }
     {
@@ -367,9 +371,9 @@ impl Machine {
         }
     }
 
-    /// The place of the point of an identity, while the central system isn't stopped, and over a
-    /// link only where that is the point's present one. The refusals are `Stopped`, `UnknownPoint`,
-    /// `Superseded` and, for an audit of a stranger, `UnknownRequest`.
+    /// Returns the place of the point of an identity, unless the central system is stopped. By a
+    /// link, that must be the point's present one. The refusals are `Stopped`, `UnknownPoint`,
+    /// `Superseded` and, for an audit at an unknown point, `UnknownRequest`.
     fn place_for(&self, point: &PointId, via: Via) -> Result<usize, Refusal>
         ensures place { result ≡ place_for self.now point.now via }
         ensures here { IfOk result (λ place. place_of self.now.site point.now ≡ Some place) }
@@ -379,6 +383,8 @@ impl Machine {
             return Err(Refusal::Stopped);
         }
         let Some(place) = self.site.place_of(point.as_str()) else {
+            // An unknown point has no link and no audit, so a step by one of these is refused as at
+            // a known point without it.
             return Err(match via {
                 Via::Name => Refusal::UnknownPoint,
                 Via::Link(_) => Refusal::Superseded,
@@ -394,7 +400,7 @@ impl Machine {
     }
 }
 
-/// Whether a step that comes to this would be an event, or why it would be refused.
+/// Returns whether a step with this decision would be an event, or its refusal.
 fn outlook_by(decided: Result<Decision, Refusal>) -> Result<bool, Refusal>
     ensures { result ≡ outlook_by decided }
 {
@@ -405,7 +411,7 @@ fn outlook_by(decided: Result<Decision, Refusal>) -> Result<bool, Refusal>
     }
 }
 
-/// What was made, or the refusal with the step.
+/// Returns the reply, or the refusal with the step.
 fn with_step(made: Result<Reply, Refusal>, step: Step) -> Result<Reply, Refused>
     ensures { MatchResult result (λ reply. made ≡ Ok reply)
         (λ refused. (made ≡ Err refused.refusal) × (refused.step ≡ step)) }

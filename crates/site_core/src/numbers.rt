@@ -26,7 +26,7 @@ pub struct Numbers {
 }
 
 impl Numbers {
-    /// Why no change of a point's book is made.
+    /// Returns the reason why no change of a point's book can be made, if there is one.
     pub(crate) fn version_refusal(&self) -> Option<Refusal>
         ensures { result ≡ version_refusal self.now }
     {
@@ -37,7 +37,7 @@ impl Numbers {
         }
     }
 
-    /// Why no transaction begins.
+    /// Returns the reason why no transaction can begin, if there is one.
     pub(crate) fn refusal_to_start(&self) -> Option<Refusal>
         ensures { result ≡ refusal_to_start self.now }
     {
@@ -50,7 +50,7 @@ impl Numbers {
         None
     }
 
-    /// Why no point gets a new link.
+    /// Returns the reason why no point can get a new link, if there is one.
     pub(crate) fn refusal_to_attach(&self) -> Option<Refusal>
         ensures { result ≡ refusal_to_attach self.now }
     {
@@ -61,7 +61,7 @@ impl Numbers {
         }
     }
 
-    /// The number of the next transaction, where there is one.
+    /// Returns the number of the next transaction, which must be within the limit.
     pub(crate) fn next_transaction(&self) -> i32
         requires numbers { AreNumbers self.now }
         requires last { refusal_to_start self.now ≡ None }

@@ -1,4 +1,4 @@
-//! What the central system keeps of its calls to a charge point.
+//! The calls of the central system to a charge point.
 
 ghost use Rattle.std.specs.Prelude.{◌≡◌, ◌+◌, ◌-◌, ◌<◌, ◌≤◌, ◌^◌, ◌++◌, IfErr, IfOk, IsSome, OnErr, OnOk, length};
 ghost use Rattle.site_core.specs.Limits.{max_calls, max_number};
@@ -12,7 +12,7 @@ use std::alloc::{AllocError, Global};
 use std::collections::LinkedList;
 use std::marker::Model;
 
-/// The most calls of a point that aren't confirmed, the one in flight among them.
+/// The most unconfirmed calls of a point, including the one in flight.
 const MAX_CALLS: usize = 256;
 
 /// ClearChargingProfile without a criterion (chapter 5.5).
@@ -23,10 +23,10 @@ const EVERY_PROFILE: Criteria = Criteria {
     stack_level: None,
 };
 
-/// A call that has its memory, so that no outbox lacks any when it is added.
+/// A call with its memory, so that adding it to an outbox needs none.
 #[derive(Drop)]
 pub struct PreparedCall {
-    /// One body, in the place that it has in an outbox from then on.
+    /// One body, in the list node that moves into an outbox.
     bodies: LinkedList<CallBody>,
 }
 
@@ -44,7 +44,7 @@ impl Model for PreparedCall {
 }
 
 impl PreparedCall {
-    /// A call of this body, which comes back where memory runs out.
+    /// Makes a call of this body, which comes back if memory runs out.
     pub fn new(alloc: Global, body: CallBody) -> Result<PreparedCall, (AllocError, CallBody)>
         ensures call { IfOk result (λ call. call ≡ body) }
         ensures back { IfErr result (λ refused. refused.1 ≡ body) }
@@ -57,13 +57,13 @@ impl PreparedCall {
     }
 }
 
-/// What the central system keeps of its calls to a charge point: the point's present link, and the
-/// unconfirmed calls. The first of these is in flight or waits. Call 0 clears all profiles.
+/// The calls of the central system to a charge point: the point's present link, and the unconfirmed
+/// calls. The first of these is in flight or waits. Call 0 clears all profiles.
 #[derive(Drop)]
 pub struct Outbox {
     /// The number of the point's present link.
     link: Option<u64>,
-    /// The calls that aren't confirmed, the last of them with the number before the next one.
+    /// The unconfirmed calls. The last one has the number before `next`.
     bodies: CallQueue,
     /// The number of the next call.
     next: u64,
@@ -92,10 +92,11 @@ impl Model for Outbox {
 }
 
 impl Outbox {
-    /// The outbox of a point that has never been linked: call 0 waits in it.
+    /// Makes the outbox of a point that never had a link: call 0 waits in it.
     pub fn new(alloc: Global) -> Result<Outbox, AllocError>
         ensures { IfOk result (λ outbox. outbox ≡ opening_outbox) }
     {
+        // The point may have profiles from before, of which the central system knows nothing.
         Ok(Outbox {
             link: None,
             bodies: CallQueue::new(alloc, CallBody::Clear(EVERY_PROFILE))?,
@@ -104,7 +105,7 @@ impl Outbox {
         })
     }
 
-    /// A copy, which shares the calls that were gathered.
+    /// Copies the outbox, sharing the gathered calls.
     pub fn copy(&self) -> Result<Outbox, AllocError>
         ensures { IfOk result (λ copy. copy ≡ self.now) }
     {
@@ -116,15 +117,14 @@ impl Outbox {
         })
     }
 
-    /// Gathers the calls, as far as memory lasts, so that copies share them. Nothing else is
-    /// changed by it.
+    /// Gathers the calls, if memory lasts, so that copies share them. Changes nothing else.
     pub fn gather_calls(&mut self)
         ensures { self.new ≡ self.old }
     {
         self.bodies.gather();
     }
 
-    /// How many calls aren't confirmed, the one in flight among them.
+    /// Returns the number of unconfirmed calls, including the one in flight.
     pub fn len(&self) -> usize
         ensures value { result ≡ length self.now.calls }
         ensures outbox { IsOutbox self.now }
@@ -132,7 +132,7 @@ impl Outbox {
         self.bodies.len()
     }
 
-    /// The calls that aren't confirmed, in the order of their numbers, which begin with
+    /// Copies the unconfirmed calls, in the order of their numbers, which begin with
     /// `first_number`.
     pub fn bodies(&self, alloc: Global) -> Result<Vec<CallBody>, AllocError>
         ensures { IfOk result (λ bodies.
@@ -142,7 +142,7 @@ impl Outbox {
         Ok(bodies)
     }
 
-    /// Whether as many calls aren't confirmed as may be, so that no more may be added.
+    /// Whether the outbox has the most unconfirmed calls, so that no more may be added.
     pub fn is_full(&self) -> bool
         ensures { result ≡ is_full self.now }
     {
@@ -156,21 +156,21 @@ impl Outbox {
         MAX_NUMBER < self.next
     }
 
-    /// The point's present link.
+    /// Returns the point's present link.
     pub fn link(&self) -> Option<u64>
         ensures { result ≡ self.now.link }
     {
         self.link
     }
 
-    /// Whether the first call was sent over the present link, and isn't confirmed.
+    /// Whether the first call was sent over the present link, and is unconfirmed.
     pub fn is_in_flight(&self) -> bool
         ensures { result ≡ self.now.is_in_flight }
     {
         self.is_in_flight
     }
 
-    /// The point's present link, where a call is to be sent over it now.
+    /// Returns the point's present link, if a call can be sent over it now.
     #[tactic(auto, using(crate::proofs::OutboxLemmas::sends_over_link))]
     pub fn sending_link(&self) -> Option<u64>
         ensures { result ≡ sending_link self.now }
@@ -181,15 +181,16 @@ impl Outbox {
         self.link
     }
 
-    /// Takes a link as the point's present one. A call in flight over the one before waits again.
+    /// Sets the point's present link. A call in flight over the one before waits again.
     pub fn attach(&mut self, link: u64)
         ensures { self.new ≡ attached self.old link }
     {
         self.link = Some(link);
+        // The older link's reply won't count any more, so the call has to be sent again.
         self.is_in_flight = false;
     }
 
-    /// The present link is lost. A call in flight waits again.
+    /// Removes the present link. A call in flight waits again.
     pub fn lose(&mut self)
         ensures { self.new ≡ lost self.old }
     {
@@ -207,9 +208,8 @@ impl Outbox {
         self.next += 1;
     }
 
-    /// A copy of the first call, which is in flight from then on. `None` if there is no link, if a
-    /// call is in flight, and if none waits. Out of memory, which only the copy of a call wants,
-    /// nothing changes.
+    /// Copies the first call, which is in flight from then on. `None` if there is no link, if a
+    /// call is in flight, or if none waits. Only the copy needs memory; without it nothing changes.
     pub fn send(&mut self) -> Result<Option<Call>, AllocError>
         ensures call { IfOk result (λ call. call ≡ sendable self.old) }
         ensures outbox { OnOk result (self.new ≡ sent self.old) }
@@ -228,7 +228,7 @@ impl Outbox {
         Ok(Some(Call { number, body }))
     }
 
-    /// Removes the call in flight where it has this number, and says whether it has.
+    /// Removes the call in flight if it has this number, and returns whether it has.
     pub fn confirm(&mut self, number: u64) -> bool
         ensures answer { result ≡ is_number_in_flight self.old number }
         ensures outbox { self.new ≡ confirmed self.old number }
@@ -252,7 +252,7 @@ impl Outbox {
         self.first_number() == number
     }
 
-    /// Whether the call of this number isn't confirmed.
+    /// Whether the call of this number is unconfirmed.
     #[tactic(auto, using(crate::proofs::OutboxLemmas::waits_by_number))]
     pub fn is_unconfirmed(&self, number: u64) -> bool
         ensures { result ≡ is_unconfirmed self.now.calls number }
@@ -260,15 +260,15 @@ impl Outbox {
         self.first_number() <= number && number < self.next
     }
 
-    /// The number of the next call.
+    /// Returns the number of the next call.
     pub fn next_number(&self) -> u64
         ensures { result ≡ self.now.next }
     {
         self.next
     }
 
-    /// The number of the first call that isn't confirmed, or the next one's where there is none. So
-    /// many calls are confirmed.
+    /// Returns the number of the first unconfirmed call, or the next call's if there is none. It is
+    /// also the number of confirmed calls.
     pub fn first_number(&self) -> u64
         ensures value { result ≡ self.now.next - length self.now.calls }
         ensures outbox { IsOutbox self.now }

@@ -1,26 +1,26 @@
-//! What comes of a step and of a run.
+//! The outcomes of a step and of a run.
 
 use crate::reply::Reply;
 use crate::step::Step;
 use ocpp_scalars::Refusal;
 
-/// What comes of a step.
+/// The outcome of a step.
 #[derive(Drop)]
 pub enum Outcome {
-    /// It is made.
+    /// The step was made, with this reply.
     Done(Reply),
-    /// It isn't, and changed nothing.
+    /// The step was refused, and changed nothing.
     Refused(Refused),
 }
 
-/// Why a step is refused, and the step again.
+/// A refused step, with the reason.
 #[derive(Drop)]
 pub struct Refused {
     pub refusal: Refusal,
     pub step: Step,
 }
 
-/// There is no memory for the outcomes of a run: no step was made, and the steps come back.
+/// A run without memory for its outcomes: no step was made, and the steps come back.
 #[derive(Drop)]
 pub struct RunFault {
     pub steps: Vec<Step>,

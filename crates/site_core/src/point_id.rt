@@ -22,14 +22,14 @@ impl Model for PointId {
 }
 
 impl PointId {
-    /// The identity that a text is.
+    /// Takes a text as an identity.
     pub fn new(text: String) -> PointId
         ensures { result ≡ string_bytes text }
     {
         PointId { text }
     }
 
-    /// The identity that a text is, copied.
+    /// Copies a text as an identity.
     pub fn copied(alloc: Global, text: &str) -> Result<PointId, AllocError>
         ensures { IfOk result (λ id. id ≡ text.now) }
     {
@@ -38,7 +38,7 @@ impl PointId {
         })
     }
 
-    /// A copy.
+    /// Copies the identity.
     pub fn copy(&self, alloc: Global) -> Result<PointId, AllocError>
         ensures { IfOk result (λ copy. copy ≡ self.now) }
     {
@@ -46,7 +46,7 @@ impl PointId {
         Ok(copy)
     }
 
-    /// The text.
+    /// Returns the text.
     pub fn as_str(&self) -> &str
         ensures { result.now ≡ self.now }
     {

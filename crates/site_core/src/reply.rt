@@ -1,4 +1,4 @@
-//! What the steps of the central system reply.
+//! The replies to the steps of the central system.
 
 ghost use Rattle.std.specs.Prelude.{◌≡◌};
 ghost use Rattle.site_core.specs.State.{AreNumbers, MachineState};
@@ -11,7 +11,7 @@ use messages::{Call, PointStatus};
 use ocpp_scalars::Refusal;
 use profile::Unit;
 
-/// What a step that is made replies.
+/// The reply to a step that was made.
 #[derive(Drop)]
 pub enum Reply {
     /// The profile is installed, or the matching profiles are removed.
@@ -27,7 +27,7 @@ pub enum Reply {
     Ended,
     /// No transaction of the number is active at the point: nothing was changed.
     NoSuch,
-    /// The request of this number is kept, with what its point has and what it asks.
+    /// The request of this number is kept, with its point's book and its `Ask`.
     Taken {
         number: u64,
         book: SharedBook,
@@ -35,13 +35,13 @@ pub enum Reply {
     },
     /// The request has its answer.
     Compiled,
-    /// The answer to a request, with what its point had and what it asked.
+    /// The answer to a request, with the book that its point had and its `Ask`.
     Answered {
         book: SharedBook,
         ask: Ask,
         answer: Result<Composite, Refusal>,
     },
-    /// The request isn't compiled yet: it is still kept.
+    /// The request has no answer yet, and is still kept.
     NotYet,
     /// The central system is stopped.
     Finished,
@@ -49,26 +49,26 @@ pub enum Reply {
     Attached(u64),
     /// The call that goes out to the point.
     Sent(Call),
-    /// No call is to be sent: none waits, or one is in flight.
+    /// No call can be sent: none waits, or one is in flight.
     Nothing,
-    /// The call in flight was answered, and is done with.
+    /// The call in flight was answered, and is removed.
     Confirmed,
     /// The point has no link now. A call that was in flight waits again.
     LinkLost,
-    /// The point is asked, in this unit, by the call of this number.
+    /// The call of this number requests the point's schedule, in this unit.
     Audited {
         call: u64,
         unit: Unit,
     },
     /// The verdict is kept.
     VerdictKept,
-    /// What is told of a point.
+    /// The status of a point.
     Status(PointStatus),
-    /// The point is asked by the call of this number.
+    /// The call of this number asks the point to start a transaction.
     Called(u64),
 }
 
-/// How many changes, Takes and answers a reply counts.
+/// The numbers of changes, Takes and answers that a reply counts.
 #[derive(Clone, Copy, PartialEq, Eq)]
 pub struct Counted {
     pub changes: u64,
@@ -84,8 +84,8 @@ const NO_COUNT: Counted = Counted {
 };
 
 impl Reply {
-    /// Whether a step with this reply is an event, where it is known if the central system was
-    /// stopped before it.
+    /// Whether a step with this reply is an event, given whether the central system was stopped
+    /// before it.
     pub fn is_event(&self, was_stopped: bool) -> bool
         ensures { (old : MachineState) → old.is_stopped ≡ was_stopped
             → result ≡ is_event old self.now }
@@ -110,11 +110,12 @@ impl Reply {
             | Reply::NotYet
             | Reply::Nothing
             | Reply::Status(_) => false,
+            // A second Finish replies the same, but changes nothing.
             Reply::Finished => !was_stopped,
         }
     }
 
-    /// The numbers that were drawn last, after a step with this reply.
+    /// Returns the numbers that were drawn last, after a step with this reply.
     pub(crate) fn drawn(&self, numbers: Numbers) -> Numbers
         requires { AreNumbers numbers }
         ensures { result ≡ drawn self.now numbers }
@@ -141,7 +142,7 @@ impl Reply {
         }
     }
 
-    /// How many changes, Takes and answers it counts.
+    /// Returns the numbers of changes, Takes and answers that the reply counts.
     pub fn counted(&self) -> Counted
         ensures { result ≡ counted self.now }
     {

@@ -1,4 +1,4 @@
-//! A request for a composite schedule that is kept.
+//! A kept request for a composite schedule.
 
 ghost use Rattle.std.specs.Prelude.{◌≡◌, ◌↔◌, IsTrue, IfOk, MatchResult};
 ghost use Rattle.site_core.specs.Post.{IsRefusedFor};
@@ -15,13 +15,13 @@ use sweep_compiler::Compiled;
 pub const MAX_REQUESTS: usize = 64;
 
 /// A request for a composite schedule that is kept until its answer is handed out. The book has the
-/// connector that is asked.
+/// connector of the `Ask`.
 #[derive(Drop)]
 pub(crate) struct Request {
     pub number: u64,
     /// The place of its point in the site file.
     pub place: usize,
-    /// What the point had when the request was taken.
+    /// The point's book when the request was taken.
     pub book: SharedBook,
     pub ask: Ask,
     /// None before it is compiled.
@@ -46,7 +46,7 @@ impl Model for Request {
 }
 
 impl Request {
-    /// A copy, which shares the book.
+    /// Copies the request, sharing the book.
     pub fn copy(&self) -> Result<Request, AllocError>
         ensures { IfOk result (λ copy. copy ≡ self.now) }
     {
@@ -59,8 +59,8 @@ impl Request {
         })
     }
 
-    /// Whether a brought answer may be this request's. The refusals are `AlreadyAnswered`, and then
-    /// `StrangerInput`, where it is for another book or another `Ask`.
+    /// Checks whether a brought answer is for this request. The refusals are `AlreadyAnswered`, and
+    /// then `StrangerInput`, if it is for another book or another `Ask`.
     pub fn check_post(&self, brought: &Compiled) -> Result<(), Refusal>
         ensures { MatchResult result (λ _. MayBePosted self.now brought.now)
             (λ refusal. IsRefusedFor self.now brought.now refusal) }
@@ -68,6 +68,8 @@ impl Request {
         if self.answer.is_some() {
             return Err(Refusal::AlreadyAnswered);
         }
+        // Compared by value: the kit can't compare two `Arc`s by pointer, and an equal book has the
+        // same right answers.
         if !self.book.book().same(brought.book()) || !is_same(&self.ask, brought.ask()) {
             return Err(Refusal::StrangerInput);
         }

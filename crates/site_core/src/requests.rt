@@ -1,4 +1,4 @@
-//! The kept requests: finding one by its number, compiling it, and handing out its answer.
+//! Functions on the kept requests: find one by its number, compile it, and hand out its answer.
 
 ghost use Rattle.std.specs.Prelude.{◌≡◌, ◌≤◌, ◌==◌, length, Some, Ok, Err, true, is_some, MatchResult, IfOk, IfErr, option_map};
 ghost use Rattle.site_core.specs.declared.reply.Reply.{Reply};
@@ -16,7 +16,7 @@ use ocpp_scalars::Refusal;
 use std::alloc::{AllocError, Global};
 use sweep_compiler::{Compiled, Turns, compile};
 
-/// The place in the site file and the `Ask` of the request of a number, if it is kept.
+/// Returns the place in the site file and the `Ask` of the request of a number, if it is kept.
 pub(crate) fn request_asked(requests: &[Request], number: u64) -> Option<(usize, Ask)>
     ensures { result
         ≡ option_map (λ (kept : Kept). (kept.place, kept.ask)) (request_of number requests.now) }
@@ -28,7 +28,7 @@ pub(crate) fn request_asked(requests: &[Request], number: u64) -> Option<(usize,
     Some((request.place, request.ask))
 }
 
-/// The place of the request of a number.
+/// Returns the index of the request of a number.
 fn place_of(requests: &[Request], number: u64) -> Option<usize>
     ensures { result ≡ position (λ (kept : Kept). kept.number == number) requests.now }
 {
@@ -36,7 +36,7 @@ fn place_of(requests: &[Request], number: u64) -> Option<usize>
 }
 
 /// Compiles the schedule of the request of a number. The refusals are `UnknownRequest` and
-/// `AlreadyAnswered`; that memory ran out for it is its answer.
+/// `AlreadyAnswered`. If memory runs out, `OutOfMemory` is the request's answer.
 pub(crate) fn compile_request(
     alloc: Global,
     requests: &mut Vec<Request>,
@@ -61,9 +61,9 @@ pub(crate) fn compile_request(
     Ok(())
 }
 
-/// Compiles the request of a number with a brought answer, which comes back a second time. The
-/// refusals are `UnknownRequest`, `AlreadyAnswered` and `StrangerInput`; then the brought one comes
-/// back.
+/// Compiles the request of a number with a brought answer, and returns a second copy of it. The
+/// refusals are `UnknownRequest`, `AlreadyAnswered` and `StrangerInput`; then the brought answer
+/// comes back.
 pub(crate) fn post_answer(
     requests: &mut Vec<Request>,
     number: u64,
@@ -90,7 +90,7 @@ pub(crate) fn post_answer(
     Ok(again)
 }
 
-/// A copy, which shares the books.
+/// Copies the requests, sharing the books.
 pub(crate) fn copy_of_requests(
     alloc: Global,
     requests: &[Request],
@@ -104,8 +104,8 @@ pub(crate) fn copy_of_requests(
     Ok(copies)
 }
 
-/// Hands out the answer to the request of a number, which is no longer kept then, or says that it
-/// isn't compiled yet. The refusal is `UnknownRequest`.
+/// Hands out the answer to the request of a number, and removes the request. Replies NotYet if it
+/// has no answer. The refusal is `UnknownRequest`.
 pub(crate) fn hand_out(requests: &mut Vec<Request>, number: u64) -> Result<Reply, Refusal>
     ensures made { MatchResult result
         (λ reply. handed_out number requests.old.items ≡ Ok (reply, requests.new.items))
@@ -131,7 +131,7 @@ fn is_answered(request: &Request) -> bool
     request.answer.is_some()
 }
 
-/// The answer to a request, which has one, with what it is for.
+/// Makes the reply of a request that has an answer, with its book and `Ask`.
 fn reply_of(request: Request) -> Reply
     requires { is_some request.answer ≡ true }
     ensures reply { Some result
@@ -145,7 +145,7 @@ fn reply_of(request: Request) -> Reply
     }
 }
 
-/// Answers each request without an answer that the central system is stopped.
+/// Answers each request without an answer by `Stopped`.
 pub(crate) fn stop_all(requests: &mut Vec<Request>)
     ensures { requests.new.items ≡ all_stopped requests.old.items }
 {
@@ -162,7 +162,7 @@ fn stop(request: &mut Request)
     }
 }
 
-/// What would come of compiling the request of a number: an event, or why it is refused.
+/// Returns the outlook of compiling the request of a number: an event, or the refusal.
 pub(crate) fn compile_outlook(requests: &[Request], number: u64) -> Result<bool, Refusal>
     ensures { result ≡ compile_outlook (request_of number requests.now) }
 {
@@ -175,8 +175,8 @@ pub(crate) fn compile_outlook(requests: &[Request], number: u64) -> Result<bool,
     Ok(true)
 }
 
-/// What would come of handing out the answer to the request of a number: whether it has one, or why
-/// not.
+/// Returns the outlook of handing out the answer to the request of a number: whether it has one, or
+/// the refusal.
 pub(crate) fn hand_out_outlook(requests: &[Request], number: u64) -> Result<bool, Refusal>
     ensures { result ≡ hand_out_outlook (request_of number requests.now) }
 {

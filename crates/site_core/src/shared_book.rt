@@ -10,8 +10,8 @@ use std::marker::Model;
 use std::sync::Arc;
 use transactions::Begin;
 
-/// The book of a charge point with several owners. If it has another owner, a change makes a copy
-/// of it first, so that the other keeps what it was.
+/// The book of a charge point with several owners. A change first copies a book that has another
+/// owner, so that the other keeps the book unchanged.
 #[derive(Drop)]
 pub struct SharedBook {
     book: Arc<PointBook>,
@@ -30,7 +30,7 @@ impl Model for SharedBook {
 impl SharedBook {
     ghost use Rattle.std.specs.Arc.{arc_value};
 
-    /// A book with one owner.
+    /// Makes a book with one owner.
     pub fn new(alloc: Global, book: PointBook) -> Result<SharedBook, AllocError>
         ensures { IfOk result (λ shared. shared ≡ book) }
     {
@@ -39,7 +39,7 @@ impl SharedBook {
         })
     }
 
-    /// The same book with one owner more. Copies nothing.
+    /// Returns the same book with one more owner. Copies nothing.
     pub fn share(&self) -> Result<SharedBook, AllocError>
         ensures { IfOk result (λ shared. shared ≡ self.now) }
     {
@@ -48,21 +48,21 @@ impl SharedBook {
         })
     }
 
-    /// The book.
+    /// Returns the book.
     pub fn book(&self) -> &PointBook
         ensures { result.now ≡ self.now }
     {
         &self.book
     }
 
-    /// The book, shared with who has it too. Copies nothing.
+    /// Returns the book, shared with its other owners. Copies nothing.
     pub fn into_arc(self) -> Arc<PointBook>
         ensures { arc_value result ≡ self }
     {
         self.book
     }
 
-    /// Installs a row (chapter 5.16), which may be installed.
+    /// Installs a row that may be installed (chapter 5.16).
     pub(crate) fn install(&mut self, row: Row) -> Result<(), AllocError>
         requires connector { row.connector ≤ length self.old.ceilings }
         requires allowed { install_refusal self.old row ≡ None }
@@ -75,7 +75,7 @@ impl SharedBook {
         }
     }
 
-    /// Removes the profiles that match each criterion that is given (chapter 5.5).
+    /// Removes the profiles that match each given criterion (chapter 5.5).
     pub(crate) fn clear(&mut self, criteria: &Criteria) -> Result<(), AllocError>
         ensures book { OnOk result (self.new ≡ book_cleared self.old criteria.now) }
         ensures kept { OnErr result (self.new ≡ self.old) }
@@ -84,8 +84,8 @@ impl SharedBook {
         Ok(())
     }
 
-    /// Begins a transaction of this number at a connector (chapter 4.8), with a profile where one
-    /// is given (chapter 5.11).
+    /// Begins a transaction of this number at a connector (chapter 4.8), with a profile if one is
+    /// given (chapter 5.11).
     pub(crate) fn start(
         &mut self,
         connector: u32,

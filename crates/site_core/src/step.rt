@@ -10,7 +10,7 @@ use profile::{Criteria, Profile, Row, Unit};
 use sweep_compiler::Judged;
 use transactions::Begin;
 
-/// What the central system is to do.
+/// A step for the central system to make.
 #[derive(Drop)]
 pub enum Step {
     /// To install a profile at a point (chapter 5.16).
@@ -18,7 +18,7 @@ pub enum Step {
         point: PointId,
         row: Row,
     },
-    /// To remove the profiles of a point that match each criterion that is given (chapter 5.5).
+    /// To remove the profiles of a point that match each given criterion (chapter 5.5).
     Clear {
         point: PointId,
         criteria: Criteria,
@@ -34,7 +34,7 @@ pub enum Step {
         point: PointId,
         transaction: i32,
     },
-    /// To keep a request for a composite schedule (chapter 5.7) with what its point has now.
+    /// To keep a request for a composite schedule (chapter 5.7) with its point's present book.
     Take(Take),
     /// To compile the schedule of the request of this number.
     Compile(u64),
@@ -49,7 +49,7 @@ pub enum Step {
         point: PointId,
         link: u64,
     },
-    /// To take note that a point has answered the call of this number.
+    /// To record that a point has answered the call of this number.
     Confirm {
         point: PointId,
         link: u64,
@@ -57,7 +57,7 @@ pub enum Step {
         /// Whether its reply has the status Accepted.
         accepted: bool,
     },
-    /// To take note that a link to a point is lost.
+    /// To record that a link to a point is lost.
     Lost {
         point: PointId,
         link: u64,
@@ -69,13 +69,14 @@ pub enum Step {
         /// Seconds.
         duration: u32,
     },
-    /// To keep the verdict on what a point replied to the audit whose call has this number.
+    /// To keep the verdict on a point's reply to the audit whose call has this number.
     Judge {
         point: PointId,
         call: u64,
         judged: Judged,
     },
-    /// To tell the version of the store, the calls of a point that wait, and its audit.
+    /// To report the version of the store, the number of unconfirmed calls of a point, and its
+    /// audit.
     Status(PointId),
     /// To ask a point to start a transaction at a connector (chapter 5.11).
     RemoteStart {
@@ -92,18 +93,18 @@ pub enum Step {
 pub struct Take {
     pub point: PointId,
     pub connector: u32,
-    /// The first second that is asked for.
+    /// The first second of the schedule.
     pub start: Instant,
     /// Seconds.
     pub duration: u32,
-    /// The unit that the schedule has to be in, where one is given.
+    /// The unit that the schedule must have, if one is given.
     pub unit: Option<Unit>,
-    /// The newest version of the store that the asker has seen, 0 for none.
+    /// The newest version of the store that the client has seen, 0 for none.
     pub seen: u64,
 }
 
 impl Step {
-    /// The point that a step at a point names, and how the step comes to it.
+    /// Returns the point that a step at a point names, and the way to it.
     pub(crate) fn target(&self) -> (&PointId, Via)
         requires { IsAtPoint (work self.now) }
         ensures { IsFor (work self.now) result.0.now result.1 }
@@ -117,6 +118,8 @@ impl Step {
             | Step::Audit { point, .. }
             | Step::Status(point)
             | Step::RemoteStart { point, .. } => (point, Via::Name),
+            // These name their link, so that a session whose link was superseded can't change a
+            // newer session's calls.
             Step::Send { point, link }
             | Step::Confirm { point, link, .. }
             | Step::Lost { point, link } => (point, Via::Link(*link)),

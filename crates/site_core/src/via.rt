@@ -1,12 +1,12 @@
-//! How a step comes to its point.
+//! The way from a step to its point.
 
-/// How a step comes to the point that it names, which says why it isn't made at a stranger.
+/// The way from a step to the point that it names. It determines the refusal for an unknown point.
 #[derive(Clone, Copy, PartialEq, Eq)]
 pub(crate) enum Via {
-    /// By its identity alone.
+    /// By the point's identity only.
     Name,
-    /// Over the link of this number, which has to be the point's present one.
+    /// Over the link of this number, which must be the point's present one.
     Link(u64),
-    /// By its audit.
+    /// By the point's audit.
     Audit,
 }

@@ -1,4 +1,4 @@
-//! Starts that an operator asked a charge point for.
+//! Starts that an operator requested from a charge point.
 
 ghost use Rattle.std.specs.Prelude.{◌≡◌, ◌≤◌, [], Some, false, IfOk, OnErr, OnOk, vec_capacity, vec_len};
 ghost use Rattle.std.specs.Option.{option_copied};
@@ -10,21 +10,21 @@ use profile::Profile;
 use std::alloc::{AllocError, Global};
 use std::marker::Model;
 
-/// A start that an operator asked a charge point for (chapter 5.11), until a transaction begins at
-/// its connector.
+/// A start that an operator requested from a charge point (chapter 5.11), until a transaction
+/// begins at its connector.
 #[derive(Drop)]
 pub struct WaitingStart {
     pub connector: u32,
     /// The number of the call that asked the point.
     pub call: u64,
-    /// Who is to start it.
+    /// The idTag that is to start the transaction.
     pub id_tag: IdTag,
-    /// The profile that is for its transaction, from when that begins.
+    /// The profile for its transaction, from its beginning on.
     pub profile: Option<Profile>,
 }
 
 impl WaitingStart {
-    /// A copy.
+    /// Copies the start.
     pub(crate) fn copy(&self, alloc: Global) -> Result<WaitingStart, AllocError>
         ensures { IfOk result (λ copy. copy ≡ self.now) }
     {
@@ -36,10 +36,11 @@ impl WaitingStart {
         })
     }
 
-    /// A copy of the profile with which a transaction of an idTag begins.
+    /// Copies the profile with which a transaction of an idTag begins.
     pub(crate) fn profile_for(&self, id_tag: &IdTag) -> Result<Option<Profile>, AllocError>
         ensures { IfOk result (λ profile. profile ≡ profile_for id_tag.now (Some self.now)) }
     {
+        // An idTag is a CiString20Type (chapter 7, IdToken): its case doesn't matter.
         if self.id_tag.as_str().eq_ignore_ascii_case(id_tag.as_str()) {
             Profile::copy_if_any(&self.profile)
         } else {
@@ -64,7 +65,7 @@ impl Model for WaitingStarts {
 }
 
 impl WaitingStarts {
-    /// None. Allocates nothing.
+    /// Makes a list of no starts. Allocates nothing.
     pub fn new(alloc: Global) -> WaitingStarts
         ensures { result ≡ [] }
     {
@@ -73,7 +74,7 @@ impl WaitingStarts {
         }
     }
 
-    /// A copy.
+    /// Copies all starts.
     pub fn copy(&self) -> Result<WaitingStarts, AllocError>
         ensures { IfOk result (λ copy. copy ≡ self.now) }
     {
@@ -81,14 +82,14 @@ impl WaitingStarts {
         Ok(WaitingStarts { starts })
     }
 
-    /// All, in the order in which they were asked for.
+    /// Returns all starts, in the order of their requests.
     pub fn as_slice(&self) -> &[WaitingStart]
         ensures { result.now ≡ self.now }
     {
         self.starts.as_slice()
     }
 
-    /// The one at a connector.
+    /// Returns the start at a connector.
     pub fn at(&self, connector: u32) -> Option<&WaitingStart>
         ensures { option_copied result ≡ waiting_at self.now connector }
     {
@@ -96,26 +97,26 @@ impl WaitingStarts {
         Some(&self.starts[place])
     }
 
-    /// Adds one, in place of the one at its connector. Out of memory nothing changes.
+    /// Adds a start, in place of the one at its connector. Without memory nothing changes.
     pub fn add(&mut self, new: WaitingStart) -> Result<(), AllocError>
         ensures starts { OnOk result (self.new ≡ with_waiting self.old new) }
         ensures kept { OnErr result (self.new ≡ self.old) }
     {
-        // Memory comes first, so that a refusal leaves all.
+        // Memory comes first, so that a refusal leaves all starts unchanged.
         self.starts.reserve(1)?;
         drop_at(&mut self.starts, new.connector);
         self.starts.push(new).unwrap();
         Ok(())
     }
 
-    /// Removes the one at a connector.
+    /// Removes the start at a connector.
     pub fn remove(&mut self, connector: u32)
         ensures { self.new ≡ without_waiting self.old connector }
     {
         drop_at(&mut self.starts, connector);
     }
 
-    /// Removes the one that came with the call of a number, which the point didn't accept.
+    /// Removes the start that came with the call of a number, which the point didn't accept.
     pub fn reject(&mut self, call: u64)
         ensures { self.new ≡ after_reply call false self.old }
     {

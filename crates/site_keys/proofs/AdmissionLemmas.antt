@@ -1,4 +1,4 @@
--- What is decided case by case is who may come.
+-- The decision case by case is the definition of admission.
 use Rattle.std.proofs.Common.{◌≡◌, ℕ, Bool, true, false, cond, List, Option, Some, None, string_bytes, refl, sym, ap, ◌∙◌}
 use Rattle.std.specs.Prelude.{◌↔◌}
 use Rattle.std.specs.Option.{option_map}
@@ -40,7 +40,7 @@ says_nothing header none = record {
   );
 }
 
--- the user of a header, by what it says
+-- the user of a header, by its credentials
 pub user_said : (header : List ℕ) (sent : Option CredentialsState) → Says header sent
     → (found : Option (List ℕ)) → found ≡ option_map (λ (s : CredentialsState). s.user) sent
     → (user : List ℕ) → (found ≡ Some user) ↔ HasUser header user

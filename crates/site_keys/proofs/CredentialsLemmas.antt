@@ -1,4 +1,4 @@
--- What a header has sent.
+-- The bytes that a header has sent.
 use Rattle.std.proofs.Common.{◌≡◌, ◌≢◌, ℕ, zero, suc, ◌+◌, ◌/◌, ◌<◌, Bool, true, false, cond, eqb, List, [], ◌∷◌, ◌++◌, get_or, drop, replicate, Option, Some, None, Ok, codes, refl, sym, ap, ◌∙◌, arith, append_assoc}
 use Rattle.std.specs.Prelude.{map, not, All, ◌↔◌, Err}
 use Rattle.std.specs.Char.{to_ascii_lowercase}
@@ -21,7 +21,7 @@ use Rattle.site_keys.proofs.CutLemmas.{cut_some, cut_is, before_cut, cut_there}
 
 -- ---- spaces
 
--- a text that begins with no space
+-- a text that doesn't begin with a space
 record HasNoSpaceAhead (text : List ℕ) : Type 0 where
   none : prefix_len (is_byte 32) text ≡ 0
 
@@ -69,7 +69,7 @@ past_spaces (suc n) text = past_spaces n text
 without : (n : ℕ) (text : List ℕ) → HasNoSpaceAhead text → without_spaces (replicate n 32 ++ text) ≡ text
 without n text ahead = rw (spaces_ahead n text ahead) (past_spaces n text)
 
--- a text is its spaces, and what stands behind them
+-- a text is its leading spaces and the rest
 spaces_first : (text : List ℕ)
     → text ≡ replicate (prefix_len (is_byte 32) text) 32 ++ without_spaces text
 spaces_first [] = refl
@@ -126,7 +126,7 @@ sent_token header bytes sent =
     ap token_in (sent.is ∙ append_assoc sent.scheme (codes " ") behind)
     ∙ rw (cut_there 32 sent.scheme behind free) (rw basic (ap Some (without sent.more_spaces sent.token ahead)))
 
--- a header with a token has sent the bytes of which that is the base64
+-- a header with a token has sent the bytes that the token encodes
 token_sent : (header token bytes : List ℕ) → token_in header ≡ Some token → IsBase64 token bytes
     → HasSent header bytes
 token_sent header token bytes is of_bytes = go (cut 32 header) refl is
@@ -187,7 +187,7 @@ decoded_reads text decoded bytes is are = (
   λ of_bytes. ap Some (base64_injective decoded bytes are of_bytes.are_bytes (sym is ∙ of_bytes.is)),
 )
 
--- what isn't decoded is no base64
+-- a text that can't be decoded isn't base64
 pub undecoded : (text bytes : List ℕ) (error : DecodeError) → decode_of standard text ≡ Err error
     → ¬ IsBase64 text bytes
 unfolding base64_text

@@ -1,4 +1,4 @@
--- A text that is cut at its first such byte.
+-- A text split at its first such byte.
 use Rattle.std.proofs.Common.{◌≡◌, ◌≢◌, ℕ, ◌+◌, ◌<◌, ◌≤◌, Bool, true, false, cond, nat_lt, List, [], ◌∷◌, ◌++◌, length, get_or, Option, Some, None, refl, sym, ap, ◌∙◌, arith, length-drop, length-append, suc, eqb, eq-eqb}
 use Rattle.std.specs.List.{All, slice_split, position_or_len, before_first, after_first}
 use Rattle.std.proofs.lemmas.Bool.{eqb-true, eqb-false, lt-ltb, ltb-true, ltb-false}
@@ -9,7 +9,7 @@ use Rattle.std.proofs.lemmas.List.Elements.{All-head, All-tail}
 use Rattle.std.proofs.Math.Seq.{take-append_seam, drop-append-add}
 use Rattle.site_keys.specs.Bytes.{cut, is_byte}
 
--- what it is cut into
+-- the parts of the split
 pub record Cut (byte : ℕ) (text before behind : List ℕ) : Type 0 where
   pub within : position_or_len (is_byte byte) text < length text
   pub before_is : before ≡ before_first (is_byte byte) text
@@ -32,7 +32,7 @@ cut_some byte text before behind is = go (nat_lt (position_or_len (is_byte byte)
         }
     go false within is = absurd (cc is)
 
--- the parts of a text are what stands before the first such byte, and the parts of what stands behind
+-- the parts of a text: the one before the first such byte, and the parts of the rest after it
 pub parts_of_cut : (byte : ℕ) (text before behind : List ℕ) → Cut byte text before behind
     → slice_split (is_byte byte) text ≡ before ∷ slice_split (is_byte byte) behind
 parts_of_cut byte text before behind is =
@@ -44,7 +44,7 @@ shorter byte text before behind is =
     let within = is.within in
     rw is.behind_is (omega (arith, within, length-drop (position_or_len (is_byte byte) text + 1) text))
 
--- a text that can't be cut has no such byte
+-- a text that can't be split has no such byte
 pub uncut : (byte : ℕ) (text : List ℕ) → cut byte text ≡ None → All (λ b. is_byte byte b ≡ false) text
 uncut byte text is = go (nat_lt (position_or_len (is_byte byte) text) (length text)) refl is
   where
@@ -61,7 +61,7 @@ pub parts_uncut : (byte : ℕ) (text : List ℕ) → cut byte text ≡ None
     → slice_split (is_byte byte) text ≡ text ∷ []
 parts_uncut byte text is = slice_split_none (is_byte byte) text (uncut byte text is)
 
--- ---- before the first such byte, and behind it
+-- ---- before the first such byte, and after it
 
 pub cut_is : (byte : ℕ) (text before behind : List ℕ) → Cut byte text before behind
     → text ≡ before ++ byte ∷ behind
@@ -90,7 +90,7 @@ other_byte byte b other = go (eqb b byte) refl
 one_more : (n : ℕ) → 1 + n ≡ suc n
 one_more n = omega arith
 
--- the first such byte is the one behind a text without it
+-- the first such byte is the one after a text without it
 end_before : (byte : ℕ) (before behind : List ℕ) → All (λ b. b ≢ byte) before
     → position_or_len (is_byte byte) (before ++ byte ∷ behind) ≡ length before
 end_before byte [] behind none = rw (eq-eqb byte byte refl) refl

@@ -1,4 +1,4 @@
--- The keys of a file, line after line.
+-- The keys of a file, line by line.
 use Rattle.std.proofs.Common.{◌≡◌, ℕ, ◌+◌, List, [], ◌∷◌, ◌++◌, Option, Some, None, Result, Ok, Err, refl, sym, ap, ◌∙◌, append_assoc, append-nil}
 use Rattle.std.specs.List.{slice_split}
 use Rattle.std.specs.Option.{option_to_list}
@@ -11,7 +11,7 @@ use Rattle.site_keys.specs.ByCases.KeyFile.{numbered_line, keys_from, Adds}
 use Rattle.site_keys.specs.KeysFault.{Gives}
 use Rattle.site_keys.proofs.CutLemmas.{cut_some, parts_of_cut, parts_uncut}
 
--- more keys behind these
+-- more keys after these
 abbrev pub onto : List KeyState → Result (List KeyState) KeysFault → Result (List KeyState) KeysFault
 onto keys said = said >>= λ (more : List KeyState). Ok (keys ++ more)
 

@@ -1,4 +1,4 @@
--- What a file says is the keys of its lines.
+-- The keys of a file are those of its lines.
 use Rattle.std.proofs.Common.{◌≡◌, ℕ, ◌+◌, Bool, true, false, cond, List, [], ◌∷◌, ◌++◌, length, Option, Some, None, Result, Ok, Err, refl, sym, ap, ◌∙◌, arith, inl, inr}
 use Rattle.std.specs.Prelude.{not, ◌⊎◌}
 use Rattle.std.specs.List.{AllZip}
@@ -17,7 +17,7 @@ use Rattle.site_keys.proofs.LineLemmas.{bind_ok, line_read, line_made}
 abbrev later_keys : ℕ → List (List ℕ) → Option KeyState → Result (List KeyState) KeysFault
 later_keys number lines key = keys_from number lines >>= λ (keys : List KeyState). Ok (option_to_list key ++ keys)
 
--- ---- what is read
+-- ---- the keys read
 
 -- of a line that isn't left out
 abbrev read_or : ℕ → List (List ℕ) → Result KeyState LineFault → Result (List KeyState) KeysFault
@@ -76,7 +76,7 @@ keys_read number (line ∷ lines) keys are =
 
 -- ---- the first fault
 
--- of lines of which the first has this number
+-- of lines, the first of which has this number
 record FaultFrom (first : ℕ) (lines : List (List ℕ)) (e : KeysFault) : Type 0 where
   number : ℕ
   fault : LineFault

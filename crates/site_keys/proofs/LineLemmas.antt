@@ -1,4 +1,4 @@
--- What a line says is what it looks like.
+-- A line is read as a key exactly if it has a key's form.
 use Rattle.std.proofs.Common.{◌≡◌, ◌≢◌, ℕ, ◌<◌, Bool, true, false, cond, ◌&&◌, eqb, nat_lt, List, ◌∷◌, ◌++◌, length, Option, Some, None, Result, Ok, Err, codes, refl, sym, ap, ◌∙◌, arith, append_assoc}
 use Rattle.std.specs.Prelude.{All, not}
 use Rattle.std.specs.List.{list_all}
@@ -66,7 +66,7 @@ no_space_in_digits digits bytes n is =
     All-weaker (λ b. is_hex_digit b ≡ true) (λ b. b ≢ 32) no_digit digits
     (decode_of-ok digits bytes (sym (decode_sized-twice digits n len) ∙ is)).1
 
--- ---- from what it looks like to what it says
+-- ---- from the form to the key read
 
 joined : (a b c d : List ℕ)
     → a ++ codes " " ++ b ++ codes " " ++ c ++ codes " " ++ d ≡ a ++ 32 ∷ (b ++ 32 ∷ (c ++ 32 ∷ d))
@@ -92,7 +92,7 @@ line_read line key is =
     (rw (is.user)
     (rw (is.salt) (rw (is.digest) refl))))))
 
--- ---- from what it says to what it looks like
+-- ---- from the key read to the form
 
 pub bind_ok : {A B E : Type 0} (r : Result A E) (f : A → Result B E) (y : B)
     → (r >>= f) ≡ Ok y → (x : A) × (r ≡ Ok x) × (f x ≡ Ok y)

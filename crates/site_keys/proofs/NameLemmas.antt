@@ -4,7 +4,7 @@ use Rattle.std.specs.Str.{is_utf8}
 use Rattle.site_keys.specs.Bytes.{text_in}
 use Rattle.site_keys.specs.KeyFile.{is_name}
 
--- what is no text is no name
+-- bytes that aren't a text aren't a name
 pub name_is_text : (bytes : List ℕ) → text_in bytes ≡ None → is_name bytes ≡ false
 unfolding is_name
 name_is_text bytes none = go (is_utf8 bytes) refl none

@@ -1,4 +1,4 @@
--- Who may come.
+-- Admission of clients by their credentials.
 use Rattle.std.specs.Prelude.{ℕ, ◌≡◌, ◌↔◌, List, Option, IsSomeAnd}
 use Rattle.std.specs.String.{string_bytes}
 use Rattle.site_keys.specs.declared.role.Role.{Role}
@@ -8,33 +8,33 @@ use Rattle.site_keys.specs.declared.admission.Admission.TheVariants.{Admitted, U
 use Rattle.site_keys.specs.Key.{KeyState, HasRightKey}
 use Rattle.site_keys.specs.Credentials.{IsBasic}
 
--- the header has this user and a password for which a key of this role opens
+-- the header has this user, and a password that opens a key of this role
 pub record IsRight (keys : List KeyState) (role : Role) (header : Option (List ℕ)) (user : List ℕ)
     : Type 0 where
   pub password : List ℕ
   pub sent : IsSomeAnd header (λ bytes. IsBasic bytes user password)
   pub opens : HasRightKey keys role user password
 
--- a point comes as itself alone, as its identity is its user (OCPP-J 1.6, 6.2); an operator comes
+-- a point connects only as itself: its user is its identity (OCPP-J 1.6, 6.2); an operator connects
 -- whatever the identity
 abbrev pub IsOwn : Role → List ℕ → List ℕ → Type 0
 IsOwn Point identity user = user ≡ identity
 IsOwn Operator identity user = Unit {0}
 
--- who may come as this user
+-- a client is admitted as this user
 pub record MayCome (keys : List KeyState) (role : Role) (identity : List ℕ)
     (header : Option (List ℕ)) (user : List ℕ) : Type 0 where
   pub right : IsRight keys role header user
   pub own : IsOwn role identity user
 
--- the credentials are right, but for another identity
+-- the credentials are right, but the user may not use this identity
 pub record IsForbidden (keys : List KeyState) (role : Role) (identity : List ℕ)
     (header : Option (List ℕ)) : Type 0 where
   pub user : List ℕ
   pub right : IsRight keys role header user
   pub other : ¬ IsOwn role identity user
 
--- there are no right credentials
+-- the header has no right credentials
 pub record IsUnauthorized (keys : List KeyState) (role : Role) (header : Option (List ℕ))
     : Type 0 where
   pub none : (user : List ℕ) → ¬ IsRight keys role header user
@@ -44,7 +44,7 @@ IsAdmittedAs (Admitted name) user = string_bytes name ≡ user
 IsAdmittedAs Unauthorized user = ⊥
 IsAdmittedAs Forbidden user = ⊥
 
--- all that an admission says
+-- everything that an admission says
 pub record Decides (admission : Admission) (keys : List KeyState) (role : Role) (identity : List ℕ)
     (header : Option (List ℕ)) : Type 0 where
   pub admitted : (user : List ℕ)

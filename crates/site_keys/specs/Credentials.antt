@@ -14,8 +14,8 @@ pub record IsBase64 (text bytes : List ℕ) : Type 0 where
   pub is : text ≡ base64_text bytes
   pub are_bytes : IsBytes bytes
 
--- a header with these bytes: the scheme `Basic` in any case, at least one space (RFC 9110, 11.4), and
--- their base64
+-- a header with these bytes: the scheme `Basic` in any case, at least one space (RFC 9110, 11.4),
+-- and their base64
 pub record HasSent (header bytes : List ℕ) : Type 0 where
   pub scheme : List ℕ
   pub any_case : map to_ascii_lowercase scheme ≡ codes "basic"

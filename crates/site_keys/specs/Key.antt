@@ -1,4 +1,4 @@
--- A key of the site, and which password it opens for.
+-- A key of the site, and the passwords that open it.
 use Rattle.std.specs.Prelude.{ℕ, ◌≡◌, List, ◌++◌, Any}
 use Rattle.std.specs.Result.{result_unwrap_or}
 use Rattle.hex.specs.Hex.{decode_sized}
@@ -12,8 +12,8 @@ pub record KeyState : Type 0 where
   pub salt : List ℕ
   pub digest : List ℕ
 
--- What a password is worth (OCPP-J 1.6, 6.2): an AuthorizationKey has 20 bytes, and a station sends
--- these or, as text, the 40 hex digits that stand for them. Any other password is worth itself.
+-- The key bytes of a password (OCPP-J 1.6, 6.2): an AuthorizationKey has 20 bytes, and a station
+-- sends these or the 40 hex digits that encode them. Any other password has its own bytes.
 unfoldable pub key_bytes : List ℕ → List ℕ
 key_bytes password = result_unwrap_or (decode_sized password key_size) password
 
@@ -23,6 +23,6 @@ pub record Opens (key : KeyState) (role : Role) (user password : List ℕ) : Typ
   pub same_user : key.user ≡ user
   pub same_digest : key.digest ≡ sha256 (key.salt ++ key_bytes password)
 
--- some key opens for the password
+-- the password opens some key
 abbrev pub HasRightKey : List KeyState → Role → List ℕ → List ℕ → Type 0
 HasRightKey keys role user password = Any (λ (key : KeyState). Opens key role user password) keys

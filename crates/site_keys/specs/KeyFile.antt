@@ -1,4 +1,4 @@
--- The file of keys: what its lines look like, and what they are worth.
+-- The file of keys: the form of its lines, and their keys.
 use Rattle.std.specs.Prelude.{ℕ, ◌≡◌, ◌==◌, ◌&&◌, nat_lt, Bool, true, not, List, [], ◌∷◌, ◌++◌, length, map, filter, codes, Ok, IsTrue}
 use Rattle.std.specs.List.{AllZip, list_all, slice_split}
 use Rattle.std.specs.Str.{is_utf8}
@@ -17,7 +17,7 @@ role_word Operator = codes "operator"
 abbrev pub is_name_byte : ℕ → Bool
 is_name_byte b = nat_lt space b && not (b == colon) && not (b == delete)
 
--- what can be a user's name: such bytes, at least one, that are UTF-8
+-- a user's name: one or more such bytes that are UTF-8
 unfoldable pub is_name : List ℕ → Bool
 is_name name = is_utf8 name && nat_lt 0 (length name) && list_all is_name_byte name
 
@@ -32,16 +32,16 @@ pub record IsKeyLine (line : List ℕ) (key : KeyState) : Type 0 where
   pub salt : decode_sized salt_digits salt_size ≡ Ok key.salt
   pub digest : decode_sized digest_digits digest_size ≡ Ok key.digest
 
--- a line that is left out: an empty one, or one that begins with `#`
+-- the line is left out: it is empty, or begins with `#`
 abbrev pub is_left_out : List ℕ → Bool
 is_left_out [] = true
 is_left_out (first ∷ rest) = first == number_sign
 
--- those lines that aren't left out; a carriage return at a line's end is none of it
+-- the lines that aren't left out, without a carriage return at their end
 abbrev pub with_keys : List (List ℕ) → List (List ℕ)
 with_keys lines = filter (λ line. not (is_left_out line)) (map without_return lines)
 
--- the lines of a file, parted by line feeds: behind one at its end is an empty line
+-- the lines of a file, separated by line feeds; after a line feed at its end there is an empty line
 abbrev pub lines_of : List ℕ → List (List ℕ)
 lines_of bytes = slice_split (is_byte line_feed) bytes
 

@@ -1,4 +1,4 @@
--- What a fault says of a file, and what is read unless memory runs out.
+-- The meaning of a fault, and the keys that are read unless memory runs out.
 use Rattle.std.specs.Prelude.{ℕ, ◌≡◌, ◌+◌, false, List, ◌∷◌, ◌++◌, length, Result, Ok, Err}
 use Rattle.std.specs.List.{AllZip}
 use Rattle.site_keys.specs.declared.line_fault.LineFault.{LineFault}
@@ -9,8 +9,8 @@ use Rattle.site_keys.specs.Key.{KeyState}
 use Rattle.site_keys.specs.KeyFile.{IsKeyLine, is_left_out, with_keys, lines_of}
 use Rattle.site_keys.specs.ByCases.KeyFile.{key_in}
 
--- The line of this number, from 1, is the first that is neither left out nor a key's. Of several
--- reasons the first is said.
+-- The line of this number, from 1, is the first that is neither left out nor a key. Of several
+-- faults of a line, the first is reported.
 pub record IsFirstFault (bytes : List ℕ) (number : ℕ) (fault : LineFault) : Type 0 where
   pub earlier : List (List ℕ)
   pub line : List ℕ
@@ -23,12 +23,12 @@ pub record IsFirstFault (bytes : List ℕ) (number : ℕ) (fault : LineFault) : 
   pub none : (key : KeyState) → ¬ IsKeyLine (without_return line) key
   pub why : key_in (without_return line) ≡ Err fault
 
--- unless memory ran out
+-- the fault is the file's, unless memory ran out
 abbrev pub IsFaultOf : List ℕ → KeysFault → Type 0
 IsFaultOf bytes (Line number fault) = IsFirstFault bytes number fault
 IsFaultOf bytes OutOfMemory = Unit {0}
 
--- what is read is what the file says, unless memory ran out
+-- the value read is that of the file, unless memory ran out
 abbrev pub Gives : {A : Type 0} → Result A KeysFault → Result A KeysFault → Type 0
 Gives (Ok read) said = said ≡ Ok read
 Gives (Err OutOfMemory) said = Unit {0}

@@ -1,4 +1,4 @@
--- New keys, and what they are good for.
+-- New keys, and the headers that they admit.
 use Rattle.std.specs.Prelude.{ℕ, ◌≡◌, List, [], ◌∷◌, ◌++◌, length, codes, Option, IsTrue, ◌⊎◌}
 use Rattle.hex.specs.Hex.{IsBytes, encode_lower}
 use Rattle.sha2.specs.Sha256.{sha256}
@@ -9,7 +9,7 @@ use Rattle.site_keys.specs.KeyFile.{role_word, is_name}
 use Rattle.site_keys.specs.Admission.{MayCome}
 use Rattle.site_keys.specs.Credentials.{IsBasic, base64_text}
 
--- the key of a user who has these key bytes
+-- the key of a user with these key bytes
 abbrev pub new_key : Role → List ℕ → List ℕ → List ℕ → KeyState
 new_key role name salt key = record {
   role = role;
@@ -32,11 +32,11 @@ pub record CanBeWritten (name salt key : List ℕ) : Type 0 where
   pub has_key_size : length key ≡ key_size
   pub key_bytes : IsBytes key
 
--- the user sends the key, as hex digits or as it is
+-- the user sends the key, as hex digits or as bytes
 abbrev pub SendsKey : List ℕ → List ℕ → List ℕ → Type 0
 SendsKey header name key = IsBasic header name (encode_lower key) ⊎ IsBasic header name key
 
--- with this key alone, whoever comes has its role and its name
+-- with this key alone, each admitted client has its role and its name
 abbrev pub OpensAlone : Role → List ℕ → List ℕ → List ℕ → Type 0
 OpensAlone role name salt key =
     (other : Role) (identity : List ℕ) (header : Option (List ℕ)) (user : List ℕ)
@@ -49,6 +49,6 @@ pub record CanBeSent (name password : List ℕ) : Type 0 where
   pub name_bytes : IsBytes name
   pub password_bytes : IsBytes password
 
--- the header that most senders write
+-- the header with one space after `Basic`, as most senders write it
 abbrev pub basic_header : List ℕ → List ℕ → List ℕ
 basic_header user password = codes "Basic " ++ base64_text (user ++ codes ":" ++ password)

@@ -1,4 +1,4 @@
--- One step and then the next, up to the first that has no value: `do` for `Option`.
+-- One step after another, up to the first without a value: `do` for `Option`.
 use Rattle.std.specs.Prelude.{Option, Some, None}
 
 infixl 10 ◌>>=◌

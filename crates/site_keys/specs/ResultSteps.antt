@@ -1,4 +1,4 @@
--- One step and then the next, up to the first fault: `do` for `Result`.
+-- One step after another, up to the first fault: `do` for `Result`.
 use Rattle.std.specs.Prelude.{Result, Ok, Err}
 
 infixl 10 ◌>>=◌

@@ -1,4 +1,4 @@
-//! Who may come.
+//! Admission of clients by their credentials.
 
 ghost use Rattle.std.specs.Prelude.{◌≡◌, Some, IfOk};
 ghost use Rattle.site_keys.specs.ByCases.Admission.{decided_of, decided_of_user, decision, is_own};
@@ -10,18 +10,18 @@ use crate::key::{Key, has_right_key};
 use crate::role::Role;
 use std::alloc::{AllocError, Global};
 
-/// What comes of the credentials of an HTTP request.
+/// The result of checking the credentials of an HTTP request.
 #[derive(Drop)]
 pub enum Admission {
-    /// This user may come.
+    /// This user is admitted.
     Admitted(String),
     /// 401: there are no credentials of the scheme Basic, or they aren't right.
     Unauthorized,
-    /// 403: the credentials are right, but the identity is another's.
+    /// 403: the credentials are right, but the user isn't the identity of the path.
     Forbidden,
 }
 
-/// Decides by the keys of a site.
+/// Decides on a header by the keys of a site.
 pub(crate) fn decide(
     alloc: Global,
     keys: &[Key],
@@ -38,7 +38,7 @@ pub(crate) fn decide(
     }
 }
 
-/// Decides by the user and the password that were sent, parted by a colon.
+/// Decides on the user and the password in the decoded bytes of a header.
 fn decide_by(
     alloc: Global,
     keys: &[Key],
@@ -59,7 +59,7 @@ fn decide_by(
     }
 }
 
-/// Decides of a user with right credentials.
+/// Decides on a user with right credentials.
 fn decide_of_user(
     alloc: Global,
     role: Role,
@@ -76,10 +76,12 @@ fn decide_of_user(
     }
 }
 
-/// Whether a user of this role comes for itself, or may come for others.
+/// Returns whether a user of this role may use this identity.
 fn is_own(role: Role, identity: &str, user: &str) -> bool
     ensures { result ≡ is_own role identity.now user.now }
 {
+    // A point's user is its identity (OCPP-J 1.6, 6.2), so one point's key can't open another's
+    // URL. An operator, whom OCPP lacks, serves each point of the site.
     match role {
         Role::Point => user == identity,
         Role::Operator => true,

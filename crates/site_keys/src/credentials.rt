@@ -19,7 +19,7 @@ pub(crate) struct Credentials<'a> {
     pub(crate) password: &'a [u8],
 }
 
-/// The bytes that a header with the scheme Basic has in base64.
+/// Decodes the base64 of a header with the scheme Basic.
 pub(crate) fn sent_bytes(alloc: Global, header: &[u8]) -> Result<Option<Vec<u8>>, AllocError>
     ensures { IfOk result (λ sent. (bytes : List ℕ)
         → (option_map (λ v. v.items) sent ≡ Some bytes) ↔ HasSent header.now bytes) }
@@ -30,12 +30,13 @@ pub(crate) fn sent_bytes(alloc: Global, header: &[u8]) -> Result<Option<Vec<u8>>
     }
 }
 
-/// What stands behind the scheme Basic of a header, if it has that.
+/// Returns the token after the scheme Basic of a header, if that is its scheme.
 fn token_in(header: &[u8]) -> Option<&[u8]>
     ensures { option_copied result ≡ token_in header.entry.now }
 {
     match cut(header, b' ') {
         Some((scheme, rest)) => {
+            // RFC 9110, 11: the case of a scheme doesn't matter, and several spaces may follow it.
             if scheme.eq_ignore_ascii_case(b"basic") {
                 Some(without_spaces(rest))
             } else {
@@ -46,11 +47,12 @@ fn token_in(header: &[u8]) -> Option<&[u8]>
     }
 }
 
-/// The bytes of which a text is the base64.
+/// Decodes a text in base64. `None` if it isn't base64.
 fn base64_bytes(alloc: Global, text: &[u8]) -> Result<Option<Vec<u8>>, AllocError>
     ensures { IfOk result (λ decoded. (bytes : List ℕ)
         → (option_map (λ v. v.items) decoded ≡ Some bytes) ↔ IsBase64 text.now bytes) }
 {
+    // The engine is strict: it decodes only texts that it would encode, padding included.
     match STANDARD.decode(alloc, text) {
         Ok(bytes) => Ok(Some(bytes)),
         Err(DecodeAllocError::DecodeError(_)) => Ok(None),
@@ -58,16 +60,17 @@ fn base64_bytes(alloc: Global, text: &[u8]) -> Result<Option<Vec<u8>>, AllocErro
     }
 }
 
-/// The user before the first colon, and the password behind it.
+/// Splits bytes into the user before the first colon and the password after it.
 pub(crate) fn credentials_of(bytes: &[u8]) -> Option<Credentials<'_>>
     ensures { option_map credentials_view result ≡ credentials_of bytes.entry.now }
 {
+    // A password may have colons, a user may not (RFC 7617, 2).
     let (user, password) = cut(bytes, b':')?;
     let user = text_in(user)?;
     Some(Credentials { user, password })
 }
 
-/// The user that an `Authorization` header with the scheme Basic has, whatever the password.
+/// Returns the user in an `Authorization` header with the scheme Basic, whatever the password.
 pub fn user_in(alloc: Global, header: &[u8]) -> Result<Option<String>, AllocError>
     ensures { IfOk result (λ found. (user : List ℕ)
         → (option_map string_bytes found ≡ Some user) ↔ HasUser header.now user) }
@@ -78,7 +81,7 @@ pub fn user_in(alloc: Global, header: &[u8]) -> Result<Option<String>, AllocErro
     }
 }
 
-/// The user before the first colon.
+/// Copies the user before the first colon.
 fn user_of(alloc: Global, bytes: &[u8]) -> Result<Option<String>, AllocError>
     ensures { IfOk result (λ found. option_map string_bytes found
         ≡ option_map (λ sent. sent.user) (credentials_of bytes.now)) }

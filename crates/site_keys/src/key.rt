@@ -1,4 +1,4 @@
-//! A key, and which password it opens for.
+//! A key, and the check of a password by it.
 
 ghost use Rattle.std.specs.Prelude.{◌≡◌};
 ghost use Rattle.site_keys.specs.ByCases.Key.{has_right_key, is_of, is_same_role, opens};
@@ -31,14 +31,14 @@ impl Model for Key {
 }
 
 impl Key {
-    /// Whether it is a key of this role and user.
+    /// Returns whether it is a key of this role and user.
     fn is_of(&self, role: Role, user: &str) -> bool
         ensures { result ≡ is_of role user.now self.now }
     {
         is_same_role(self.role, role) && self.user.as_str() == user
     }
 
-    /// Whether this is its password.
+    /// Returns whether this is its password.
     fn opens(&self, password: &[u8]) -> bool
         ensures { result ≡ opens password.now self.now }
     {
@@ -55,14 +55,15 @@ fn is_same_role(one: Role, other: Role) -> bool
     }
 }
 
-/// Whether this is a password of this user in this role. Each of the user's keys is tried. For an
-/// unknown user a digest is made and compared all the same, so that the time tells less of who is
-/// known; that it tells nothing isn't claimed.
+/// Returns whether this is a password of this user in this role. Tries each key of the user. For an
+/// unknown user it computes and compares a digest all the same, so that the time reveals less of
+/// which users exist. It may still reveal something.
 pub(crate) fn has_right_key(keys: &[Key], role: Role, user: &str, password: &[u8]) -> bool
     ensures { result ≡ has_right_key role user.now password.now keys.now }
 {
     let mut is_known = false;
     let mut is_right = false;
+    // Goes on after a right key: an exit there would reveal by its time which key was right.
     for key in keys {
         if key.is_of(role, user) {
             is_known = true;
@@ -70,7 +71,7 @@ pub(crate) fn has_right_key(keys: &[Key], role: Role, user: &str, password: &[u8
         }
     }
     if !is_known {
-        // Nothing is right yet, and nothing becomes right here.
+        // `is_right` is false here, and stays so whatever the comparison returns.
         is_right &= is_same(&digest_of(&[0; 16], password), &[0; 32]);
     }
     is_right

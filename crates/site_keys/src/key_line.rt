@@ -1,4 +1,4 @@
-//! How a line of a file of keys is read.
+//! Reads a line of a file of keys.
 
 ghost use Rattle.std.specs.Prelude.{◌≡◌};
 ghost use Rattle.std.specs.Result.{result_map_both};
@@ -40,11 +40,11 @@ struct Words<'a> {
     role: &'a [u8],
     user: &'a [u8],
     salt: &'a [u8],
-    /// What stands behind the salt.
+    /// The rest of the line after the salt.
     digest: &'a [u8],
 }
 
-/// Reads a line, without its line end. None if it is left out.
+/// Reads a line, given without its line end. Returns `None` for an empty line or a comment.
 pub(crate) fn read_line(line: &[u8]) -> Result<Option<KeyLine<'_>>, LineFault>
     ensures { result ≡ line_in line.entry.now }
 {
@@ -54,7 +54,7 @@ pub(crate) fn read_line(line: &[u8]) -> Result<Option<KeyLine<'_>>, LineFault>
     Ok(Some(read_key(line)?))
 }
 
-/// Whether a line is left out.
+/// Returns whether a line is empty or a comment.
 fn is_left_out(line: &[u8]) -> bool
     ensures { result ≡ is_left_out line.now }
 {
@@ -82,7 +82,7 @@ fn read_key(line: &[u8]) -> Result<KeyLine<'_>, LineFault>
     })
 }
 
-/// The words of a line.
+/// Splits a line into its words.
 fn split_words(line: &[u8]) -> Result<Words<'_>, LineFault>
     ensures { result_map_both words_view (λ fault. fault) result ≡ words_of line.entry.now }
 {
@@ -97,7 +97,7 @@ fn split_words(line: &[u8]) -> Result<Words<'_>, LineFault>
     })
 }
 
-/// The word before the first space, and what stands behind that.
+/// Splits a text into the word before the first space and the rest after it.
 fn split_word(text: &[u8]) -> Result<(&[u8], &[u8]), LineFault>
     ensures { result_map_both (λ parts. (parts.0.now, parts.1.now)) (λ fault. fault) result
         ≡ word_at text.entry.now }
@@ -108,7 +108,7 @@ fn split_word(text: &[u8]) -> Result<(&[u8], &[u8]), LineFault>
     }
 }
 
-/// The role that a word names.
+/// Returns the role that a word names.
 fn role_named(word: &[u8]) -> Result<Role, LineFault>
     ensures { result ≡ role_named word.now }
 {
@@ -121,7 +121,7 @@ fn role_named(word: &[u8]) -> Result<Role, LineFault>
     }
 }
 
-/// The user's name that bytes are.
+/// Reads bytes as a user's name.
 fn read_name(bytes: &[u8]) -> Result<&str, LineFault>
     ensures { result_map_both (λ name. name.now) (λ fault. fault) result ≡ name_in bytes.entry.now }
 {
@@ -135,7 +135,7 @@ fn read_name(bytes: &[u8]) -> Result<&str, LineFault>
     }
 }
 
-/// The salt of 32 hex digits.
+/// Decodes a salt from its 32 hex digits.
 fn read_salt(digits: &[u8]) -> Result<[u8; 16], LineFault>
     ensures { result ≡ salt_in digits.now }
 {
@@ -145,7 +145,7 @@ fn read_salt(digits: &[u8]) -> Result<[u8; 16], LineFault>
     }
 }
 
-/// The digest of 64 hex digits.
+/// Decodes a digest from its 64 hex digits.
 fn read_digest(digits: &[u8]) -> Result<[u8; 32], LineFault>
     ensures { result ≡ digest_in digits.now }
 {

@@ -1,4 +1,4 @@
-//! The keys of a site, and how they are read from their file.
+//! The keys of a site, and the reading of their file.
 
 ghost use Rattle.std.specs.Prelude.{ℕ, ◌≡◌, ◌↔◌, List, Ok, IfOk, IfErr};
 ghost use Rattle.std.specs.Option.{option_copied};
@@ -34,8 +34,8 @@ impl Model for Keys {
 }
 
 impl Keys {
-    /// Reads the keys of a file, or says which line is the first that is neither left out nor a
-    /// key's.
+    /// Reads the keys of a file. The fault has the number of the first line that isn't a key, a
+    /// comment or empty.
     pub fn read(alloc: Global, bytes: &[u8]) -> Result<Keys, KeysFault>
         ensures read { IfOk result (AreKeysOf bytes.now) }
         ensures only { (keys : List KeyState) → AreKeysOf bytes.now keys → Gives result (Ok keys) }
@@ -45,11 +45,11 @@ impl Keys {
         Ok(Keys { keys })
     }
 
-    /// Who may come with an `Authorization` header: a point whose user is the identity of the
-    /// path, and an operator whatever the identity.
+    /// Decides whether a client with this `Authorization` header is admitted: a point only if its
+    /// user is the identity of the path, an operator whatever the identity.
     ///
-    /// Each byte of a digest is compared, and for an unknown user a digest is made all the same.
-    /// That the time tells nothing is neither proved nor claimed.
+    /// Compares each byte of a digest, and computes a digest for an unknown user as well. The time
+    /// may still reveal something: this is neither proved nor claimed.
     pub fn admit(
         &self,
         alloc: Global,
@@ -71,7 +71,7 @@ impl Keys {
     }
 }
 
-/// The keys of a file.
+/// Reads the keys of a file.
 #[tactic(auto, unfolding(crate::specs::ByCases::KeyFile::keys_in))]
 fn read_keys(alloc: Global, bytes: &[u8]) -> Result<Vec<Key>, KeysFault>
     ensures { Gives (items_of result) (keys_in bytes.now) }
@@ -84,11 +84,12 @@ fn read_keys(alloc: Global, bytes: &[u8]) -> Result<Vec<Key>, KeysFault>
         number += 1;
         rest = others;
     }
+    // The last line may lack its line feed.
     add_line(alloc, &mut keys, number, rest)?;
     Ok(keys)
 }
 
-/// Adds the key of a line, if it isn't left out.
+/// Adds the key of a line, unless that is empty or a comment.
 fn add_line(alloc: Global, keys: &mut Vec<Key>, number: usize, line: &[u8]) -> Result<(), KeysFault>
     ensures { Adds result keys.old.items keys.new.items (numbered_line number line.now) }
 {
@@ -103,7 +104,7 @@ fn add_line(alloc: Global, keys: &mut Vec<Key>, number: usize, line: &[u8]) -> R
     }
 }
 
-/// The key of a line.
+/// Copies the key of a line.
 fn owned(alloc: Global, line: &KeyLine<'_>) -> Result<Key, AllocError>
     ensures { IfOk result (λ key. key ≡ line.now) }
 {

@@ -1,4 +1,4 @@
-//! Why a file of keys can't be read.
+//! The faults of a file of keys.
 
 ghost use Rattle.std.specs.Prelude.{◌≡◌};
 ghost use Rattle.site_keys.specs.declared.keys_fault.KeysFault.TheVariants.{OutOfMemory};
@@ -7,10 +7,10 @@ use crate::line_fault::LineFault;
 use std::alloc::{AllocError, AllocFailed};
 use thiserror::Error;
 
-/// Why a file of keys can't be read.
+/// The reason why a file of keys can't be read.
 #[derive(Clone, Copy, Debug, PartialEq, Eq, Error)]
 pub enum KeysFault {
-    /// The first line that is neither left out nor a key's, counted from 1.
+    /// The number, from 1, of the first line that isn't a key, a comment or empty.
     #[error("line {number}: {fault}")]
     Line { number: usize, fault: LineFault },
     /// Memory ran out.

@@ -1,5 +1,5 @@
-//! The keys of a site: who may come by HTTP Basic (OCPP-J 1.6, 6.2), by a file of salted digests.
-//! What the file says stands in `specs/KeyFile.antt`, who may come in `specs/Admission.antt`.
+//! The keys of a site: HTTP Basic (OCPP-J 1.6, 6.2) by a file of salted digests.
+//! `specs/KeyFile.antt` defines the file, `specs/Admission.antt` which clients are admitted.
 #![tactic(auto)]
 
 mod admission;

@@ -1,8 +1,8 @@
-//! Why a line of a file of keys has no key.
+//! The faults of a line of a file of keys.
 
 use thiserror::Error;
 
-/// Why a line of a file of keys has no key, in the order in which the faults are checked.
+/// The reason why a line of a file of keys has no key. The variants are checked in this order.
 #[derive(Clone, Copy, Debug, PartialEq, Eq, Error)]
 pub enum LineFault {
     /// It has fewer than four words, with one space between them.

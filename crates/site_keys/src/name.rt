@@ -6,7 +6,7 @@ ghost use Rattle.std.specs.Option.{option_copied};
 ghost use Rattle.site_keys.specs.Bytes.{text_in};
 ghost use Rattle.site_keys.specs.KeyFile.{is_name, is_name_byte};
 
-/// The text that bytes are, if they are UTF-8.
+/// Returns bytes as a text, if they are UTF-8.
 pub(crate) fn text_in(bytes: &[u8]) -> Option<&str>
     ensures { option_copied result ≡ text_in bytes.entry.now }
 {
@@ -16,7 +16,7 @@ pub(crate) fn text_in(bytes: &[u8]) -> Option<&str>
     }
 }
 
-/// Whether a text can be a user's name.
+/// Returns whether a text can be a user's name.
 #[tactic(auto, unfolding(crate::specs::KeyFile::is_name))]
 pub(crate) fn is_name(name: &str) -> bool
     ensures { result ≡ is_name name.now }
@@ -24,16 +24,17 @@ pub(crate) fn is_name(name: &str) -> bool
     !name.is_empty() && has_name_bytes(name.as_bytes())
 }
 
-/// Whether a name can have each of these bytes.
+/// Returns whether a name can have each of these bytes.
 fn has_name_bytes(name: &[u8]) -> bool
     ensures { result ≡ list_all is_name_byte name.now }
 {
     name.iter().all(|b| is_name_byte(*b))
 }
 
-/// Whether a name can have this byte.
+/// Returns whether a name can have this byte.
 fn is_name_byte(byte: u8) -> bool
     ensures { result ≡ is_name_byte byte }
 {
+    // A space would end the name in its line, a colon in a header (RFC 7617, 2).
     byte > b' ' && byte != b':' && byte != 0x7f
 }

@@ -1,4 +1,4 @@
-//! New keys: what the station or the operator gets, and the line of the file.
+//! New keys: the digits for the station or the operator, and the line of the file.
 
 ghost use Rattle.std.specs.Prelude.{◌≡◌, ◌↔◌, false, Err, IfOk};
 ghost use Rattle.std.specs.String.{string_bytes};
@@ -13,16 +13,16 @@ use crate::role::Role;
 use std::alloc::{AllocError, Global};
 use thiserror::Error;
 
-/// A new key, written.
+/// The texts of a new key.
 #[derive(Drop)]
 pub struct KeyText {
-    /// What stands in the file, without a line feed.
+    /// The line of the file, without its line feed.
     pub line: String,
-    /// What the station or the operator gets: the 40 hex digits of the key. They are a secret.
+    /// The 40 hex digits of the key, for the station or the operator. They are a secret.
     pub digits: String,
 }
 
-/// Why a key can't be written.
+/// The reason why a key can't be written.
 #[derive(Clone, Copy, Debug, PartialEq, Eq, Error)]
 pub enum NewKeyFault {
     /// The name is empty, or has a blank, a colon or a control character.
@@ -43,8 +43,8 @@ impl From<AllocError> for NewKeyFault {
     }
 }
 
-/// Writes a key of a user. The caller draws the salt and the key at random, anew for each line. The
-/// law `written_keys_open` says what the line is good for.
+/// Writes a key of a user. The caller draws a new random salt and key for each line. The law
+/// `written_keys_open` says which headers the line admits.
 pub fn write_key(
     alloc: Global,
     role: Role,

@@ -1,19 +1,19 @@
-//! Whose key a key is.
+//! The role of a key's user.
 
 ghost use Rattle.std.specs.Prelude.{◌≡◌};
 ghost use Rattle.site_keys.specs.KeyFile.{role_word};
 
-/// Whose key a key is.
+/// The role of a key's user.
 #[derive(Clone, Copy, PartialEq, Eq)]
 pub enum Role {
-    /// A charge point's: it may come as itself alone.
+    /// A charge point, which may connect only as itself.
     Point,
-    /// An operator's.
+    /// An operator.
     Operator,
 }
 
 impl Role {
-    /// The first word of its lines.
+    /// Returns the first word of its lines.
     pub(crate) fn word(self) -> &'static str
         ensures { result.now ≡ role_word self }
     {

@@ -1,4 +1,4 @@
-//! What new keys are good for: a law of definitions alone.
+//! The headers that a new key admits: a law of definitions alone.
 
 ghost use Rattle.std.specs.Prelude.{ℕ, ◌≡◌, List, [], ◌∷◌, Some, Option};
 ghost use Rattle.site_keys.specs.declared.role.Role.{Role};
@@ -7,8 +7,8 @@ ghost use Rattle.site_keys.specs.Credentials.{IsBasic};
 ghost use Rattle.site_keys.specs.KeyFile.{AreKeysOf};
 ghost use Rattle.site_keys.specs.NewKey.{CanBeSent, CanBeWritten, OpensAlone, SendsKey, basic_header, key_line, new_key};
 
-/// A line that was written is a file of that key alone. With it comes whoever sends its name and
-/// the key, as hex digits or as it is, and nobody of another name or in another role. Each name and
+/// States that a written line is a file of that key alone. It admits a client that sends its name
+/// and the key, as hex digits or as bytes, and no client of another name or role. Each name and
 /// each password can be sent.
 pub fn written_keys_open()
     ensures read { (role : Role) (name salt key : List ℕ) → CanBeWritten name salt key

@@ -21,7 +21,7 @@ use Rattle.site_rules.proofs.PointLemmas.{IsPlaceOf-place}
 
 -- ---- the point
 
--- an identity that no point has is found nowhere, and any other is
+-- an identity is found exactly if a point has it
 none_found : (site : SiteState) (id : List ℕ) → entry_of site id ≡ None → HasNoPoint site id
 none_found site id none = go (place_of site id) refl none
   where

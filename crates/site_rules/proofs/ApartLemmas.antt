@@ -1,4 +1,4 @@
--- Which identities are new, one point after the other, and that those points are apart.
+-- Identities that are new, one point after another, and points that are apart.
 use Rattle.std.proofs.Common.{◌≡◌, ◌≢◌, ℕ, suc, ◌+◌, nat_lt, Bool, true, false, cond, not, ◌||◌, List, [], ◌∷◌, ◌++◌, length, position, Some, None, is_some, bytes_eq, refl, sym, ◌∙◌, true≢false, arith}
 use Rattle.std.specs.Prelude.{⊤}
 use Rattle.std.specs.List.{AllByRecursion, list_any, position_or_len}
@@ -56,7 +56,7 @@ test-new : (id : List ℕ) (points : List PointEntry) → AllByRecursion (λ (p 
 test-new id [] h = refl
 test-new id (p ∷ ps) h = rw (not_same id p.id h.0) (test-new id ps h.1)
 
--- the place of an identity is none exactly where the identity is unused
+-- an identity has no index exactly if it is unused
 pub unused-place : (site : SiteState) (id : List ℕ) → is_some (place_of site id) ≡ false → IsUnused site.points id
 unused-place site id h = new-test id site.points (sym (some-position _ site.points) ∙ h)
 
@@ -104,6 +104,6 @@ all_new : (points : List PointEntry) → AllByRecursion (IsNew []) points
 all_new [] = tt
 all_new (p ∷ ps) = (tt, all_new ps)
 
--- points that are apart are new, one after the other
+-- points that are apart are new, one after another
 pub new-first : (points : List PointEntry) → AreApart points → AreNewAfter [] points
 new-first points h = new-apart [] points (all_new points) h

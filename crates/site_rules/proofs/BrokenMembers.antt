@@ -1,4 +1,4 @@
--- The members of an object that have no tree: where there is none, the object has a tree.
+-- The members of an object that have no tree: without such a member, the object has a tree.
 use Rattle.std.proofs.Common.{◌≡◌, ℕ, List, [], ◌∷◌, length, Bool, true, false, cond, not, ◌&&◌, ◌||◌, ◌↔◌, Option, Some, None, is_some, BTreeSet, Bor, Ordering, Less, Equal, Greater, nat_cmp, is_eq, refl, sym, ap, ap₂, ◌∙◌, subst, true≢false, arith}
 use Rattle.std.specs.Prelude.{IsTrue}
 use Rattle.std.specs.BTreeSet.{UpdatesBy}
@@ -23,7 +23,7 @@ abbrev pub is_broken : List ℕ → Members → Bool
 is_broken key no_members = false
 is_broken key (member l d ms) = cond (bytes_eq l key) (not (has_tree l d)) (is_broken key ms)
 
--- ---- one member more
+-- ---- one more member
 
 exchanged : (a b x y z : Bool) → (a ≡ true → b ≡ true → ⊥) → cond b y (cond a x z) ≡ cond a x (cond b y z)
 exchanged true true x y z apart = absurd (apart refl refl)
@@ -90,7 +90,7 @@ module _ (k : List ℕ) (d : Data) where
   order_put no_members h = (tt, tt)
   order_put (member l e ms) h = order_by (slice_cmp nat_cmp k l) l e ms refl h (order_put ms h.1)
 
--- ---- an object has a tree where none of its members is broken
+-- ---- an object has a tree if none of its members is broken
 
 fields_member : (name : Option (List ℕ)) (value : Option Tree) (others : Option Fields)
     → is_some (name >>= (λ (n : List ℕ). value >>= (λ (v : Tree). others >>= (λ (fs : Fields). Some (field n v fs)))))

@@ -1,4 +1,4 @@
--- A value from outside: the tree that its tokens are, by the token that begins it.
+-- A glance at a value: the tree of its tokens, by the first token.
 use Rattle.std.proofs.Common.{◌≡◌, ℕ, List, ◌∷◌, Bool, false, Some, unwrap_or, refl, sym, ap, ◌∙◌}
 use Rattle.json.specs.Json.{parse_map}
 use Rattle.json.specs.Token.{Token}
@@ -33,7 +33,7 @@ module _ (depth : ℕ) (rest : List Token) where
     seen = shown-glance glance;
   }
 
--- an object looks like one
+-- a glance other than that of an object isn't at an object
 
 pub no_object : (glance : Glance) (tree : Tree) → glance_tree glance ≡ shown tree → (glance ≡ glances.Object → ⊥) → is_object tree ≡ false
 no_object glance null h other = refl

@@ -1,4 +1,4 @@
--- Whether the value of a marked text has a tree: by its items or members, one after another, and by what comes after it.
+-- Whether the value of a marked text has a tree: by its items or members, one after another, and by the text after it.
 use Rattle.std.proofs.Common.{◌≡◌, ℕ, ◌-◌, ◌<◌, ◌≤◌, List, [], ◌∷◌, length, Bool, true, false, not, ◌&&◌, ◌↔◌, cond, Option, Some, None, option_map, is_some, refl, sym, ap, ◌∙◌, true≢false, arith}
 use Rattle.std.specs.Prelude.{IsTrue}
 use Rattle.std.specs.Option.{option_and_then}
@@ -36,7 +36,7 @@ item_has None others true has h = sym (ap (λ (b : Bool). b && is_some others) h
 item_has (Some t) None true has h = sym (ap (λ (b : Bool). b && false) h)
 item_has (Some t) (Some ts) true has h = sym (ap (λ (b : Bool). b && true) h)
 
--- a list of which these items were read, and whether all of them have trees
+-- a list with the items read so far, and whether all of them have trees
 pub record ItemsSoFar (depth : ℕ) (all left : List Token) (have : Bool) : Type 0 where
   pub n : ℕ
   pub enough : length left ≤ n
@@ -81,7 +81,7 @@ items_ended depth all ts r have sofar e = (
 
 -- ---- an object
 
--- an object of which these members were read, and the keys of those without a tree
+-- an object with the members read so far, and the keys of those without a tree
 pub record MembersSoFar (depth : ℕ) (all left : List Token) (keys : Keys) : Type 0 where
   pub n : ℕ
   pub enough : length left ≤ n
@@ -133,7 +133,7 @@ pub some-mapped : {A B : Type 0} (f : A → B) (o : Option A) → is_some o ≡ 
 some-mapped f None = refl
 some-mapped f (Some a) = refl
 
--- ---- a text is read where it is a value that nothing follows
+-- ---- a text is read if it is a value that nothing follows
 
 abbrev pub read_as : Option (json.Json × List Token) → Option Data
 read_as o = option_and_then of_json (option_and_then (λ p. if_last p.0 p.1) o)

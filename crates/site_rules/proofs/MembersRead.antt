@@ -1,4 +1,4 @@
--- One member more: its value counts if its key is a text.
+-- One more member: its value counts if its key is a text.
 use Rattle.std.proofs.Common.{◌≡◌, ℕ, List, codes, Option, Some, None, unwrap_or, sym, ap, ◌∙◌, subst}
 use Rattle.json.specs.Token.{Token}
 use Rattle.ocppj_frame.specs.Read.{name_of_key}

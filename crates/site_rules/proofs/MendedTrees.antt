@@ -1,4 +1,4 @@
--- Where a value has a tree, its mended tree is the same.
+-- If a value has a tree, its mended tree is the same.
 use Rattle.std.proofs.Common.{◌≡◌, ℕ, List, [], true, false, Option, Some, None, option_map, unwrap_or, is_some, Result, Ok, Err, IfOk, refl, sym, ap, ap₂, ◌∙◌, true≢false}
 use Rattle.json.specs.Lex.{tokens}
 use Rattle.json.specs.Json.{value}
@@ -18,7 +18,7 @@ use Rattle.site_rules.specs.ByCases.SiteReading.{site_by, site_of_tree}
 use Rattle.site_rules.proofs.MarkedTrees.{read_as, some-mapped}
 use Rattle.site_rules.proofs.TokenTrees.{was_mapped}
 
--- there is this one, if there is one
+-- the value, if there is one
 abbrev Is : {A : Type 0} → Option A → A → Type 0
 Is o a = is_some o ≡ true → o ≡ Some a
 
@@ -61,7 +61,7 @@ mutual
   fields_are json.no_members h = refl
   fields_are (json.member key d ms) h = member_is (name_of_key key) (tree_of d) (fields_of ms) (mended_tree d) (mended_fields ms) (tree_is d) (fields_are ms) h
 
--- the tree of a marked text, where it has one
+-- the tree of a marked text, if it has one
 marked_is : (marked : List ℕ) (tree : Tree) → is_some (marked_tree marked) ≡ true → tree_at max_depth (tokens marked) ≡ Some (tree, [])
     → marked_tree marked ≡ Some tree
 marked_is marked tree has here =

@@ -1,4 +1,4 @@
--- What is kept of the parts read so far, with one more.
+-- The values kept from the parts read so far, with one more part.
 use Rattle.std.proofs.Common.{◌≡◌, ◌+◌, ◌<◌, List, [], ◌∷◌, ◌++◌, length, Option, Result, Ok, Err, refl, sym, ap, ◌∙◌, arith}
 use Rattle.ocpp_scalars.specs.ResultSteps.{◌>>=◌}
 use Rattle.ocppj_frame.specs.Tree.{Tree}
@@ -20,7 +20,7 @@ entry-step : (points : Result SiteState SiteFault) (read : Option PointFields) (
 entry-step (Ok site) read tree h = ap (λ (r : Result PointEntry SiteFault). r >>= (λ (point : PointEntry). Ok (with_point site point))) (entry-point site read tree h)
 entry-step (Err fault) read tree h = refl
 
--- one entry more, of those that may be too many
+-- one more entry, of those that may be too many
 pub found_more : (found more : FoundPoints) (before : List Tree) (read : Option PointFields) (tree : Tree) → AreFound found before → IsEntry read tree → found.count < max_points
     → more.count ≡ found.count + 1 → more.points ≡ with_entry found.points read
     → AreFound more (before ++ tree ∷ [])

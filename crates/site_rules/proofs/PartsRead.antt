@@ -1,4 +1,4 @@
--- What is read part by part is what the tree of the whole file says.
+-- The site read part by part is that of the tree of the whole file.
 use Rattle.std.proofs.Common.{◌≡◌, ℕ, ◌+◌, ◌<◌, ◌≤◌, ◌==◌, ◌&&◌, nat_le, List, [], ◌∷◌, ◌++◌, length, codes, Bool, true, false, cond, Option, Some, None, option_map, unwrap_or, Result, Ok, Err, refl, sym, ap, ◌∙◌, append_assoc, arith}
 use Rattle.std.specs.Option.{option_and_then}
 use Rattle.std.specs.Result.{result_ok}
@@ -20,7 +20,7 @@ use Rattle.site_rules.specs.ByCases.SiteReading.{or_fault, some_or, few_or, ceil
 use Rattle.site_rules.specs.ByCases.Parts.{shown, glance_tree, with_ceiling, with_ceilings, unless_empty, ceilings_in, connectors_in, field_or_null, ArePointFields, IsEntry, no_object, an_object, point_by, entry_point, no_points, points_in, AreSiteFields, site_by_fields}
 use Rattle.site_rules.proofs.ReadingSteps.{few-is}
 
--- ---- a value from outside
+-- ---- a glance at a value
 
 text-shown : (tree : Tree) → of_kind as_text (unless_null (shown tree)) ≡ of_kind as_text (unless_null tree)
 text-shown null = refl
@@ -205,7 +205,7 @@ entry-point site read tree (an_object point fields h) = fields-point site fields
 
 -- ---- the points
 
--- the points after those of one more entry
+-- the points with that of one more entry
 abbrev after_next : Result SiteState SiteFault → Tree → Result SiteState SiteFault
 after_next points tree = points >>= (λ (s : SiteState). point_of s tree >>= (λ (point : PointEntry). Ok (with_point s point)))
 

@@ -1,4 +1,4 @@
--- The points of a site and the map that keeps them; the place of a point.
+-- The points of a site and the map that keeps them; the index of a point.
 use Rattle.std.proofs.Common.{◌≡◌, ℕ, suc, ◌+◌, not, cond, nat_lt, false, List, [], ◌∷◌, map, length, position, get_or, Option, Some, None, IfSome, is_some, String, string_bytes, bytes_eq, refl, ap, sym, ◌∙◌, true≢false}
 use Rattle.std.specs.List.{prefix_len}
 use Rattle.std.specs.Map.{keys_of, lookup}
@@ -22,15 +22,15 @@ module _ {A : Type 0} (id : List ℕ) where
   as_many [] = refl
   as_many (e ∷ es) = ap (λ (n : ℕ). suc n) (as_many es)
 
-  -- the place in the map is that among the points
+  -- the index in the map is that among the points
   pub place-kept : (es : List (String A × PointLimits)) → position (λ (k : String A). bytes_eq id (string_bytes k)) (keys_of es) ≡ position (λ (p : PointEntry). bytes_eq id p.id) (map kept_entry es)
   place-kept es = λ j. cond (nat_lt (lacking_before es j) (as_many es j)) (Some (lacking_before es j)) None
 
-  -- where no point has the identity, the map has no such key
+  -- if no point has the identity, the map has no such key
   pub lookup-new : (es : List (String A × PointLimits)) → position (λ (p : PointEntry). bytes_eq id p.id) (map kept_entry es) ≡ None → lookup (λ (k : String A). bytes_eq id (string_bytes k)) es ≡ None
   lookup-new es new = none_there _ (sym (some_index (λ (k : String A). bytes_eq id (string_bytes k)) es) ∙ ap is_some (place-kept es ∙ new))
 
--- the place of an identity is one of a point that has it
+-- the index of an identity is one of a point that has it
 pub IsPlaceOf-place : (site : SiteState) (id : List ℕ) (found : Option ℕ) → found ≡ place_of site id → IfSome found (IsPlaceOf site id)
 IsPlaceOf-place site id None h = tt
 IsPlaceOf-place site id (Some place) h =

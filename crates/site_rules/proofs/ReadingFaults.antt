@@ -1,4 +1,4 @@
--- Each step of the reading of a site file that finds a fault: which one, and when.
+-- Each step of reading a site file that finds a fault: the fault, and its condition.
 use Rattle.std.proofs.Common.{◌≡◌, ◌⊎◌, inl, inr, ℕ, nat_le, Bool, true, false, List, [], ◌∷◌, length, codes, Option, Some, None, is_some, Result, Ok, Err, refl, ap, sym, ◌∙◌}
 use Rattle.std.specs.Prelude.{◌&&◌, if◌then◌else◌}
 use Rattle.ocpp_scalars.specs.declared.number.NumberFault.{NumberFault}
@@ -18,13 +18,13 @@ use Rattle.site_rules.specs.ByCases.SiteReading.{or_fault, some_or, object_if, o
 abbrev pub HasOnly : {A : Type 0} → SiteFault → Result A SiteFault → Type 0
 HasOnly {A} fault step = (other : SiteFault) → step ≡ Err other → other ≡ fault
 
--- where it has none but that, and comes to nothing, it has that
+-- a step that has no other fault, and no value, has that fault
 pub refused : {A : Type 0} (fault : SiteFault) (step : Result A SiteFault) → HasOnly fault step → ((a : A) → step ≡ Ok a → ⊥) → step ≡ Err fault
 refused fault (Ok a) only never = absurd (never a refl)
 refused fault (Err other) only never = ap Err (only other refl)
 
 module _ {A B : Type 0} where
-  -- of two steps the first has the fault, or it came to something and the second has it
+  -- of two steps the first has the fault, or it has a value and the second has the fault
   pub went_wrong : (step : Result A SiteFault) (next : A → Result B SiteFault) (fault : SiteFault) → (step >>= next) ≡ Err fault
       → (step ≡ Err fault) ⊎ ((a : A) × (step ≡ Ok a) × (next a ≡ Err fault))
   went_wrong (Ok a) next fault h = inr (a, refl, h)
@@ -37,13 +37,13 @@ module _ {A B : Type 0} where
   both-only fault (Ok a) next first second other h = second a other h
   both-only fault (Err e) next first second other h = let same : e ≡ other = cc in first other (ap Err same)
 
--- two steps that come to nothing have the one fault that each may have
+-- two steps without a value have the one fault that each may have
 pub two-refused : {A B C : Type 0} (first : Result A SiteFault) (second : A → Result B SiteFault) (next : B → Result C SiteFault) (fault : SiteFault)
     → HasOnly fault first → ((a : A) → HasOnly fault (second a)) → ((a : A) (b : B) → first ≡ Ok a → second a ≡ Ok b → ⊥) → (first >>= (λ (a : A). second a >>= next)) ≡ Err fault
 two-refused (Ok a) second next fault f s never = goes_wrong (second a) next fault (refused fault (second a) (s a) (λ b h. never a b refl h))
 two-refused (Err e) second next fault f s never = ap Err (f e refl)
 
--- a step doesn't both come to something and have a fault
+-- a step doesn't have both a value and a fault
 pub not_both : {A : Type 0} (step : Result A SiteFault) (a : A) (fault : SiteFault) → step ≡ Ok a → step ≡ Err fault → ⊥
 not_both step a fault h k = let both : Ok a ≡ Err fault = sym h ∙ k in cc (both)
 

@@ -1,4 +1,4 @@
--- Each step of the reading of a site file, both ways: what it goes on with, and when.
+-- Each step of reading a site file, both ways: its value, and the condition of that.
 use Rattle.std.proofs.Common.{◌≡◌, ℕ, ◌≤◌, nat_le, Bool, true, false, List, [], ◌∷◌, length, Option, Some, None, is_some, Result, Ok, Err, refl, ap, sym, subst, ◌∙◌, arith}
 use Rattle.std.specs.Prelude.{◌&&◌, if◌then◌else◌}
 use Rattle.std.specs.List.{AllByRecursion, AllZip, list_all}
@@ -17,7 +17,7 @@ use Rattle.site_rules.specs.SiteFile.{is_id_byte, IsPointId, IsCeiling}
 use Rattle.site_rules.specs.ByCases.SiteReading.{or_fault, some_or, object_if, object_or, few_or, is_point_id, id_or_wrong, unused_id, ceiling_or, ceiling_of, ceilings_of}
 
 module _ {A B : Type 0} where
-  -- what comes of two steps comes of the second
+  -- the value of two steps is that of the second
   pub went_on : (step : Result A SiteFault) (next : A → Result B SiteFault) (b : B) → (step >>= next) ≡ Ok b → (a : A) × (step ≡ Ok a) × (next a ≡ Ok b)
   went_on (Ok a) next b h = (a, refl, h)
   went_on (Err fault) next b h = let no : ⊥ = cc in absurd no

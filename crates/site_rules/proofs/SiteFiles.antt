@@ -1,4 +1,4 @@
--- What is read of a site file is what the file looks like, both ways.
+-- The site read from a site file is the one that it describes, both ways.
 use Rattle.std.proofs.Common.{◌≡◌, ℕ, ◌≤◌, nat_lt, Bool, true, false, not, List, [], ◌∷◌, ◌++◌, length, codes, Option, Some, None, is_some, Result, Ok, Err, refl, ap, sym, subst, ◌∙◌, append_assoc, arith}
 use Rattle.std.specs.Prelude.{◌↔◌, if◌then◌else◌}
 use Rattle.std.specs.List.{AllZip}
@@ -173,7 +173,7 @@ list-step tree unit site h =
     let size = few-or faults.BadPoints max_points list.0 few.0 few.1 in
     (list.0, record { entries = value-or faults.BadPoints _ list.0 list.1; some = size.0; few = size.1 }, ap (after_few unit) size.2 ∙ few.2)
 
--- what a tree describes
+-- the site that a tree describes
 record IsTreeOf (tree : Tree) (site : SiteState) : Type 0 where
   object : is_object tree ≡ true
   unit : HasUnit tree site.unit

@@ -17,7 +17,7 @@ use Rattle.site_rules.specs.ByCases.Parts.{with_named, mended_tree, mended_trees
 
 -- ---- a list
 
--- what is mapped was parsed
+-- a mapped value was parsed
 pub was_mapped : {A B : Type 0} (f : A → B) (o : Option (A × List Token)) (b : B) (r : List Token) → parse_map f o ≡ Some (b, r)
     → (a : A) × (o ≡ Some (a, r)) × (f a ≡ b)
 was_mapped f None b r e = let no : ⊥ = cc in absurd no
@@ -40,7 +40,7 @@ entry_read : (d : json.Data) (t : Tree) → mended_tree d ≡ t → (o : Option 
 entry_read d t e None = refl
 entry_read d t e (Some p) = ap (λ (u : Tree). Some (entry u (mended_trees p.0), p.1)) e
 
--- the entries so far, before those to come
+-- the entries so far, before the remaining ones
 abbrev pub before : List Tree → Trees → Trees
 before [] rest = rest
 before (t ∷ ts) rest = entry t (before ts rest)
@@ -62,7 +62,7 @@ one_before : (ts : List Tree) (t : Tree) (o : Option (Trees × List Token))
 one_before ts t None = refl
 one_before ts t (Some p) = ap (λ (us : Trees). Some (us, p.1)) (before-more ts t p.0)
 
--- a list of which these trees were read, and what is left of it
+-- a list with the trees read so far, and the rest of it
 pub record ListSoFar (depth : ℕ) (all left : List Token) (done : List Tree) : Type 0 where
   pub n : ℕ
   pub enough : length left ≤ n
@@ -110,7 +110,7 @@ key_is (c ∷ bs) name h = grind (arith, h)
 same_as : (k l : List ℕ) → slice_cmp nat_cmp k l ≡ Equal → k ≡ l
 same_as k l e = (bytes_eq-Decides k l).0 (sym (is_eq-slice_cmp k l) ∙ ap is_eq e)
 
--- the fields with one more, as `serde_json` puts it in
+-- the fields with one more, as `serde_json` inserts it
 module _ (k : List ℕ) (d : json.Data) (name : List ℕ) (tree : Tree) (named : name_of_key k ≡ Some name) (valued : mended_tree d ≡ tree) where
   same_key : (l other : List ℕ) → name_of_key l ≡ Some other → name ≡ other → bytes_eq k l ≡ true
   same_key l other h e = (bytes_eq-Decides k l).1 (key_is k name named ∙ ap (λ (bs : List ℕ). text_mark ∷ bs) e ∙ sym (key_is l other h))
@@ -162,7 +162,7 @@ module _ (k : List ℕ) (d : json.Data) (name : List ℕ) (tree : Tree) (named :
   put_in json.no_members = put_less no_fields
   put_in (json.member l e ms) = put_by (slice_cmp nat_cmp k l) l e ms refl (put_in ms)
 
--- a member whose key is no text changes no field
+-- a member whose key isn't a text changes no field
 module _ (k : List ℕ) (d : json.Data) (unnamed : name_of_key k ≡ None) where
   passed : (t : Tree) (fields : Fields) (l : List ℕ) → k ≡ l → with_named (name_of_key l) t fields ≡ fields
   passed t fields l same = ap (λ (o : Option (List ℕ)). with_named o t fields) (sym (ap name_of_key same) ∙ unnamed)
@@ -185,7 +185,7 @@ put_by_key k d tree ms valued = by_name (name_of_key k) refl
     by_name None e = λ other. ap (field_at other) (ignored k d e ms)
     by_name (Some name) e = put_in k d name tree e valued ms
 
--- an object of which these fields were read, and what is left of it
+-- an object with the fields read so far, and the rest of it
 pub record ObjectSoFar (depth : ℕ) (all left : List Token) (fields : Fields) : Type 0 where
   pub n : ℕ
   pub enough : length left ≤ n

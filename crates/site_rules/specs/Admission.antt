@@ -1,4 +1,4 @@
--- Where a profile may stand.
+-- The connectors at which a profile may be installed.
 use Rattle.std.specs.Prelude.{ℕ, ◌≡◌, ◌≢◌, ◌<◌, nat_lt, ◌==◌, not, ◌&&◌, List, [], ◌∷◌, length, Option, Some, None, if◌then◌else◌}
 use Rattle.std.specs.List.{AllByRecursion}
 use Rattle.ocpp_scalars.specs.declared.refusal.Refusal.{Refusal}
@@ -15,10 +15,9 @@ use Rattle.site_rules.specs.Site.{PointEntry, SiteState, HasConnector, entry_of}
 abbrev pub HasNoPoint : SiteState → List ℕ → Type 0
 HasNoPoint site id = AllByRecursion (λ (point : PointEntry). id ≢ point.id) site.points
 
--- Why a profile may not stand at a connector of a point of the site, in the order in which the
--- causes are checked. Connector 0 is the whole point: a ChargePointMaxProfile stands there alone, a
--- TxProfile never does (OCPP 1.6, 3.13.1 and 5.16.4), and a schedule's unit is the site's (this
--- system's choice).
+-- The causes why a profile may not be installed at a connector of a point of the site, in the order
+-- of their checks. Connector 0 is the whole point: a ChargePointMaxProfile is installed only there,
+-- a TxProfile never (OCPP 1.6, 3.13.1 and 5.16.4). A schedule's unit is the site's (our choice).
 abbrev pub admission_causes : SiteState → List ℕ → ℕ → Profile → List Cause
 admission_causes site id connector profile =
     (UnknownPoint because HasNoPoint site id)
@@ -28,7 +27,7 @@ admission_causes site id connector profile =
     ∷ (WrongUnit because profile.schedule.unit ≢ site.unit)
     ∷ []
 
--- the same by tests one after another, of the point that is found
+-- the same by one test after another, for the point found
 abbrev pub refusal_at : Unit → Option PointEntry → ℕ → Profile → Option Refusal
 refusal_at unit None connector profile = Some UnknownPoint
 refusal_at unit (Some point) connector profile =
@@ -38,8 +37,8 @@ refusal_at unit (Some point) connector profile =
     else if not (unit_eq profile.schedule.unit unit) then Some WrongUnit
     else None
 
--- why a profile may not stand at a connector of a point of the site: by the law `admissions` the
--- first of these causes
+-- the refusal of a profile at a connector of a point of the site: by the law `admissions` the first
+-- of these causes
 abbrev pub admission_refusal : SiteState → List ℕ → ℕ → Profile → Option Refusal
 admission_refusal site id connector profile =
     refusal_at site.unit (entry_of site id) connector profile

@@ -1,18 +1,18 @@
--- The limits of a site file (this system's choice).
+-- The limits of a site file (our choice).
 use Rattle.std.specs.Prelude.{ℕ}
 
--- the most bytes of a site file
+-- the maximum size of a site file, in bytes
 abbrev pub max_site_bytes : ℕ
 max_site_bytes = 16_777_216
 
--- the most charge points of a site
+-- the maximum number of charge points of a site
 abbrev pub max_points : ℕ
 max_points = 1_000
 
--- the most connectors of a point
+-- the maximum number of connectors of a point
 abbrev pub max_connectors : ℕ
 max_connectors = 64
 
--- the most characters of a point's identity
+-- the maximum length of a point's identity, in characters
 abbrev pub max_point_id_characters : ℕ
 max_point_id_characters = 48

@@ -1,4 +1,4 @@
--- What a site is: its rate unit and its charge points.
+-- A site: its rate unit and its charge points.
 use Rattle.std.specs.Prelude.{ℕ, ◌≤◌, ◌≡◌, List, length, Option, Some, string_bytes, slice_get, option_and_then}
 use Rattle.std.specs.List.{position}
 use Rattle.std.specs.Str.{bytes_eq}
@@ -21,27 +21,28 @@ pub record SiteState : Type 0 where
   -- its charge points, in the order of the site file
   pub points : List PointEntry
 
--- the place of the point of an identity, from 0
+-- the index of the point with an identity, from 0
 abbrev pub place_of : SiteState → List ℕ → Option ℕ
 place_of site id = position (λ (point : PointEntry). bytes_eq id point.id) site.points
 
--- the point of an identity
+-- the point with an identity
 abbrev pub entry_of : SiteState → List ℕ → Option PointEntry
 entry_of site id = option_and_then (slice_get site.points) (place_of site id)
 
--- the point at this place has this identity
+-- the point at this index has this identity
 pub record IsPlaceOf (site : SiteState) (id : List ℕ) (place : ℕ) : Type 0 where
   pub point : PointEntry
   pub here : slice_get site.points place ≡ Some point
   pub same : point.id ≡ id
 
--- there is a point of this identity, and it has this connector or the connector is 0, the whole point
+-- there is a point of this identity, and it has this connector or the connector is 0, the whole
+-- point
 pub record HasConnector (site : SiteState) (id : List ℕ) (connector : ℕ) : Type 0 where
   pub point : PointEntry
   pub here : entry_of site id ≡ Some point
   pub within : connector ≤ length point.ceilings
 
--- a point as it is lent
+-- a borrowed point
 abbrev pub point_entry : SitePoint → PointEntry
 point_entry point =
     record { id = point.id.now; ceiling = point.ceiling; ceilings = point.ceilings.now }

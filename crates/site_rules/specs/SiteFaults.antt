@@ -1,4 +1,4 @@
--- Which fault of a site file is named: the first, in the order of its parts.
+-- The fault of a site file that is reported: the first, in the order of its parts.
 use Rattle.std.specs.Prelude.{ℕ, ◌<◌, ◌≤◌, ◌≡◌, ◌≢◌, false, true, List, ◌∷◌, ◌++◌, length, Some, None}
 use Rattle.std.specs.List.{AllByRecursion, AllZip}
 use Rattle.std.specs.Str.{IsUtf8}
@@ -35,7 +35,8 @@ pub data IsPointFault : List PointEntry → Tree → SiteFault → Type 0 where
       → ((ceilings : List ℕ) → ¬ HasConnectors tree ceilings)
       → IsPointFault earlier tree BadConnectors
 
--- the tree of a file, and its first fault; the entries before the one with the fault describe points
+-- the tree of a file, and its first fault; the entries before the one with the fault describe
+-- points
 pub data IsTreeFault : Tree → SiteFault → Type 0 where
   other_tree : (tree : Tree) → is_object tree ≡ false → IsTreeFault tree NotAnObject
   no_unit : (tree : Tree) → is_object tree ≡ true → ((unit : Unit) → ¬ HasUnit tree unit)

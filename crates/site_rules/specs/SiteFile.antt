@@ -1,4 +1,4 @@
--- What a site file looks like, and the site that it describes.
+-- The form of a site file, and the site that it describes.
 use Rattle.std.specs.Prelude.{ℕ, ◌≤◌, nat_le, ◌==◌, ◌≡◌, ◌≢◌, ⊤, Bool, true, ◌&&◌, ◌||◌, List, [], ◌∷◌, length, codes, Some, Ok}
 use Rattle.std.specs.List.{AllByRecursion, AllZip}
 use Rattle.std.specs.Str.{IsUtf8}
@@ -19,8 +19,8 @@ upper_a = 65
 abbrev pub lower_a : ℕ
 lower_a = 97
 
--- A letter, a digit, `.`, `_`, `-` or `~`: what a URL needn't escape (RFC 3986, 2.3), since a point's
--- identity is the last part of the URL that it connects to (OCPP-J 1.6, 3.1.1).
+-- A letter, a digit, `.`, `_`, `-` or `~`: the characters that a URL needn't escape (RFC 3986,
+-- 2.3). A point's identity is the last segment of the URL that it connects to (OCPP-J 1.6, 3.1.1).
 abbrev pub is_id_byte : ℕ → Bool
 is_id_byte b =
     (nat_le upper_a b && nat_le b upper_z) || (nat_le lower_a b && nat_le b lower_z)
@@ -80,7 +80,7 @@ pub record HasPoints (tree : Tree) (list : List Tree) : Type 0 where
   pub some : 1 ≤ length list
   pub few : length list ≤ max_points
 
--- A text of UTF-8, whose tree is an object that names the unit and lists the points, in their order. Other
+-- A UTF-8 text whose tree is an object with the unit and the list of points, in their order. Other
 -- fields are ignored, and a field that is null counts as absent.
 pub record IsSiteFile (bytes : List ℕ) (site : SiteState) : Type 0 where
   pub short : length bytes ≤ max_site_bytes

@@ -1,4 +1,4 @@
-//! Where a profile may stand.
+//! The connectors at which a profile may be installed.
 
 ghost use Rattle.std.specs.Prelude.{◌≡◌, None, Some, IfOk, MatchResult, option_map};
 ghost use Rattle.profile.specs.Purpose.{is_charge_point_max, is_tx};
@@ -10,9 +10,9 @@ use crate::site::Site;
 use ocpp_scalars::Refusal;
 use profile::{Profile, Purpose};
 
-/// Whether a profile may stand at a connector of a point, connector 0 being the whole point, or the first
-/// cause why not: `UnknownPoint`, `UnknownConnector`, `MaxNotAtZero`, `TxAtZero` or `WrongUnit`.
-/// Allocates nothing.
+/// Checks that a profile may be installed at a connector of a point, where connector 0 is the whole
+/// point. Returns the first cause why not: `UnknownPoint`, `UnknownConnector`, `MaxNotAtZero`,
+/// `TxAtZero` or `WrongUnit`. Allocates nothing.
 pub fn admit(site: &Site, point: &str, connector: u32, profile: &Profile) -> Result<(), Refusal>
     ensures refusal { MatchResult result
         (λ _. admission_refusal site.now point.now connector profile.now ≡ None)
@@ -25,19 +25,21 @@ pub fn admit(site: &Site, point: &str, connector: u32, profile: &Profile) -> Res
     if connector as usize > entry.ceilings.len() {
         return Err(Refusal::UnknownConnector);
     }
+    // A ChargePointMaxProfile limits the whole point, connector 0 (OCPP 1.6, 3.13.1).
     if is_charge_point_max(profile.purpose) && connector > 0 {
         return Err(Refusal::MaxNotAtZero);
     }
     if is_tx(profile.purpose) && connector == 0 {
         return Err(Refusal::TxAtZero);
     }
+    // A conversion between amperes and watts needs the voltage, which no schedule has.
     if !profile.schedule.unit.is_same(site.unit()) {
         return Err(Refusal::WrongUnit);
     }
     Ok(())
 }
 
-/// The point of an identity.
+/// Returns the point of an identity.
 fn point_named<'a>(site: &'a Site, id: &str) -> Option<SitePoint<'a>>
     ensures { option_map point_entry result ≡ entry_of site.now id.now }
 {

@@ -1,11 +1,11 @@
-//! What is wrong with a site file.
+//! The faults of a site file.
 
 ghost use Rattle.std.specs.Prelude.{◌≡◌};
 
 use std::alloc::{AllocError, AllocFailed};
 use thiserror::Error;
 
-/// Why a site file isn't accepted, in the order in which the faults are checked.
+/// The reason why a site file isn't accepted. The variants are checked in this order.
 #[derive(Clone, Copy, Debug, PartialEq, Eq, Error)]
 pub enum SiteFault {
     /// The file has more than 16,777,216 bytes.
@@ -14,10 +14,10 @@ pub enum SiteFault {
     /// The file isn't UTF-8.
     #[error("NotUtf8")]
     NotUtf8,
-    /// The text is no JSON.
+    /// The text isn't JSON.
     #[error("NotJson")]
     NotJson,
-    /// The JSON is no object.
+    /// The JSON isn't an object.
     #[error("NotAnObject")]
     NotAnObject,
     /// `unit` isn't `"A"` or `"W"`.

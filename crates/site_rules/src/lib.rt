@@ -1,5 +1,6 @@
-//! The site of a central system, as its file describes it: its rate unit and its charge points, each with
-//! its ceilings, and which profiles may stand where (OCPP 1.6, chapters 3.13 and 5.16).
+//! The site of a central system, as its file describes it: its rate unit, and its charge points
+//! with their ceilings. Decides which profiles may be installed where (OCPP 1.6, chapters 3.13 and
+//! 5.16).
 #![tactic(auto)]
 
 mod admission;

@@ -15,7 +15,7 @@ pub struct SitePoint<'a> {
     pub ghost few: { length ceilings.now ≤ max_connectors },
 }
 
-/// What a site keeps of a charge point besides its identity.
+/// The limits of a charge point, which a site keeps by its identity.
 #[derive(Drop)]
 pub(crate) struct PointLimits {
     pub ceiling: u32,

@@ -26,14 +26,14 @@ use std::alloc::Global;
 use steps::{few_or, object_or, or_fault, some_or};
 use whole::read_parts;
 
-/// The most bytes of a site file.
+/// The maximum size of a site file, in bytes.
 pub const MAX_SITE_BYTES: usize = 16_777_216;
 
-/// The most charge points of a site.
+/// The maximum number of charge points of a site.
 pub(crate) const MAX_POINTS: usize = 1_000;
 
-/// Reads a site file, or names its first fault, in the order of `SiteFault`. A fault of a point is found
-/// before those of the points after it.
+/// Reads a site file, or returns its first fault, in the order of `SiteFault`. A fault of a point
+/// is found before those of the points after it.
 #[tactic(auto, unfolding(crate::specs::ByCases::SiteReading::site_of))]
 pub fn read_site(alloc: Global, bytes: &[u8]) -> Result<Site, SiteFault>
     ensures { ReadsUnless is_memory (λ site. site) result (site_of bytes.now) }
@@ -50,6 +50,7 @@ pub fn read_site(alloc: Global, bytes: &[u8]) -> Result<Site, SiteFault>
 fn read_site_text(alloc: Global, text: &str) -> Result<Site, SiteFault>
     ensures { ReadsUnless is_memory (λ site. site) result (site_by (tree_of_text text.now)) }
 {
+    // A tree would take up to 120 times the size of its text.
     match read_parts(alloc, text) {
         Ok(site) => site,
         Err(PartFault::OutOfMemory) => Err(SiteFault::OutOfMemory),
@@ -57,8 +58,8 @@ fn read_site_text(alloc: Global, text: &str) -> Result<Site, SiteFault>
     }
 }
 
-/// Reads the text as a tree first, in many times its size. It never comes to that, since a text
-/// that isn't JSON is refused before; but that isn't proved.
+/// Reads the text as a tree, which takes many times its size. This is never reached, since a text
+/// that isn't JSON is refused earlier. But that isn't proved.
 fn read_text_whole(alloc: Global, text: &str) -> Result<Site, SiteFault>
     ensures { ReadsUnless is_memory (λ site. site) result (site_by (tree_of_text text.now)) }
 {
@@ -82,7 +83,7 @@ fn read_site_tree(alloc: Global, tree: Node<'_, '_>) -> Result<Site, SiteFault>
     read_points(alloc, unit, entries)
 }
 
-/// Reads the points, each in full before the next.
+/// Reads the points, each completely before the next.
 fn read_points(alloc: Global, unit: Unit, entries: Entries<'_, '_>) -> Result<Site, SiteFault>
     ensures { ReadsUnless is_memory (λ site. site) result
         (with_points (record { unit = unit; points = [] }) (entries_in entries.entry)) }

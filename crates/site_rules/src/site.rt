@@ -9,11 +9,12 @@ use profile::Unit;
 use std::alloc::{AllocError, Global};
 use std::marker::Model;
 
-/// A site as its file describes it: its rate unit and its charge points, no two of one identity, in the
-/// order of the file.
+/// A site as its file describes it: its rate unit, and its charge points in the order of the file.
+/// No two points have one identity.
 #[derive(Drop)]
 pub struct Site {
     unit: Unit,
+    // A hash map, since each step names its point by identity. It keeps the order of the file.
     points: IndexMap<String, PointLimits>,
 }
 
@@ -27,7 +28,7 @@ impl Model for Site {
 }
 
 impl Site {
-    /// A site without points. Allocates nothing.
+    /// Creates a site without points. Allocates nothing.
     pub(crate) fn new(alloc: Global, unit: Unit) -> Site
         ensures { result ≡ record { unit = unit; points = [] } }
     {
@@ -49,7 +50,7 @@ impl Site {
         Ok(())
     }
 
-    /// The same points in another unit.
+    /// Returns the site with its points, in another unit.
     pub(crate) fn with_unit(self, unit: Unit) -> Site
         ensures { result ≡ record { unit = unit; points = self.points } }
     {
@@ -59,21 +60,21 @@ impl Site {
         }
     }
 
-    /// The unit of the site's limits.
+    /// Returns the unit of the site's limits.
     pub fn unit(&self) -> Unit
         ensures { result ≡ self.now.unit }
     {
         self.unit
     }
 
-    /// The number of its points.
+    /// Returns the number of its points.
     pub fn len(&self) -> usize
         ensures { result ≡ length self.now.points }
     {
         self.points.len()
     }
 
-    /// The point at a place, from 0 in the order of the file.
+    /// Returns the point at an index, from 0 in the order of the file.
     pub fn point(&self, place: usize) -> Option<SitePoint<'_>>
         ensures point { option_map point_entry result ≡ slice_get self.now.points place }
         ensures found { IsSome result ↔ (place < length self.now.points) }
@@ -86,7 +87,8 @@ impl Site {
         })
     }
 
-    /// The place of the point of an identity, in a time that doesn't grow with the number of points.
+    /// Returns the index of the point with an identity. The time doesn't grow with the number of
+    /// points.
     pub fn place_of(&self, id: &str) -> Option<usize>
         ensures place { result ≡ place_of self.now id.now }
         ensures within { IfSome result (λ place. place < length self.now.points) }

@@ -1,4 +1,4 @@
-//! The laws of site files and of admissions, on functions that do nothing.
+//! The laws of site files and of admissions, as contracts of functions that do nothing.
 
 ghost use Rattle.std.specs.Prelude.{◌≡◌, ◌↔◌, ℕ, List, Option, Ok, Err};
 ghost use Rattle.ocpp_scalars.specs.declared.refusal.Refusal.{Refusal};
@@ -11,8 +11,8 @@ ghost use Rattle.site_rules.specs.SiteFaults.{IsSiteFault};
 ghost use Rattle.site_rules.specs.Admission.{admission_causes, admission_refusal};
 ghost use Rattle.site_rules.specs.ByCases.SiteReading.{site_of};
 
-/// The law of all site files. A site is read exactly where the bytes are a file that describes it. A fault is
-/// found exactly where it is the first that they have.
+/// States the law of all site files. A site is read exactly if the bytes are a file that describes
+/// it. A fault is found exactly if it is their first.
 pub fn site_files()
     ensures site { (bytes : List ℕ) (site : SiteState)
         → (site_of bytes ≡ Ok site) ↔ IsSiteFile bytes site }
@@ -20,8 +20,8 @@ pub fn site_files()
         → (site_of bytes ≡ Err fault) ↔ IsSiteFault bytes fault }
 {}
 
-/// The law of admissions: a profile is refused exactly where the cause of the refusal holds and
-/// none before it does, and is let in exactly where no cause holds.
+/// States the law of admissions. A profile is refused exactly if the cause of the refusal holds and
+/// no earlier one does. It is admitted exactly if no cause holds.
 pub fn admissions()
     ensures { (site : SiteState) (id : List ℕ) (connector : ℕ) (profile : Profile)
         (refusal : Option Refusal)

@@ -1,4 +1,4 @@
--- How many calls to a point wait, and how many are in flight: of those that its outbox has, whose
+-- The numbers of calls to a point that wait and that are in flight: of those in its outbox, the
 -- first one is in flight or waits like the others.
 use Rattle.std.specs.Prelude.{ℕ, ◌-◌, Bool, true, false, Option, None, Some, length, if◌then◌else◌}
 use Rattle.ocpp_scalars.specs.declared.instant.Instant.{Instant}
@@ -11,7 +11,7 @@ in_flight outbox = if outbox.is_in_flight then 1 else 0
 abbrev pub waiting : OutboxState → ℕ
 waiting outbox = length outbox.calls - in_flight outbox
 
--- the moment at which the call was sent that is in flight, where that is known
+-- the moment at which the call in flight was sent, if known
 abbrev pub in_flight_since : OutboxState → Option SentMoment → Option Instant
 in_flight_since outbox None = None
 in_flight_since outbox (Some sent) =

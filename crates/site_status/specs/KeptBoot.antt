@@ -1,5 +1,5 @@
--- Which boot of a point a program that is started anew has to know: the last one, unless the point has
--- confirmed an install since. A point without one hasn't forgotten its profiles.
+-- The boot of a point that has to outlast a restart of the program: the last one, unless the point
+-- has confirmed an install since. A point without one hasn't forgotten its profiles.
 use Rattle.std.specs.Prelude.{ℕ, Option, None, Some, if◌then◌else◌}
 use Rattle.site_status.specs.declared.point_news.Boot.{Boot}
 use Rattle.site_status.specs.declared.point_news.PointNews.{PointNews}

@@ -1,5 +1,5 @@
--- What was seen of a point, and what each sighting changes. Links are numbered in the order in which
--- points get them, and so are the calls to a point.
+-- The observations of a point, and the change that each one makes. Links are numbered in the order
+-- in which points get them, and so are the calls to a point.
 use Rattle.std.specs.Prelude.{ℕ, ◌+◌, ◌-◌, ◌^◌, min, nat_lt, ◌==◌, Bool, true, false, Option, None, Some, if◌then◌else◌}
 use Rattle.std.specs.declared.alloc.Global.{Global}
 use Rattle.std.specs.declared.string.String.{String}
@@ -15,16 +15,16 @@ use Rattle.site_status.specs.declared.point_news.Sighting.TheVariants.{Connected
 
 -- ---- connections
 
--- a connection over which the point has this link since a moment: of two the later one stays
+-- a connection over which the point has this link since a moment: the later of two links remains
 abbrev pub connected : Connection → ℕ → Instant → Connection
 connected newest link moment =
     if nat_lt link newest.link then newest else record { link = link; since = Some moment }
 
--- such a connection has ended; another one stays
+-- such a connection has ended; another one remains
 abbrev pub left : Connection → ℕ → Connection
 left newest link = if newest.link == link then record newest { since = None } else newest
 
--- ---- sightings
+-- ---- observations
 
 abbrev pub unseen : PointNews
 unseen = record {
@@ -37,7 +37,7 @@ unseen = record {
   rejection = None;
 }
 
--- each changes what it is about, and nothing else
+-- each changes its own subject, and nothing else
 abbrev pub seen : PointNews → Sighting → PointNews
 seen old (Connected link moment) =
     record old { connection = connected old.connection link moment }
@@ -47,21 +47,21 @@ seen old (Sent sent) = record old { sent = Some sent }
 
 -- ---- replies
 
--- what the call of a number asked, where it is the last one that was sent
+-- the action of the call of a number, if it is the last one that was sent
 abbrev pub action_of : Option SentMoment → ℕ → Option ActionKind
 action_of None call = None
 action_of (Some sent) call = if sent.number == call then Some sent.action else None
 
--- the last install that was confirmed, after a call that asked this was
+-- the last confirmed install, after a call of this action was confirmed
 abbrev pub installed_by : Option ActionKind → ℕ → Option ℕ → Option ℕ
 installed_by (Some SetChargingProfile) call before = Some call
 installed_by _ call before = before
 
--- a count goes no further than its type
+-- a count stops at the maximum of its type
 abbrev pub one_more : ℕ → ℕ
 one_more count = min (count + 1) (2 ^ 64 - 1)
 
--- after a reply to a call, which rejects it for a reason, or doesn't
+-- after a reply to a call, which rejects it if there is a reason
 abbrev pub replied : PointNews → ℕ → Option (String Global) → Instant → PointNews
 replied old call None moment =
     record old { installed = installed_by (action_of old.sent call) call old.installed }
@@ -75,7 +75,7 @@ replied old call (Some reason) moment = record old {
   });
 }
 
--- after it is known what was rejected before
+-- after the earlier rejections are known
 abbrev pub resumed : PointNews → RejectedCalls → PointNews
 resumed old rejected =
     record old { rejections = rejected.count; rejection = rejected.last }

@@ -1,6 +1,6 @@
--- When a point may have forgotten its profiles. A point that begins anew has what its maker keeps,
--- perhaps nothing. It has a profile for sure whose install it confirmed afterwards. An audit is of one
--- connector.
+-- When a point may have forgotten its profiles. After a boot a point has what its maker keeps,
+-- perhaps nothing. It has a profile for sure only if it confirmed its install afterwards. An audit
+-- covers one connector.
 use Rattle.std.specs.Prelude.{ℕ, nat_lt, Bool, true, false, not, ◌&&◌, List, map, Option, None, Some}
 use Rattle.std.specs.List.{list_any}
 use Rattle.std.specs.Ordering.{int_eq}
@@ -17,12 +17,12 @@ use Rattle.site_status.specs.declared.point_news.Boot.{Boot}
 use Rattle.site_status.specs.declared.point_news.PointNews.{PointNews}
 use Rattle.site_status.specs.declared.reboot.Reboot.{Reboot}
 
--- no such call, or one that it had confirmed before it booted
+-- no such call, or one that the point had confirmed before it booted
 abbrev pub is_before : Option ℕ → ℕ → Bool
 is_before None first = true
 is_before (Some call) first = nat_lt call first
 
--- since it booted it has confirmed no install, and agreed in no audit
+-- the point has profiles, and since its boot it has confirmed no install, and agreed in no audit
 abbrev pub may_have_forgotten_since : Reboot → Option ℕ → Bool
 may_have_forgotten_since reboot None = false
 may_have_forgotten_since reboot (Some first) =
@@ -31,14 +31,14 @@ may_have_forgotten_since reboot (Some first) =
 abbrev pub may_have_forgotten : Reboot → Bool
 may_have_forgotten reboot = may_have_forgotten_since reboot reboot.first_call
 
--- ---- what decides it, for a point
+-- ---- the facts that decide it, for a point
 
--- the first call that it hadn't confirmed when it booted last
+-- the first call that the point hadn't confirmed at its last boot
 abbrev pub first_call_at : Option Boot → Option ℕ
 first_call_at None = None
 first_call_at (Some boot) = Some boot.first_call
 
--- the call of its last audit, if it agreed there
+-- the call of its last audit, if it agreed in that
 abbrev pub agreed_by : ℕ → Option Verdict → Option ℕ
 agreed_by number None = None
 agreed_by number (Some Agrees) = Some number
@@ -65,11 +65,11 @@ is_installed_by calls row = list_any (is_install_of row) calls
 abbrev pub has_installed : List Row → List CallBody → Bool
 has_installed rows calls = list_any (λ row. not (is_installed_by calls row)) rows
 
--- what the calls ask that the point hasn't confirmed
+-- the bodies of the calls that the point hasn't confirmed
 abbrev pub waiting_bodies : OutboxState → List CallBody
 waiting_bodies outbox = map (λ (call : Call). call.body) outbox.calls
 
--- of a point of which this was seen, that has this book and these calls, and was audited so last
+-- the facts about a point with these observations, this book, these calls and this last audit
 abbrev pub reboot_of : PointNews → BookState → OutboxState → Option AuditState → Reboot
 reboot_of news book outbox audit = record {
   first_call = first_call_at news.boot;

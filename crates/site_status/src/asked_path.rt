@@ -1,10 +1,10 @@
-//! What is asked for at the status port.
+//! The paths of the status port.
 
 ghost use Rattle.std.specs.Prelude.{◌≡◌, ◌↔◌, IfSome, Some, codes};
 ghost use Rattle.site_status.specs.Asked.{IsOneOfMany};
 ghost use Rattle.site_status.specs.declared.asked_path.StatusPath.TheVariants as asked;
 
-/// What is asked for by a path.
+/// A path of the status port.
 #[derive(Clone, Copy, PartialEq, Eq)]
 pub enum StatusPath<'a> {
     /// `/health`
@@ -13,13 +13,13 @@ pub enum StatusPath<'a> {
     Metrics,
     /// `/state.json`
     State,
-    /// `/`, or `/page/N` from 1 on.
+    /// `/`, or `/page/N`, counted from 1.
     Page { number: usize },
     /// `/points/ID/C.svg`
     Picture { point: &'a str, connector: u32 },
 }
 
-/// What is asked for by this path, if it is anything.
+/// Reads a path, if the status port has it.
 pub fn status_path(path: &str) -> Option<StatusPath<'_>>
     ensures health { (result ≡ Some asked.Health) ↔ (path.now ≡ codes "/health") }
     ensures metrics { (result ≡ Some asked.Metrics) ↔ (path.now ≡ codes "/metrics") }

@@ -1,10 +1,10 @@
-//! A line of the file of boots, and how it is written and read.
+//! The lines of the file of boots: their format, how they are written and read.
 
 use crate::point_news::Boot;
 use ocpp_scalars::{push_instant, push_integer, read_instant};
 use std::alloc::AllocError;
 
-/// A line of the file of boots: what is kept of a point that booted.
+/// A line of the file of boots: a point and its boot.
 #[derive(Clone, Copy, PartialEq, Eq)]
 pub struct BootLine<'a> {
     /// The identity of the point.
@@ -12,7 +12,7 @@ pub struct BootLine<'a> {
     pub boot: Boot,
 }
 
-/// Appends a line, with its line feed.
+/// Appends a line with its line feed.
 pub fn push_boot_line(out: &mut String, line: &BootLine<'_>) -> Result<(), AllocError> {
     push_instant(out, line.boot.moment)?;
     out.push(' ')?;
@@ -23,8 +23,9 @@ pub fn push_boot_line(out: &mut String, line: &BootLine<'_>) -> Result<(), Alloc
     Ok(())
 }
 
-/// Reads a line, without its line feed. What is written is read back.
+/// Reads a line without its line feed. It reads back each line that is written.
 pub fn read_boot_line(text: &str) -> Option<BootLine<'_>> {
+    // No identity has a blank in it, so blanks separate the fields.
     let (moment, rest) = text.split_once(' ')?;
     let (point, first_call) = rest.split_once(' ')?;
     let Ok(moment) = read_instant(moment) else {
@@ -37,7 +38,7 @@ pub fn read_boot_line(text: &str) -> Option<BootLine<'_>> {
     })
 }
 
-/// The number that a word is.
+/// Reads a word as a number.
 fn read_number(word: &str) -> Option<u64> {
     word.parse::<u64>().ok()
 }

@@ -1,4 +1,4 @@
-//! When the calls to a point were added.
+//! The moments at which the calls to a point were added.
 
 ghost use Rattle.std.specs.Prelude.{◌≡◌, None};
 ghost use Rattle.site_status.specs.Calls.{waiting};
@@ -8,32 +8,32 @@ use ocpp_scalars::Instant;
 use site_core::Outbox;
 use std::alloc::{AllocError, Global};
 
-/// The numbers of the calls to a point that it hasn't confirmed: from the first on, and below the next
-/// one that is added.
+/// The numbers of the calls to a point that it hasn't confirmed: from `first` up to, but not
+/// including, `next`, the number of the next one to be added.
 #[derive(Clone, Copy, PartialEq, Eq)]
 pub struct CallNumbers {
     pub first: u64,
     pub next: u64,
 }
 
-/// When the calls to a point were added that it hasn't confirmed. Those of an earlier run of the
-/// program count from its start on.
+/// The moments at which the unconfirmed calls to a point were added. Calls of an earlier run of the
+/// program count from the start of this one.
 #[derive(Drop)]
 pub struct CallMoments {
-    /// In the order of their numbers.
+    /// In the order of the calls' numbers.
     added: Vec<AddedCalls>,
 }
 
-/// Calls that were seen first at one moment.
+/// Calls that were first seen at the same moment.
 #[derive(Clone, Copy)]
 struct AddedCalls {
-    /// The number behind that of the last one.
+    /// The number after that of the last one.
     next: u64,
     moment: Instant,
 }
 
 impl CallNumbers {
-    /// Those of an outbox.
+    /// Returns the numbers of an outbox's calls.
     pub fn of(outbox: &Outbox) -> CallNumbers {
         CallNumbers {
             first: outbox.first_number(),
@@ -43,15 +43,15 @@ impl CallNumbers {
 }
 
 impl CallMoments {
-    /// No call was seen yet.
+    /// Returns no moments: no call was seen yet.
     pub fn new(alloc: Global) -> CallMoments {
         CallMoments {
             added: Vec::new(alloc),
         }
     }
 
-    /// The point has these calls at a moment: those that weren't seen before were added then. Out of
-    /// memory they are seen the next time.
+    /// Records the calls that the point has at a moment: those that weren't seen before were added
+    /// then. If memory runs out, they are seen the next time.
     pub fn see(&mut self, calls: CallNumbers, moment: Instant) -> Result<(), AllocError> {
         let CallNumbers { first, next } = calls;
         self.added.retain(|added| added.next > first);
@@ -65,13 +65,15 @@ impl CallMoments {
         Ok(())
     }
 
-    /// When the first call was added that waits: it waits longest. None where none waits.
+    /// Returns when the call was added that waits longest, which is the first of the waiting ones.
+    /// Returns `None` if none waits.
     pub fn waiting_since(&self, outbox: &Outbox) -> Option<Instant>
         ensures { waiting outbox.now ≡ 0 → result ≡ None }
     {
         if waiting_calls(outbox) == 0 {
             return None;
         }
+        // The first call of an outbox may be in flight, and then the next one waits longest.
         let number = outbox
             .first_number()
             .saturating_add(in_flight_calls(outbox) as u64);

@@ -1,11 +1,11 @@
-//! Whether a site is well.
+//! The health of a site.
 
 ghost use Rattle.std.specs.Prelude.{◌≡◌};
 ghost use Rattle.site_status.specs.Health.{health_of, status_of};
 
 use crate::journal_report::JournalState;
 
-/// Whether a site is well, or why it isn't.
+/// The health of a site: whether it is well, or why not.
 #[derive(Clone, Copy, PartialEq, Eq)]
 pub enum Health {
     Well,
@@ -13,12 +13,13 @@ pub enum Health {
     Restoring,
     /// The device of its journal is full: changes are refused.
     DeviceFull,
-    /// It isn't known what stands in its journal: the program ends.
+    /// The content of its journal is unknown: the program ends.
     JournalBroken,
 }
 
 impl Health {
-    /// By the state of its journal, which it has once its own state is restored.
+    /// Returns the health by the state of the journal, which is known only after the site's state
+    /// is restored.
     pub fn of(journal: Option<JournalState>) -> Health
         ensures { result ≡ health_of journal }
     {
@@ -30,7 +31,7 @@ impl Health {
         }
     }
 
-    /// The status of the answer that tells it (RFC 9110, section 15).
+    /// Returns the HTTP status for this health (RFC 9110, section 15).
     pub fn status(self) -> u16
         ensures { result ≡ status_of self }
     {
@@ -40,7 +41,7 @@ impl Health {
         }
     }
 
-    /// Its name, as programs read it.
+    /// Returns its name, as programs read it.
     pub fn name(self) -> &'static str {
         match self {
             Health::Well => "ok",

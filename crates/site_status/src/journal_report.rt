@@ -1,23 +1,23 @@
-//! What is told of a site's journal.
+//! A report on a site's journal.
 
-/// Whether anything may be noted in a journal.
+/// Whether a journal takes new entries.
 #[derive(Clone, Copy, PartialEq, Eq)]
 pub enum JournalState {
     Open,
     /// The device is full.
     Full,
-    /// It isn't known what stands in the file, or an entry is missing.
+    /// The content of the file is unknown, or an entry is missing.
     Broken,
 }
 
-/// What is told of a site's journal.
+/// A report on a site's journal.
 #[derive(Clone, Copy, PartialEq, Eq)]
 pub struct JournalReport {
     pub state: JournalState,
-    /// How many bytes of it are on the disk.
+    /// The number of its bytes that are on the disk.
     pub bytes: u64,
-    /// How often lines were written and synced since the program began.
+    /// The number of times that lines were written and synced since the program began.
     pub syncs: u64,
-    /// How long that took in all, in microseconds.
+    /// The total time that this took, in microseconds.
     pub sync_microseconds: u64,
 }

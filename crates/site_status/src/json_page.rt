@@ -1,10 +1,10 @@
-//! A page of JSON (RFC 8259) that is being written, a field at a time.
+//! A page of JSON (RFC 8259), written field by field.
 
 use json::Writer;
 use ocpp_scalars::{Instant, push_instant};
 use std::alloc::{AllocError, Global};
 
-/// A page of JSON that is being written. The library's writer sets the commas.
+/// A page of JSON under construction. The library's writer sets the commas.
 #[derive(Drop)]
 pub(crate) struct JsonPage {
     pub(crate) out: Writer,
@@ -19,11 +19,11 @@ impl JsonPage {
         }
     }
 
-    /// The page, ended.
+    /// Returns the page with a line feed at its end.
     pub(crate) fn into_text(self) -> Result<String, AllocError> {
         let mut bytes = self.out.into_inner();
         bytes.push(b'\n')?;
-        // A writer's bytes are UTF-8, so that none is replaced.
+        // The writer's bytes are UTF-8, so none is replaced.
         String::from_utf8_lossy(self.alloc, bytes.as_slice())
     }
 
@@ -47,7 +47,7 @@ impl JsonPage {
         self.out.boolean(flag)
     }
 
-    /// A field with an instant, or null.
+    /// Writes a field with an instant, or null.
     pub(crate) fn instant(
         &mut self,
         key: &str,

@@ -1,4 +1,4 @@
-//! What a program that is started anew has to know of a point's boot.
+//! The boot of a point that has to outlast a restart of the program.
 
 ghost use Rattle.std.specs.Prelude.{◌≡◌};
 ghost use Rattle.site_status.specs.KeptBoot.{boot_to_keep};
@@ -9,9 +9,9 @@ use point_book::PointBook;
 use site_core::{Outbox, PointAudit};
 use std::alloc::{AllocError, Global};
 
-/// The last boot of a point, unless it has confirmed an install since. Only such a point may have
-/// forgotten its profiles. Whether it ought to have any, and in which audit it agreed, stands in the
-/// journal.
+/// Returns the last boot of a point, unless it has confirmed an install since. Only such a point
+/// may have forgotten its profiles. The journal has the profiles that it should have, and the audit
+/// in which it agreed.
 pub fn boot_to_keep(news: &PointNews) -> Option<Boot>
     ensures { result ≡ boot_to_keep news.now }
 {
@@ -23,17 +23,18 @@ pub fn boot_to_keep(news: &PointNews) -> Option<Boot>
     }
 }
 
-/// A boot that was kept of a point with these calls. It had confirmed no more calls when it booted than
-/// it has now, though the boot may have been kept beside another journal.
+/// Returns a boot that was kept of a point with these calls. When it booted, the point had
+/// confirmed no more calls than it has now.
 pub fn resumed_boot(boot: Boot, outbox: &Outbox) -> Boot {
     Boot {
         moment: boot.moment,
+        // The boot may have been kept beside another journal, which had more calls.
         first_call: boot.first_call.min(outbox.first_number()),
     }
 }
 
-/// Whether a point whose boot was kept may have forgotten its profiles, by what stands in the
-/// journal: its book, its calls and its last audit.
+/// Returns whether a point whose boot was kept may have forgotten its profiles, by its book, its
+/// calls and its last audit from the journal.
 pub fn may_forget_since(
     alloc: Global,
     boot: Boot,
@@ -41,6 +42,7 @@ pub fn may_forget_since(
     outbox: &Outbox,
     audit: Option<&PointAudit>,
 ) -> Result<bool, AllocError> {
+    // A boot is kept only until an install is confirmed, so there is none to record.
     let mut news = PointNews::new();
     news.see(Sighting::Booted(resumed_boot(boot, outbox)));
     let reboot = Reboot::of(alloc, &news, book, outbox, audit)?;

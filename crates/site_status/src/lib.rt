@@ -1,5 +1,6 @@
-//! What an operator sees of a site that is run: the texts of its status port. Each is a function over
-//! what the site has and what was seen of its points; nothing here waits, reads a socket or decides.
+//! The texts of a running site's status port, for an operator. Each is a function of the site's
+//! state and the observations of its points. Nothing here waits, reads a socket or makes a
+//! decision.
 #![tactic(auto)]
 
 mod asked_path;

@@ -1,4 +1,4 @@
-//! The figures of a site, as Prometheus reads them (text format 0.0.4).
+//! The metrics of a site for Prometheus (text format 0.0.4).
 
 use crate::health::Health;
 use crate::point_summary::{PointCalls, PointSummary, calls_of_points, summary_at};
@@ -10,14 +10,16 @@ use std::alloc::{AllocError, Global};
 /// Microseconds in a second.
 const MILLION: u64 = 1_000_000;
 
-/// The figures of a site: each family of them with its help and its type, then its samples.
+/// Formats the metrics of a site: each family with its help and its type, and then its samples.
 pub fn metrics_text(alloc: Global, report: &SiteReport<'_>) -> Result<String, AllocError> {
     let mut out = String::new(alloc);
     for figure in SITE_FIGURES {
         push_head(&mut out, figure.name(), figure.help(), figure.is_counter())?;
         figure.push_samples(&mut out, report)?;
     }
+    // Each metric below goes over all points, so their calls are summed up once.
     let calls = calls_of_points(alloc, report)?;
+    // The format wants the samples of a family together, so metrics are the outer loop.
     for figure in POINT_FIGURES {
         push_head(&mut out, figure.name(), figure.help(), figure.is_counter())?;
         for (place, calls) in calls.iter().enumerate() {
@@ -27,7 +29,7 @@ pub fn metrics_text(alloc: Global, report: &SiteReport<'_>) -> Result<String, Al
     Ok(out)
 }
 
-/// Appends a figure of the point at a place, if it has one.
+/// Appends the sample of a metric for the point at a place, if it has one.
 fn push_of_point(
     out: &mut String,
     figure: PointFigure,
@@ -44,7 +46,7 @@ fn push_of_point(
     }
 }
 
-/// Appends what a family of samples begins with.
+/// Appends the head of a metric family.
 fn push_head(out: &mut String, name: &str, help: &str, is_counter: bool) -> Result<(), AllocError> {
     let kind = if is_counter { "counter" } else { "gauge" };
     write!(out, "# HELP {name} {help}\n# TYPE {name} {kind}\n")
@@ -63,10 +65,11 @@ fn push_sample(
     write!(out, "\"}} {value}\n")
 }
 
-/// Appends a label's value: a backslash, a quote and a line feed are escaped.
+/// Appends a label's value with backslash, quote and line feed escaped.
 fn push_label(out: &mut String, text: &str) -> Result<(), AllocError> {
     for character in text.chars() {
         match character {
+            // The format escapes these three characters in a label's value, and no others.
             '\\' => out.push_str("\\\\")?,
             '"' => out.push_str("\\\"")?,
             '\n' => out.push_str("\\n")?,
@@ -76,7 +79,7 @@ fn push_label(out: &mut String, text: &str) -> Result<(), AllocError> {
     Ok(())
 }
 
-/// A figure of the whole site.
+/// A metric of the whole site.
 #[derive(Clone, Copy)]
 enum SiteFigure {
     Healthy,
@@ -194,13 +197,14 @@ fn healthy(report: &SiteReport<'_>) -> u64 {
     }
 }
 
-/// Appends a sample in seconds, with six decimals.
+/// Appends a sample in seconds with six decimals.
 fn push_seconds(out: &mut String, name: &str, microseconds: u64) -> Result<(), AllocError> {
     let (seconds, rest) = (microseconds / MILLION, microseconds % MILLION);
+    // Prometheus' unit of time is the second; two whole numbers print the microseconds exactly.
     write!(out, "{name} {seconds}.{rest:0>6}\n")
 }
 
-/// A figure of each point.
+/// A metric of each point.
 #[derive(Clone, Copy)]
 enum PointFigure {
     Connected,
@@ -270,7 +274,7 @@ impl PointFigure {
         matches!(self, PointFigure::Confirmed | PointFigure::Rejected)
     }
 
-    /// Its value for a point at a moment. None where there is no sample.
+    /// Returns its value for a point at a moment, or `None` if there is no sample.
     fn value(self, point: &PointSummary<'_>, now: Instant) -> Option<u64> {
         match self {
             PointFigure::Connected => Some(u64::from(point.news.connection.since.is_some())),
@@ -290,7 +294,7 @@ impl PointFigure {
     }
 }
 
-/// How many seconds ago a moment was, if there is one.
+/// Returns how many seconds ago a moment was, if there is one.
 fn seconds_since(moment: Option<Instant>, now: Instant) -> Option<u64> {
     Some(now.seconds().saturating_sub(moment?.seconds()))
 }

@@ -16,8 +16,8 @@ use sweep_compiler::{Explanation, Turns, explain};
 /// Seconds in a day.
 const DAY: u32 = 86_400;
 
-/// What is asked of a connector of this book from a moment on. None where the book hasn't it, and
-/// in the last day of the calendar.
+/// Returns the request for a connector of this book over the day from a moment on. Returns `None`
+/// if the book doesn't have the connector, or in the last day of the calendar.
 fn ask_of(book: &PointBook, connector: u32, moment: Instant) -> Option<Ask>
     ensures asked { result ≡ asked_day book.now connector moment }
     ensures within { IfSome result (λ ask. ask.connector ≤ length book.now.ceilings) }
@@ -31,7 +31,7 @@ fn ask_of(book: &PointBook, connector: u32, moment: Instant) -> Option<Ask>
     }
 }
 
-/// What sets the limit of a connector over the next 24 hours, if the book has it.
+/// Explains the limit of a connector over the next 24 hours, if the book has the connector.
 pub(crate) fn explained_day(
     alloc: Global,
     book: &PointBook,
@@ -47,8 +47,8 @@ pub(crate) fn explained_day(
     Ok(Some(explain(alloc, book, &ask, &mut Turns::new())?))
 }
 
-/// The picture of the limit of a connector over the next 24 hours, as `central explain` draws it:
-/// a whole SVG file. None where the site has no such point or the point no such connector.
+/// Draws the limit of a connector over the next 24 hours, as `central explain` draws it: a whole
+/// SVG file. Returns `None` if the site doesn't have the point, or the point the connector.
 pub fn connector_picture(
     alloc: Global,
     report: &SiteReport<'_>,

@@ -1,9 +1,9 @@
-//! Texts of others in a line.
+//! Foreign texts within one line.
 
 use std::alloc::AllocError;
 
-/// Appends a text of somebody else. A control character becomes a space, so that it begins no line.
-/// Where memory runs out, a part of the text may be there.
+/// Appends a foreign text, such as one from a client. A control character becomes a space, so the
+/// text can't begin a new line. If memory runs out, a part of the text may have been appended.
 pub fn push_on_one_line(line: &mut String, text: &str) -> Result<(), AllocError> {
     for character in text.chars() {
         line.push(if character.is_control() {

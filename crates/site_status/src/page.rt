@@ -1,5 +1,5 @@
-//! The page of a site: how each point is, and its limits over the next 24 hours, as HTML. It loads
-//! nothing, and needs no script.
+//! The HTML page of a site: the state of each point, and its limits over the next 24 hours. It
+//! loads nothing, and needs no script.
 
 ghost use Rattle.std.specs.Prelude.{◌≡◌, IfOk, is_some, length};
 ghost use Rattle.site_status.specs.Found.{is_page};
@@ -16,10 +16,12 @@ use messages::AuditOutcome;
 use ocpp_scalars::{Instant, push_instant};
 use std::alloc::{AllocError, Global};
 
-/// So many points a page has.
+/// The number of points on a page.
+// Each connector on a page has its next day explained, so this bounds the cost of a page.
 pub const POINTS_OF_PAGE: usize = 20;
 
-/// The page of this number, from 1 on, of a site. None where the site has fewer.
+/// Formats a page of a site by its number, counted from 1. Returns `None` if the site has fewer
+/// pages.
 pub fn site_page(
     alloc: Global,
     report: &SiteReport<'_>,
@@ -46,7 +48,7 @@ pub fn site_page(
     Ok(Some(out))
 }
 
-/// The place of the first point of a page, among so many.
+/// Returns the place of the first point of a page, if the site has the page.
 fn first_of_page(points: usize, number: usize) -> Option<usize>
     ensures { is_some result ≡ is_page points number }
 {
@@ -83,7 +85,7 @@ fn health_sentence(health: Health) -> &'static str {
     }
 }
 
-/// Appends the links to the pages, where there is more than one.
+/// Appends the links to the pages, if there is more than one.
 fn push_pages(out: &mut String, number: usize, pages: usize) -> Result<(), AllocError> {
     if pages <= 1 {
         return Ok(());
@@ -99,7 +101,7 @@ fn push_pages(out: &mut String, number: usize, pages: usize) -> Result<(), Alloc
     out.push_str("</ul></nav>\n")
 }
 
-/// Appends a point: how it is, and the limits of its connectors.
+/// Appends a point: its state, and the limits of its connectors.
 fn push_point(
     alloc: Global,
     out: &mut String,
@@ -124,7 +126,7 @@ fn push_point(
     out.push_str("</section>\n")
 }
 
-/// Appends how a point is.
+/// Appends the state of a point.
 fn push_state(out: &mut String, point: &PointSummary<'_>) -> Result<(), AllocError> {
     out.push_str("<dl>\n")?;
     push_seen(
@@ -180,10 +182,10 @@ fn push_rejection(out: &mut String, rejection: &Rejection) -> Result<(), AllocEr
     push_element(out, ": ", rejection.reason.as_str(), "</p>\n")
 }
 
-/// What stands for what wasn't seen.
+/// The text in place of a moment that wasn't observed.
 const NOT_SEEN: &str = "not seen";
 
-/// Appends when something was seen, or what stands for that.
+/// Appends the moment of an observation, or `without`.
 fn push_seen(
     out: &mut String,
     name: &str,
@@ -203,7 +205,7 @@ fn push_count(out: &mut String, name: &str, count: u64) -> Result<(), AllocError
     write!(out, "{count}</dd></div>\n")
 }
 
-/// Appends a moment, for people and for programs.
+/// Appends a moment for people and for programs.
 fn push_moment(out: &mut String, moment: Instant) -> Result<(), AllocError> {
     out.push_str("<time datetime=\"")?;
     push_instant(out, moment)?;

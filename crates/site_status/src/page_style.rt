@@ -1,5 +1,5 @@
-//! The style sheet of a site's page: for light and for dark, by colours that have contrast in both; for
-//! any width, and for paper.
+//! The style sheet of a site's page, for light and dark mode with enough contrast in both, for any
+//! width, and for print.
 
 pub(crate) const STYLE: &str = r#"<style>
 :root{color-scheme:light dark;--paper:#fff;--ink:#17202b;--soft:#556070;--rule:#cfd6de;--link:#0b5fa5;--warning:#a3261b}

@@ -1,4 +1,4 @@
-//! What was seen of a charge point since the program began.
+//! The observations of a charge point since the program began.
 
 ghost use Rattle.std.specs.Prelude.{◌≡◌, ◌==◌, IfOk};
 ghost use Rattle.site_status.specs.News.{action_of, connected, left, replied, resumed, seen, unseen};
@@ -7,12 +7,12 @@ use messages::ActionKind;
 use ocpp_scalars::Instant;
 use std::alloc::{AllocError, Global};
 
-/// What was seen of a charge point since the program began.
+/// The observations of a charge point since the program began.
 #[derive(Drop)]
 pub struct PointNews {
-    /// Its newest link, and since when it is connected over it, while it is.
+    /// Its newest link, and since when it is connected over that, if it still is.
     pub connection: Connection,
-    /// When its last message came.
+    /// The moment of its last message.
     pub heard: Option<Instant>,
     /// Its last BootNotification.
     pub boot: Option<Boot>,
@@ -20,16 +20,17 @@ pub struct PointNews {
     pub sent: Option<SentMoment>,
     /// The number of the last install that it confirmed and didn't reject.
     pub installed: Option<u64>,
-    /// How many calls it rejected, before the program began too, and the last of them.
+    /// The number of calls that it rejected, including those before the program began, and the last
+    /// of them.
     pub rejections: u64,
     pub rejection: Option<Rejection>,
 }
 
-/// The newest link of a point. Links are numbered in the order in which points get them, from 1 on.
+/// The newest link of a point. Links are numbered from 1, in the order in which points get them.
 #[derive(Clone, Copy, PartialEq, Eq)]
 pub struct Connection {
     pub link: u64,
-    /// Since when it is connected over it, while it is.
+    /// Since when the point is connected over it, if it still is.
     pub since: Option<Instant>,
 }
 
@@ -53,7 +54,7 @@ pub struct SentMoment {
 #[derive(Drop)]
 pub struct Rejection {
     pub call: u64,
-    /// What it asked, where that is known.
+    /// Its action, if known.
     pub action: Option<ActionKind>,
     pub moment: Instant,
     /// In the point's words.
@@ -67,22 +68,24 @@ pub struct RejectedCalls {
     pub last: Option<Rejection>,
 }
 
-/// What was seen of a point.
+/// An observation of a point.
 #[derive(Clone, Copy, PartialEq, Eq)]
 pub enum Sighting {
-    /// It has this link since a moment.
+    /// The point got this link at a moment.
     Connected { link: u64, moment: Instant },
-    /// A message came.
+    /// A message came from it.
     Heard { moment: Instant },
     Booted(Boot),
     Sent(SentMoment),
 }
 
 impl Connection {
-    /// The point has this link since a moment. Of two the later one stays.
+    /// Records that the point has this link since a moment, unless it has a later one.
     pub fn connect(&mut self, link: u64, moment: Instant)
         ensures { self.new ≡ connected self.old link moment }
     {
+        // A session reports its link after releasing the lock under which it got it, so a later
+        // link may be reported first.
         if link < self.link {
             return;
         }
@@ -90,12 +93,13 @@ impl Connection {
         self.since = Some(moment);
     }
 
-    /// The connection over which the point had this link has ended. A later one stays. Returns
-    /// whether there is none.
+    /// Records that the connection of this link has ended. A later one remains. Returns whether
+    /// there is none.
     pub fn leave(&mut self, link: u64) -> bool
         ensures left { self.new ≡ left self.old link }
         ensures newest { result ≡ (self.old.link == link) }
     {
+        // The newest connection supersedes an older one, whose session ends later.
         let is_newest = self.link == link;
         if is_newest {
             self.since = None;
@@ -105,7 +109,7 @@ impl Connection {
 }
 
 impl PointNews {
-    /// Nothing was seen of it yet.
+    /// Returns no observations.
     pub fn new() -> PointNews
         ensures { result ≡ unseen }
     {
@@ -123,7 +127,7 @@ impl PointNews {
         }
     }
 
-    /// A copy. No clause speaks of the last rejection's.
+    /// Returns a copy. The clause leaves out the last rejection.
     pub fn copy(&self, alloc: Global) -> Result<PointNews, AllocError>
         ensures { IfOk result (λ copy. copy ≡ record self.now { rejection = copy.rejection }) }
     {
@@ -142,7 +146,7 @@ impl PointNews {
         })
     }
 
-    /// Takes note of what was seen.
+    /// Records an observation.
     pub fn see(&mut self, sighting: Sighting)
         ensures { self.new ≡ seen self.old sighting }
     {
@@ -154,8 +158,8 @@ impl PointNews {
         }
     }
 
-    /// It replied to the call of this number, and rejected it for this reason, or didn't. Returns what
-    /// the call asked, where that is known.
+    /// Records a reply to the call of this number, which rejects it for a reason if there is one.
+    /// Returns the call's action, if known.
     pub fn reply(
         &mut self,
         call: u64,
@@ -176,13 +180,15 @@ impl PointNews {
                     reason,
                 });
             }
+            // Without the call's action it isn't known to be an install, so the warning after a
+            // boot stays.
             None if action == Some(ActionKind::SetChargingProfile) => self.installed = Some(call),
             None => {}
         }
         action
     }
 
-    /// It rejected these calls before the program began.
+    /// Records the calls that the point rejected before the program began.
     pub fn resume_rejections(&mut self, rejected: RejectedCalls)
         ensures { self.new ≡ resumed self.old rejected }
     {
@@ -190,7 +196,7 @@ impl PointNews {
         self.rejection = rejected.last;
     }
 
-    /// What the call of this number asked, if it is the last one that was sent.
+    /// Returns the action of the call of this number, if it is the last one that was sent.
     fn action_of(&self, call: u64) -> Option<ActionKind>
         ensures { result ≡ action_of self.now.sent call }
     {
@@ -202,7 +208,7 @@ impl PointNews {
 }
 
 impl RejectedCalls {
-    /// None.
+    /// Returns no calls.
     pub fn none() -> RejectedCalls {
         RejectedCalls {
             count: 0,
@@ -210,7 +216,7 @@ impl RejectedCalls {
         }
     }
 
-    /// One more.
+    /// Adds a rejected call.
     pub fn add(&mut self, rejection: Rejection) {
         self.count = self.count.saturating_add(1);
         self.last = Some(rejection);

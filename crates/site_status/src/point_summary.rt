@@ -1,4 +1,4 @@
-//! What is told of a charge point, as all texts tell it.
+//! The summary of a charge point that all texts are made of.
 
 use crate::calls::{in_flight_calls, in_flight_since, waiting_calls};
 use crate::point_news::PointNews;
@@ -9,7 +9,7 @@ use ocpp_scalars::Instant;
 use point_book::PointBook;
 use std::alloc::{AllocError, Global};
 
-/// What is told of a charge point.
+/// The summary of a charge point.
 #[derive(Clone, Copy)]
 pub(crate) struct PointSummary<'a> {
     pub(crate) id: &'a str,
@@ -18,13 +18,13 @@ pub(crate) struct PointSummary<'a> {
     pub(crate) calls: PointCalls,
 }
 
-/// What is told of the calls to a charge point.
+/// The summary of the calls to a charge point.
 #[derive(Clone, Copy)]
 pub(crate) struct PointCalls {
-    /// How many it confirmed.
+    /// The number of calls that it confirmed.
     pub(crate) confirmed: u64,
     pub(crate) waiting: usize,
-    /// Since when the one waits that waits longest.
+    /// Since when the longest-waiting call waits.
     pub(crate) waiting_since: Option<Instant>,
     pub(crate) in_flight: usize,
     pub(crate) in_flight_since: Option<Instant>,
@@ -32,7 +32,7 @@ pub(crate) struct PointCalls {
     pub(crate) may_have_forgotten: bool,
 }
 
-/// What is told of the calls to each point, in the order of the site file.
+/// Summarizes the calls to each point, in the order of the site file.
 pub(crate) fn calls_of_points(
     alloc: Global,
     report: &SiteReport<'_>,
@@ -45,7 +45,7 @@ pub(crate) fn calls_of_points(
     Ok(all)
 }
 
-/// What is told of the calls to the point at a place; nothing where the site has none there.
+/// Summarizes the calls to the point at a place, as no calls if the site has no point there.
 fn calls_at(
     alloc: Global,
     report: &SiteReport<'_>,
@@ -74,7 +74,7 @@ fn calls_at(
     })
 }
 
-/// Since when a call to the point at a place waits, where one does.
+/// Returns since when a call to the point at a place waits, if one does.
 fn waiting_since_at(report: &SiteReport<'_>, place: usize) -> Option<Instant> {
     match report.waiting_since.get(place) {
         Some(since) => *since,
@@ -94,7 +94,7 @@ fn no_calls() -> PointCalls {
     }
 }
 
-/// What is told of the point at a place, with its calls. None where the site has none there.
+/// Summarizes the point at a place, with its calls. Returns `None` if the site has no point there.
 pub(crate) fn summary_at<'a>(
     report: &SiteReport<'a>,
     place: usize,

@@ -1,4 +1,4 @@
-//! Whether a point may have forgotten its profiles.
+//! The test whether a point may have forgotten its profiles.
 
 ghost use Rattle.std.specs.Prelude.{◌≡◌, IfOk, option_map};
 ghost use Rattle.site_status.specs.Reboot.{agreed_in, first_call_at, has_installed, is_before, is_install_of, is_installed_by, may_have_forgotten, reboot_of, waiting_bodies};
@@ -10,21 +10,22 @@ use profile::Row;
 use site_core::{Outbox, PointAudit};
 use std::alloc::{AllocError, Global};
 
-/// What decides whether a point may have forgotten its profiles. Calls are numbered in their order.
+/// The facts that decide whether a point may have forgotten its profiles. Calls are numbered in
+/// their order.
 #[derive(Clone, Copy, PartialEq, Eq)]
 pub struct Reboot {
-    /// The first call that the point hadn't confirmed when it booted last.
+    /// The first call that the point hadn't confirmed at its last boot.
     pub first_call: Option<u64>,
     /// The last install that it confirmed and accepted.
     pub installed: Option<u64>,
-    /// The audit in which it agreed, if that is its last one.
+    /// The audit in which it agreed, if that was its last one.
     pub agreed: Option<u64>,
-    /// Whether it ought to have a profile whose install doesn't wait any more.
+    /// Whether it should have a profile whose install is no longer in its outbox.
     pub has_profiles: bool,
 }
 
-/// Whether a point may have forgotten its profiles: it ought to have some, has begun anew, and since
-/// then it has confirmed no install and agreed in no audit.
+/// Returns whether a point may have forgotten its profiles: it should have some, has booted, and
+/// has confirmed no install and agreed in no audit since.
 pub fn may_have_forgotten(reboot: Reboot) -> bool
     ensures { result ≡ may_have_forgotten reboot }
 {
@@ -34,7 +35,7 @@ pub fn may_have_forgotten(reboot: Reboot) -> bool
     reboot.has_profiles && is_before(reboot.installed, first) && is_before(reboot.agreed, first)
 }
 
-/// Whether there is no such call, or the point had confirmed it before the first call since it booted.
+/// Returns whether there is no such call, or the point had confirmed it before it booted.
 pub(crate) fn is_before(call: Option<u64>, first: u64) -> bool
     ensures { result ≡ is_before call first }
 {
@@ -45,7 +46,7 @@ pub(crate) fn is_before(call: Option<u64>, first: u64) -> bool
 }
 
 impl Reboot {
-    /// What decides it for a point with this book and this outbox.
+    /// Returns the facts about a point with this book and this outbox.
     pub fn of(
         alloc: Global,
         news: &PointNews,
@@ -66,7 +67,7 @@ impl Reboot {
     }
 }
 
-/// The first call that a point hadn't confirmed when it booted.
+/// Returns the first call that a point hadn't confirmed when it booted.
 fn first_call_at(boot: Option<Boot>) -> Option<u64>
     ensures { result ≡ first_call_at boot }
 {
@@ -76,16 +77,17 @@ fn first_call_at(boot: Option<Boot>) -> Option<u64>
     }
 }
 
-/// Whether a point ought to have a profile whose install doesn't wait in its outbox.
+/// Returns whether a point should have a profile whose install isn't in its outbox.
 fn has_profiles(alloc: Global, book: &PointBook, outbox: &Outbox) -> Result<bool, AllocError>
     ensures { IfOk result (λ has.
         has ≡ has_installed book.now.rows (waiting_bodies outbox.now)) }
 {
+    // A point can't have forgotten a profile whose install it hasn't confirmed.
     let bodies = outbox.bodies(alloc)?;
     Ok(has_installed(book.view().rows, bodies.as_slice()))
 }
 
-/// The call of a point's last audit, if it agreed there.
+/// Returns the call of a point's last audit, if it agreed in that.
 fn agreed_in(audit: Option<&PointAudit>) -> Option<u64>
     ensures { result ≡ agreed_in (option_map (λ asked. asked.now) audit.entry) }
 {
@@ -96,25 +98,26 @@ fn agreed_in(audit: Option<&PointAudit>) -> Option<u64>
     }
 }
 
-/// Whether there is a row whose install is none of these calls.
+/// Returns whether there is a row whose install is none of these calls.
 fn has_installed(rows: &[Row], calls: &[CallBody]) -> bool
     ensures { result ≡ has_installed rows.now calls.now }
 {
     rows.iter().any(|row| !is_installed_by(calls, row))
 }
 
-/// Whether the install of a row's profile is one of these calls.
+/// Returns whether the install of a row's profile is one of these calls.
 fn is_installed_by(calls: &[CallBody], row: &Row) -> bool
     ensures { result ≡ is_installed_by calls.now row.now }
 {
     calls.iter().any(|call| is_install_of(row, call))
 }
 
-/// Whether a call installs a row's profile.
+/// Returns whether a call installs a row's profile.
 fn is_install_of(row: &Row, call: &CallBody) -> bool
     ensures { result ≡ is_install_of row.now call.now }
 {
     match call {
+        // A point has at most one profile of an id: an install of the same id replaces it.
         CallBody::Set { profile, .. } => profile.id == row.profile.id,
         CallBody::Clear(_) | CallBody::Audit { .. } | CallBody::RemoteStart { .. } => false,
     }

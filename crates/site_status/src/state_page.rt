@@ -11,9 +11,9 @@ use profile::Row;
 use std::alloc::{AllocError, Global};
 use transactions::Transaction;
 
-/// The state of a site as one line of JSON: `moment`, `health`, `sessions`, `seats`, `journal`, and
-/// `points` in the order of the site file. Instants are texts (RFC 3339), or null where nothing was
-/// seen.
+/// Formats the state of a site as one line of JSON: `moment`, `health`, `sessions`, `seats`,
+/// `journal`, and `points` in the order of the site file. Instants are strings (RFC 3339), or null
+/// if nothing was observed.
 pub fn state_json(alloc: Global, report: &SiteReport<'_>) -> Result<String, AllocError> {
     let mut page = JsonPage::new(alloc);
     page.out.begin_object()?;
@@ -74,7 +74,7 @@ fn push_point(page: &mut JsonPage, point: &PointSummary<'_>) -> Result<(), Alloc
     page.out.end_object()
 }
 
-/// Appends what was seen of a point's connection.
+/// Appends the observations of a point's connection.
 fn push_news(page: &mut JsonPage, news: &PointNews) -> Result<(), AllocError> {
     page.instant("connectedSince", news.connection.since)?;
     page.instant("lastText", news.heard)?;
@@ -85,7 +85,7 @@ fn push_news(page: &mut JsonPage, news: &PointNews) -> Result<(), AllocError> {
     page.instant("booted", booted)
 }
 
-/// Appends how many calls a point rejected, and the last of them.
+/// Appends the number of calls that a point rejected, and the last of them.
 fn push_rejected(page: &mut JsonPage, news: &PointNews) -> Result<(), AllocError> {
     page.number("rejections", news.rejections)?;
     page.out.key("rejected")?;
@@ -126,6 +126,7 @@ fn push_transaction(
 ) -> Result<(), AllocError> {
     page.out.begin_object()?;
     page.number("connectorId", u64::from(connector))?;
+    // The idTag is left out: it is personal data, and this port has no passwords.
     page.integer("transactionId", active.id)?;
     page.instant("timestamp", Some(active.begin.timestamp))?;
     page.out.end_object()

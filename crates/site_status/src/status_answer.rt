@@ -1,4 +1,4 @@
-//! What is answered at the status port.
+//! The answers of the status port.
 
 ghost use Rattle.std.specs.Prelude.{◌≡◌, IfOk, is_some};
 ghost use Rattle.site_status.specs.Found.{found, status_at};
@@ -22,7 +22,7 @@ pub struct StatusAnswer {
     pub body: String,
 }
 
-/// What a body is.
+/// The content type of a body.
 #[derive(Clone, Copy, PartialEq, Eq)]
 pub enum ContentKind {
     Text,
@@ -33,10 +33,11 @@ pub enum ContentKind {
 }
 
 impl ContentKind {
-    /// Its name, as a header has it (RFC 9110, section 8.3).
+    /// Returns its media type for the header (RFC 9110, section 8.3).
     pub fn name(self) -> &'static str {
         match self {
             ContentKind::Text => "text/plain; charset=utf-8",
+            // Prometheus chooses its parser by this type.
             ContentKind::Metrics => "text/plain; version=0.0.4; charset=utf-8",
             ContentKind::Json => "application/json",
             ContentKind::Html => "text/html; charset=utf-8",
@@ -45,7 +46,7 @@ impl ContentKind {
     }
 }
 
-/// The answer that tells how a site is.
+/// Returns the answer with the health of a site.
 pub fn health_answer(alloc: Global, health: Health) -> Result<StatusAnswer, AllocError>
     ensures { IfOk result (λ answer. answer.status ≡ status_of health) }
 {
@@ -58,7 +59,7 @@ pub fn health_answer(alloc: Global, health: Health) -> Result<StatusAnswer, Allo
     })
 }
 
-/// The answer where there is nothing.
+/// Returns the answer to a path that doesn't exist.
 pub fn nothing_there(alloc: Global) -> Result<StatusAnswer, AllocError>
     ensures { IfOk result (λ answer. answer.status ≡ 404) }
 {
@@ -73,7 +74,7 @@ pub fn nothing_there(alloc: Global) -> Result<StatusAnswer, AllocError>
     })
 }
 
-/// The answer at a path. That of `/health` alone tells by its status how the site is.
+/// Returns the answer to a path. Only the status of `/health` depends on the site's health.
 pub fn answer_of(
     alloc: Global,
     path: StatusPath<'_>,

@@ -1,5 +1,5 @@
-//! The limit of a connector over the next 24 hours as a strip: a small picture that is as wide as its
-//! place, with its numbers in a list below.
+//! The limit of a connector over the next 24 hours as a strip: a small picture as wide as its
+//! container, with its numbers in a list below.
 
 use crate::site_report::SiteReport;
 use explain_pages::{push_element, push_escaped, push_limit, push_why};
@@ -8,24 +8,24 @@ use profile::Unit;
 use std::alloc::{AllocError, Global};
 use sweep_compiler::{Explanation, Interval};
 
-/// A picture has a column for each minute of the day, and so many rows.
+/// The columns of a picture, one for each minute of the day, and its rows.
 const COLUMNS: u32 = 1_440;
 
 const ROWS: u64 = 100;
 
-/// Room above the highest limit.
+/// Free rows above the highest limit.
 const TOP: u64 = 6;
 
-/// Seconds of a column.
+/// The seconds of a column.
 const COLUMN: u32 = 60;
 
-/// The most intervals that a list has.
+/// The maximum number of intervals in a list.
 const MOST_LISTED: usize = 8;
 
-/// Below the picture stands the time of each so many seconds.
+/// The seconds between two times below the picture.
 const LABEL_STEP: u64 = 21_600;
 
-/// Whose limit is shown.
+/// The connector whose limit is shown.
 #[derive(Clone, Copy)]
 pub(crate) struct Shown<'a> {
     pub(crate) point: &'a str,
@@ -48,7 +48,7 @@ pub(crate) fn push_strip(
     push_list(alloc, out, shown, explanation)
 }
 
-/// What the limit is at present.
+/// Appends the heading with the current limit.
 fn push_heading(
     out: &mut String,
     shown: &Shown<'_>,
@@ -73,6 +73,7 @@ fn push_heading(
     )?;
     write!(
         out,
+        // The strip is as wide as its container; the style sheet keeps the width of its lines.
         " viewBox=\"0 0 {COLUMNS} {ROWS}\" preserveAspectRatio=\"none\">"
     )
 }
@@ -89,7 +90,7 @@ fn push_picture(out: &mut String, explanation: &Explanation) -> Result<(), Alloc
     out.push_str("\"/></svg>\n")
 }
 
-/// The highest limit, or 1 where none is above 0.
+/// Returns the highest limit, or 1 if none is above 0.
 fn highest(intervals: &[Interval]) -> u64 {
     let mut most = 1;
     for interval in intervals {
@@ -98,7 +99,7 @@ fn highest(intervals: &[Interval]) -> u64 {
     most
 }
 
-/// Appends the data of a path along the limits, which begins so.
+/// Appends the path data along the limits, which starts with `beginning`.
 fn push_steps(
     out: &mut String,
     intervals: &[Interval],
@@ -115,7 +116,7 @@ fn push_steps(
     Ok(())
 }
 
-/// The row of a limit, from above.
+/// Returns the row of a limit, counted from the top.
 fn row_of(limit: u32, most: u64) -> u64 {
     let height = u64::from(limit) * (ROWS - TOP) / most.max(1);
     ROWS.saturating_sub(height)
@@ -123,6 +124,7 @@ fn row_of(limit: u32, most: u64) -> u64 {
 
 /// Appends the times below a picture.
 fn push_labels(alloc: Global, out: &mut String, shown: &Shown<'_>) -> Result<(), AllocError> {
+    // The list has the times as text, so a screen reader skips these.
     out.push_str("<div class=\"times\" aria-hidden=\"true\">")?;
     for step in 0..5u64 {
         let moment = shown.from.seconds() + step * LABEL_STEP;
@@ -133,7 +135,7 @@ fn push_labels(alloc: Global, out: &mut String, shown: &Shown<'_>) -> Result<(),
     out.push_str("</div>")
 }
 
-/// Appends the time of day of a moment, `hh:mm`.
+/// Appends the time of day of a moment, as `hh:mm`.
 pub(crate) fn push_clock(alloc: Global, out: &mut String, moment: u64) -> Result<(), AllocError> {
     let Some(instant) = Instant::try_new(moment.min(LAST_SECOND)) else {
         return Ok(());
@@ -149,7 +151,7 @@ pub(crate) fn push_clock(alloc: Global, out: &mut String, moment: u64) -> Result
     }
 }
 
-/// Appends the intervals, as far as a list goes.
+/// Appends the intervals up to the maximum of a list.
 fn push_list(
     alloc: Global,
     out: &mut String,
@@ -164,7 +166,7 @@ fn push_list(
     push_link(out, shown, explanation.intervals().len())
 }
 
-/// Appends an interval: from when on, the limit, and what sets it.
+/// Appends an interval: its start, the limit, and the cause.
 fn push_item(
     alloc: Global,
     out: &mut String,
@@ -182,7 +184,7 @@ fn push_item(
     push_element(out, "", why.as_str(), "</li>\n")
 }
 
-/// Appends the link to the whole picture, and how many intervals the list leaves out.
+/// Appends the link to the whole picture, and the number of intervals that the list leaves out.
 fn push_link(out: &mut String, shown: &Shown<'_>, count: usize) -> Result<(), AllocError> {
     let (point, connector) = (shown.point, shown.connector);
     out.push_str("<p>")?;

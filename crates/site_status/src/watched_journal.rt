@@ -1,9 +1,9 @@
-//! A journal that tells how it is.
+//! Journals that report their state.
 
 use crate::journal_report::JournalReport;
 
-/// A journal that tells how it is.
+/// A journal that reports its state.
 pub trait WatchedJournal {
-    /// How it is now. Waits for no file and no device.
+    /// Returns its current state. Waits for no file and no device.
     fn report(&self) -> JournalReport;
 }

@@ -1,4 +1,4 @@
--- That the candidates level by level are the candidates by falling level.
+-- The candidates collected level by level are the candidates by falling level.
 use Rattle.std.proofs.Common.{◌≡◌, ℕ, ◌<◌, ◌≤◌, ◌==◌, zero, suc, Bool, true, false, not, ◌&&◌, ◌||◌, ◌⊎◌, inl, inr, cond, refl, ap, sym, subst, ◌∙◌, List, [], ◌∷◌, filter, Option, Some, None, arith}
 use Rattle.std.specs.List.{AllByRecursion, find, cons_option, list_any}
 use Rattle.std.proofs.lemmas.Bool.{eqb-true, cases_lt}
@@ -86,7 +86,7 @@ none-more test connector purpose level row (r ∷ rows) has keys apart = go (tes
         bad e = cc
     go false here rest = rest
 
--- a test that only rows of one key pass finds what it filters
+-- filtering by a test that only rows of one key pass finds that row
 one-passes : (test : Row → Bool) (connector : ℕ) (purpose : Purpose) (level : ℕ) (rows : List Row)
     → AllByRecursion (λ r. test r ≡ true → HasKey connector purpose level r) rows → AreApart rows → filter test rows ≡ cons_option (find test rows) []
 one-passes test connector purpose level [] keys apart = refl
@@ -123,7 +123,7 @@ tx-keys rows connector level row passes =
     let both = and-both _ _ passes in let more = and-both _ _ both.1 in
     record { at = eqb-true _ _ more.1; for = tx-is _ more.0; of_level = eqb-true _ _ both.0 }
 
--- where the connector has a default of its own, that of connector 0 isn't one
+-- if the connector has a default of its own, that of connector 0 isn't a candidate
 own-keys : (rows : List Row) (connector level : ℕ) → is_replaced_at rows connector level ≡ true → (row : Row)
     → is_candidate_at TxDefaultProfile rows connector level row ≡ true → HasKey connector TxDefaultProfile level row
 own-keys rows connector level own row passes =
@@ -140,7 +140,7 @@ own-keys rows connector level own row passes =
         by true false h p = p
         by false c h p = h
 
--- and where it has none, those of connector 0 are all that there are
+-- if it has none, the candidates are those of connector 0
 point-keys : (rows : List Row) (connector level : ℕ) (row : Row)
     → (is_tx_default row.profile.purpose && (row.connector == connector) && (row.profile.stack_level == level)) ≡ false
     → is_candidate_at TxDefaultProfile rows connector level row ≡ true → HasKey 0 TxDefaultProfile level row
@@ -257,7 +257,7 @@ below-falling purpose rows connector (suc level) = go (candidate_at purpose rows
     go None is rest = rest
     go (Some row) is rest = falling-cons row _ level (level-of purpose rows connector level row is) (all-below purpose rows connector level) rest
 
--- no row of these has a level at which all rows are below it
+-- no row of a list has a level above those of all its rows
 high-none : (purpose : Purpose) (rows : List Row) (connector n above : ℕ) → above ≤ n
     → AllByRecursion (λ (row : Row). row.profile.stack_level < above) rows
     → (all : List Row) → filter (is_candidate_at purpose all connector n) rows ≡ []

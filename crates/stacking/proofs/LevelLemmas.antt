@@ -1,4 +1,5 @@
--- What a rate that is put in, put over another or taken out leaves of levels that rise.
+-- Inserting, overwriting or removing the rate of a level changes only that level, and the levels
+-- stay in rising order.
 use Rattle.std.proofs.Common.{◌≡◌, ℕ, ◌+◌, ◌-◌, ◌<◌, ◌≤◌, ◌==◌, nat_lt, zero, suc, Bool, true, false, cond, refl, ap, sym, ◌∙◌, List, [], ◌∷◌, length, take, drop, get_or, subst, Option, Some, None, slice_get, arith}
 use Rattle.std.specs.List.{AllByRecursion, slice_set, insert, remove}
 use Rattle.std.specs.List.Sorted.{IsPartitionedBy}
@@ -18,7 +19,7 @@ AreAbove level rates = AllByRecursion (λ (entry : ℕ × ℕ). level < entry.0)
 abbrev AreNotBelow : ℕ → List (ℕ × ℕ) → Type 0
 AreNotBelow level rates = AllByRecursion (λ (entry : ℕ × ℕ). level ≤ entry.0) rates
 
--- ---- where a level stands, or would
+-- ---- the place of a level
 
 above_more : (low high : ℕ) (rates : List (ℕ × ℕ)) → low ≤ high → AreAbove high rates → AreAbove low rates
 above_more low high [] less all = tt
@@ -67,7 +68,7 @@ is_place rates level place within before from = record {
   not_below = from_place place level rates from;
 }
 
--- where the level stands is its place
+-- the index of an entry with the level is its place
 
 below_one : (place low level : ℕ) (rates : List (ℕ × ℕ)) → AreAbove low rates → stands_there rates level place ≡ true → low < level
 below_one zero low level [] above there = absurd (grind (arith, there))
@@ -101,7 +102,7 @@ place_of_one (suc place) level (entry ∷ rates) rising there =
       not_below = rest.not_below;
     }
 
--- where the level doesn't stand at its place, those from there on are above it
+-- if the entry at the place has another level, those from there on are above the level
 above_place : (place level : ℕ) (rates : List (ℕ × ℕ)) → AreRising rates → AreNotBelow level (drop place rates) → stands_there rates level place ≡ false → AreAbove level (drop place rates)
 above_place zero level [] rising from apart = tt
 above_place zero level (entry ∷ rates) rising from apart =
@@ -112,7 +113,7 @@ above_place zero level (entry ∷ rates) rising from apart =
 above_place (suc place) level [] rising from apart = tt
 above_place (suc place) level (entry ∷ rates) rising from apart = above_place place level rates rising.1 from apart
 
--- ---- what is looked up
+-- ---- look-ups
 
 none_above : (level : ℕ) (rates : List (ℕ × ℕ)) → AreAbove level rates → rate_of rates level ≡ None
 none_above level [] above = refl
@@ -129,7 +130,7 @@ none_there (suc place) level (entry ∷ rates) below above =
     let apart : (level == entry.0) ≡ false = grind (arith, nat_tests, here) in
     rw apart (none_there place level rates below.1 above)
 
--- an entry of another level before one that is set
+-- setting a level changes nothing for an entry of another level before it
 set_behind : (entry : ℕ × ℕ) (level other : ℕ) (rate before after : Option ℕ) → entry.0 < level
     → after ≡ cond (other == level) rate before
     → cond (other == entry.0) (Some entry.1) after ≡ cond (other == level) rate (cond (other == entry.0) (Some entry.1) before)
@@ -201,7 +202,7 @@ not_there place level rates rising is apart other = go (other == level) refl
     go true p = let same : other ≡ level = grind (arith, nat_tests, p) in rw same none
     go false p = refl
 
--- ---- levels go on rising
+-- ---- levels stay in rising order
 
 above_inserted : (low place level rate : ℕ) (rates : List (ℕ × ℕ)) → low < level → AreAbove low rates → AreAbove low (insert rates place (level, rate))
 above_inserted low zero level rate rates less all = (less, all)
@@ -255,7 +256,7 @@ above_as [] low all k d inside = absurd (omega (arith, inside))
 above_as (entry ∷ rates) low all zero d inside = all.0
 above_as (entry ∷ rates) low all (suc k) d inside = above_as rates low all.1 k d (omega (arith, inside))
 
--- the last has its rate
+-- the last entry has its rate
 last_has : (entry : ℕ × ℕ) (rates : List (ℕ × ℕ)) (d : ℕ × ℕ) → AreRising (entry ∷ rates) → rate_of (entry ∷ rates) (get_or (entry ∷ rates) (length rates) d).0 ≡ Some (get_or (entry ∷ rates) (length rates) d).1
 last_has entry [] d rising = ap (λ (b : Bool). cond b (Some entry.1) None) (eq-eqb entry.0 entry.0 refl)
 last_has entry (next ∷ rates) d rising =
@@ -263,7 +264,7 @@ last_has entry (next ∷ rates) d rising =
     let apart : ((get_or (next ∷ rates) (length rates) d).0 == entry.0) ≡ false = grind (arith, nat_tests, above) in
     rw apart (last_has next rates d rising.1)
 
--- and no level above it has one
+-- no level above the last entry has a rate
 none_above_last : (entry : ℕ × ℕ) (rates : List (ℕ × ℕ)) (d : ℕ × ℕ) → AreRising (entry ∷ rates) → (higher : ℕ) → (get_or (entry ∷ rates) (length rates) d).0 < higher → rate_of (entry ∷ rates) higher ≡ None
 none_above_last entry [] d rising higher less =
     let apart : (higher == entry.0) ≡ false = grind (arith, nat_tests, less) in

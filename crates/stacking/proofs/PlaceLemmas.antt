@@ -1,4 +1,4 @@
--- That the rows by the places of the first ones are the candidates level by level.
+-- The rows at the recorded indexes are the candidates level by level.
 use Rattle.std.proofs.Common.{◌≡◌, ℕ, ◌+◌, ◌-◌, ◌<◌, ◌≤◌, ◌==◌, zero, suc, Bool, true, false, not, ◌&&◌, ◌||◌, cond, refl, ap, sym, ◌∙◌, List, [], ◌∷◌, take, length, Option, Some, None, option_and_then, slice_get, slice_index, slice_index_or, arith}
 use Rattle.std.specs.List.{AllByRecursion, find, cons_option, list_any}
 use Rattle.std.specs.Option.{option_or}
@@ -59,7 +59,7 @@ same-twice : {X : Type 0} (x : Option X) → option_or x x ≡ x
 same-twice None = refl
 same-twice (Some x) = refl
 
--- a default of the connector's own: that of connector 0 is hidden
+-- with a default of the connector's own, that of connector 0 is hidden
 hidden : (l d a z h : Bool) → (l ≡ true → h ≡ true) → (l && (d && a)) ≡ (l && (d && (a || (z && not h))))
 hidden false d a z h so = refl
 hidden true false a z h so = refl
@@ -76,7 +76,7 @@ turned false true true = refl
 turned false true false = refl
 turned false false a = refl
 
--- none of its own: that of connector 0 counts
+-- without one, that of connector 0 counts
 not_own : (l d a : Bool) → (d && a && l) ≡ false → (l && (d && a)) ≡ false
 not_own l d a none = sym (turned l d a) ∙ none
 
@@ -120,7 +120,7 @@ by_places purpose rows connector places (suc level) few each =
     let rest = by_places purpose rows connector places level (omega arith) each in
     λ i. cons_option (here i) (rest i)
 
--- ---- one row more
+-- ---- one more row
 
 more-of_level : (purpose : Purpose) (connector level : ℕ) (row : Row) (test : Bool) → stands_at purpose connector row ≡ test
     → find (λ (r : Row). (r.profile.stack_level == level) && stands_at purpose connector r) (row ∷ []) ≡ cond test (of_level level row) None
@@ -136,7 +136,7 @@ or-none : {X : Type 0} (x : Option X) → option_or x None ≡ x
 or-none None = refl
 or-none (Some x) = refl
 
--- the first of one row more
+-- the first row of a level, with one more row
 pub first_more : (purpose : Purpose) (connector level : ℕ) (rows : List Row) (place : ℕ) (row : Row) → place < length rows
     → row ≡ slice_index_or rows place row
     → first_at purpose connector level (take (place + 1) rows)
@@ -165,7 +165,7 @@ added purpose connector level rows place row inside is passes =
     ∙ ap (λ (b : Bool). option_or (first_at purpose connector level (take place rows)) (cond b (of_level level row) None)) passes
     ∙ ap (λ (r : Option Row). option_or (first_at purpose connector level (take place rows)) (option_and_then (of_level level) r)) (sym found)
 
--- a third behind two
+-- a third option after two
 pub option_or-third : {X : Type 0} (x y z : Option X) → option_or (option_or x y) z ≡ option_or x (option_or y z)
 option_or-third None y z = refl
 option_or-third (Some x) y z = refl

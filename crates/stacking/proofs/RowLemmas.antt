@@ -1,4 +1,4 @@
--- That rows stay apart where some are removed, and where one is added that takes the place of none.
+-- Rows stay apart if some are removed, and if one is added that replaces none.
 use Rattle.std.proofs.Common.{◌≡◌, ◌<◌, ◌≤◌, Bool, true, false, not, cond, refl, List, [], ◌∷◌, ◌++◌, length, filter, length-append, arith}
 use Rattle.std.specs.List.{AllByRecursion}
 use Rattle.profile.specs.declared.row.Row.{Row}

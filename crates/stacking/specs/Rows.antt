@@ -1,4 +1,4 @@
--- What the rows of a charge point are, and when a new one is refused.
+-- The invariant of a charge point's rows, and the refusals of a new row.
 use Rattle.std.specs.Prelude.{ℕ, ℤ, ◌<◌, ◌≤◌, ◌≡◌, nat_le, false, List, [], ◌∷◌, length, Option, Some, None, if◌then◌else◌}
 use Rattle.std.specs.List.{AllByRecursion}
 use Rattle.ocpp_scalars.specs.declared.refusal.Refusal.{Refusal}
@@ -9,8 +9,8 @@ use Rattle.profile.specs.ChargingProfile.{with_transaction}
 use Rattle.profile.specs.Changes.{is_replaced_by, installed, without_transaction_profiles}
 use Rattle.stacking.specs.Limits.{max_rows}
 
--- no row would take the place of another: no two have one chargingProfileId (OCPP 1.6, 5.16), and no two
--- one connector, purpose and stack level
+-- no row would replace another: no two have the same chargingProfileId (OCPP 1.6, 5.16), and no two
+-- the same connector, purpose and stack level
 abbrev pub AreApart : List Row → Type 0
 AreApart [] = Unit {0}
 AreApart (row ∷ later) = AllByRecursion (λ new. is_replaced_by new row ≡ false) later × AreApart later
@@ -19,33 +19,34 @@ pub record AreRows (rows : List Row) : Type 0 where
   pub few : length rows ≤ max_rows
   pub apart : AreApart rows
 
--- An install is refused where more rows than the limit would stand after it, those that the new one
--- replaces not counted, and else only where memory ran out.
+-- An install is refused if there would be more rows after it than the limit, not counting those
+-- that it replaces; otherwise only if memory ran out.
 abbrev pub IsCause : ℕ → Refusal → Type 0
 IsCause many TooManyProfiles = max_rows < many
 IsCause many OutOfMemory = many ≤ max_rows
 IsCause many other = ⊥
 
--- nothing has changed, and the row came back
+-- nothing has changed, and the row is returned
 pub record IsRefused (old : List Row) (row : Row) (refused : Refusal × Row) (new : List Row) : Type 0 where
   pub cause : IsCause (length (installed old row)) refused.0
   pub unchanged : new ≡ old
   pub back : refused.1 ≡ row
 
--- ---- where a transaction begins
+-- ---- the start of a transaction
 
--- The row of the profile with which it begins (OCPP 1.6, 5.11): for the transaction of this number,
--- from the moment at which that begins.
+-- The row of the profile that a transaction begins with (OCPP 1.6, 5.11): for the transaction of
+-- this number, from the moment of its start.
 abbrev pub transaction_row : ℕ → ℕ → ℤ → Profile → Row
 transaction_row connector moment id profile =
     record { connector = connector; moment = moment; profile = with_transaction profile id }
 
--- a row is given up where more rows than the limit would stand
+-- a row is dropped if there would be more rows than the limit
 abbrev pub installed_if_room : List Row → Row → List Row
 installed_if_room rows row =
     if nat_le (length (installed rows row)) max_rows then installed rows row else rows
 
--- the rows then: the TxProfiles of the transaction before it at the connector have gone (3.13)
+-- the rows after a start: the TxProfiles of the previous transaction at the connector are removed
+-- (3.13)
 abbrev pub rows_begun : List Row → ℕ → ℕ → ℤ → Option Profile → List Row
 rows_begun rows connector moment id None = without_transaction_profiles rows connector
 rows_begun rows connector moment id (Some profile) =

@@ -1,4 +1,4 @@
-//! The rows that speak for a connector, the highest stack level first.
+//! The rows that apply to a connector, the highest stack level first.
 
 ghost use Rattle.std.specs.Prelude.{nat_le, IsTrue};
 ghost use Rattle.std.specs.Iterator.{YieldsFirstRef, item_count};
@@ -6,14 +6,14 @@ ghost use Rattle.std.specs.Iterator.{YieldsFirstRef, item_count};
 use crate::levels::{Places, row_at};
 use profile::Row;
 
-/// The rows of a purpose that speak for a connector (chapter 3.13), by strictly falling stack level,
-/// each once.
+/// An iterator over the rows of a purpose that apply to a connector (chapter 3.13), by strictly
+/// falling stack level, each once.
 #[derive(Drop)]
 pub struct Candidates<'a> {
     pub(crate) rows: &'a [Row],
-    /// Of each stack level the place of the row that speaks for the connector.
+    /// For each stack level, the index of the row that applies to the connector.
     pub(crate) places: Places,
-    /// Those of this stack level and above were yielded.
+    /// The rows of this stack level and above have been yielded.
     pub(crate) below: u32,
     pub(crate) ghost inside: { IsTrue (nat_le below 100) },
 }

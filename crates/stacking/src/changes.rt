@@ -1,4 +1,4 @@
-//! Which rows an install, a clear and the end of a transaction remove.
+//! The rows that an install, a clear and the end of a transaction remove.
 
 ghost use Rattle.std.specs.Prelude.{◌≡◌, ◌≤◌, length, vec_len, vec_capacity};
 ghost use Rattle.std.specs.List.{list_any};
@@ -6,21 +6,22 @@ ghost use Rattle.profile.specs.Changes.{is_purpose, has_key_of, is_replaced_by, 
 
 use profile::{Criteria, Purpose, Row};
 
-/// How many rows a new one doesn't replace.
+/// Returns the number of rows that a new one doesn't replace.
 pub(crate) fn staying(rows: &[Row], new: &Row) -> usize
     ensures { result ≡ length (rows_beside rows.now new.now) }
 {
+    // In a free function: inside a method of `Rows` the prover left this chain and `retain` open.
     rows.iter().filter(|row| !is_replaced_by(new, row)).count()
 }
 
-/// Whether a row matches each criterion that is given.
+/// Whether a row matches each given criterion.
 pub(crate) fn has_match(rows: &[Row], criteria: &Criteria) -> bool
     ensures { result ≡ list_any (matches criteria.now) rows.now }
 {
     rows.iter().any(|row| matches(criteria, row))
 }
 
-/// Removes the rows whose place a new one takes.
+/// Removes the rows that a new one replaces.
 pub(crate) fn drop_replaced(rows: &mut Vec<Row>, new: &Row)
     ensures rows { rows.new.items ≡ rows_beside rows.old.items new.now }
     ensures bound { vec_len rows.new ≤ vec_len rows.old }
@@ -29,7 +30,7 @@ pub(crate) fn drop_replaced(rows: &mut Vec<Row>, new: &Row)
     rows.retain(|row| !is_replaced_by(new, row));
 }
 
-/// Removes the rows that match each criterion that is given.
+/// Removes the rows that match each given criterion.
 pub(crate) fn drop_cleared(rows: &mut Vec<Row>, criteria: &Criteria)
     ensures rows { rows.new.items ≡ cleared rows.old.items criteria.now }
     ensures bound { vec_len rows.new ≤ vec_len rows.old }
@@ -46,7 +47,7 @@ pub(crate) fn drop_transaction_profiles(rows: &mut Vec<Row>, connector: u32)
     rows.retain(|row| !is_tx_profile_at(connector, row));
 }
 
-/// Whether a new row takes the place of a row.
+/// Whether a new row replaces a row.
 fn is_replaced_by(new: &Row, row: &Row) -> bool
     ensures { result ≡ is_replaced_by new.now row.now }
 {
@@ -68,7 +69,7 @@ pub(crate) fn is_purpose(purpose: Purpose, other: Purpose) -> bool
     purpose == other
 }
 
-/// Whether a row matches each criterion that is given.
+/// Whether a row matches each given criterion.
 fn matches(criteria: &Criteria, row: &Row) -> bool
     ensures { result ≡ matches criteria.now row.now }
 {

@@ -1,4 +1,4 @@
-//! The stack levels that have a rate, and the one that prevails.
+//! The rates of stack levels, and the one that prevails.
 
 ghost use Rattle.std.specs.Prelude.{◌≡◌, [], None, Some, IsOk, IfErr, OnErr, OnOk};
 ghost use Rattle.stacking.specs.InForce.{IsSet, IsTop};
@@ -9,12 +9,14 @@ use ocpp_scalars::Refusal;
 use std::alloc::Global;
 use std::marker::Model;
 
-/// The rates of the profiles of one purpose at one time, each at its stack level: of those that have
-/// one, the highest prevails (chapter 3.13). A look takes no time that grows, and a change seeks its
-/// level by halves.
+/// The rates of the profiles of one purpose at one time, each with its stack level. The highest
+/// level that has a rate prevails (chapter 3.13). Reading it takes constant time, and a change
+/// finds its level by binary search.
 #[derive(Drop)]
 pub struct InForce {
-    /// The levels that have a rate, each with that, by rising level.
+    /// The levels that have a rate, each with its rate, by rising level.
+    // Sorted and grown on demand: an array of all levels, made for each request, slowed short ones
+    // down.
     rates: Vec<(u32, u32)>,
 }
 
@@ -30,7 +32,7 @@ impl Model for InForce {
 }
 
 impl InForce {
-    /// No level has a rate. Allocates nothing.
+    /// Makes one in which no level has a rate. Allocates nothing.
     pub fn new(alloc: Global) -> InForce
         ensures { result ≡ [] }
     {
@@ -39,8 +41,8 @@ impl InForce {
         }
     }
 
-    /// Gives a level a rate, in tenths of A or W, or takes away the one that it has. `OutOfMemory`
-    /// where there is no memory for it, and then nothing changes; to take one away needs none.
+    /// Gives a level a rate, in tenths of A or W, or removes its rate. Returns `OutOfMemory` if
+    /// there is no memory for the rate, and then nothing changes; removing one allocates nothing.
     pub fn set(&mut self, level: u32, rate: Option<u32>) -> Result<(), Refusal>
         ensures set { OnOk result (IsSet self.old level rate self.new) }
         ensures cause { IfErr result (λ refusal. refusal ≡ OutOfMemory) }
@@ -56,7 +58,7 @@ impl InForce {
         }
     }
 
-    /// The rate of the highest level that has one, or `None` where no level has one.
+    /// Returns the rate of the highest level that has one, or `None` if no level has one.
     pub fn top(&self) -> Option<u32>
         ensures { IsTop self.now result }
     {
@@ -84,7 +86,7 @@ fn put_in(rates: &mut Vec<(u32, u32)>, level: u32, rate: u32) -> Result<(), Refu
     }
 }
 
-/// Takes away the rate of a level, if it has one.
+/// Removes the rate of a level, if it has one.
 fn take_out(rates: &mut Vec<(u32, u32)>, level: u32)
     requires rising { AreRising rates.old.items }
     ensures set { IsSet rates.old.items level None rates.new.items }
@@ -96,7 +98,7 @@ fn take_out(rates: &mut Vec<(u32, u32)>, level: u32)
     }
 }
 
-/// The place of the first level that isn't below this one.
+/// Returns the index of the first level that isn't below this one.
 fn place_of(rates: &[(u32, u32)], level: u32) -> usize
     requires rising { AreRising rates.now }
     ensures { IsPlaceOf rates.now level result }
@@ -108,7 +110,8 @@ fn place_of(rates: &[(u32, u32)], level: u32) -> usize
     rates.partition_point(|entry| entry.0 < level)
 }
 
-/// Where a level stands if each from the lowest up to it has a rate, which spares the search.
+/// Returns the index of a level if each level from the lowest up to it has a rate, which saves the
+/// search.
 fn likely_place(rates: &[(u32, u32)], level: u32) -> usize {
     match rates.first() {
         Some(lowest) => level.saturating_sub(lowest.0) as usize,
@@ -116,7 +119,7 @@ fn likely_place(rates: &[(u32, u32)], level: u32) -> usize {
     }
 }
 
-/// Whether a level stands at a place.
+/// Whether the entry at an index has this level.
 fn stands_there(rates: &[(u32, u32)], level: u32, place: usize) -> bool
     ensures { result ≡ stands_there rates.now level place }
 {

@@ -1,4 +1,4 @@
-//! Of each stack level the row that speaks for a connector.
+//! For each stack level, the row that applies to a connector.
 
 ghost use Rattle.std.specs.Prelude.{◌≡◌, ◌≢◌, ◌<◌, ◌≤◌, ℕ, length, slice_get, slice_index};
 ghost use Rattle.std.specs.List.{All};
@@ -8,18 +8,20 @@ ghost use Rattle.stacking.specs.ByCases.Candidates.{AreCandidatePlaces, AreFirst
 use crate::changes::is_purpose;
 use profile::{MAX_STACK_LEVEL, Purpose, Row};
 
-/// How many stack levels there are.
+/// The number of stack levels.
 const LEVELS: usize = MAX_STACK_LEVEL as usize + 1;
 
-/// Of each stack level a place among rows, of which there are fewer than 256. What is no place
-/// stands where no row is.
+/// For each stack level, an index among rows, of which there are fewer than 256. `NO_PLACE` is the
+/// index of no row.
+// A table that one pass over the rows fills: searching all rows for each level took about half of a
+// short request.
 pub(crate) type Places = [u8; LEVELS];
 
-/// Behind the place of any row.
+/// An index past the last row.
 const NO_PLACE: u8 = u8::MAX;
 
-/// Of each stack level the place of the row that speaks for a connector: one at the connector itself
-/// before one that speaks for all.
+/// Returns, for each stack level, the index of the row that applies to a connector: one at the
+/// connector itself takes precedence over one that applies to all.
 pub(crate) fn candidate_places(rows: &[Row], purpose: Purpose, connector: u32) -> Places
     requires few { length rows.now ≤ 255 }
     ensures { AreCandidatePlaces purpose rows.now connector result }
@@ -33,7 +35,7 @@ pub(crate) fn candidate_places(rows: &[Row], purpose: Purpose, connector: u32) -
     places
 }
 
-/// Of each stack level the place of the first row of a purpose at a connector.
+/// Returns, for each stack level, the index of the first row of a purpose at a connector.
 fn first_places(rows: &[Row], purpose: Purpose, connector: u32) -> Places
     requires few { length rows.now ≤ 255 }
     ensures { AreFirstPlaces purpose rows.now connector result }
@@ -43,7 +45,7 @@ fn first_places(rows: &[Row], purpose: Purpose, connector: u32) -> Places
     places
 }
 
-/// Notes of each stack level that has no place yet that of the first row of a purpose at a connector.
+/// For each stack level without an index, stores that of the first row of a purpose at a connector.
 fn add_first_places(places: &mut Places, rows: &[Row], purpose: Purpose, connector: u32)
     requires few { length rows.now ≤ 255 }
     ensures { AreFirstAdded purpose rows.now connector rows.now places.old places.new }
@@ -55,7 +57,7 @@ fn add_first_places(places: &mut Places, rows: &[Row], purpose: Purpose, connect
     }
 }
 
-/// Notes the place of a row, if there is none yet of its stack level.
+/// Stores the index of a row, unless its stack level has one.
 fn add_place(places: &mut Places, rows: &[Row], place: usize)
     requires few { length rows.now ≤ 255 }
     requires inside { place < length rows.now }
@@ -82,14 +84,14 @@ fn set_place(places: &mut Places, level: usize, place: u8)
     places[level] = place;
 }
 
-/// Whether a row is of a purpose and stands at a connector.
+/// Whether a row is of a purpose and at a connector.
 fn stands_at(purpose: Purpose, connector: u32, row: &Row) -> bool
     ensures { result ≡ stands_at purpose connector row.now }
 {
     is_purpose(purpose, row.profile.purpose) && row.connector == connector
 }
 
-/// The row that speaks for a connector at a stack level.
+/// Returns the row that applies to a connector at a stack level.
 pub(crate) fn row_at<'a>(rows: &'a [Row], places: &Places, level: u32) -> Option<&'a Row>
     requires { level < 100 }
     ensures { option_copied result ≡ slice_get rows.now (slice_index places.now level) }
@@ -97,7 +99,7 @@ pub(crate) fn row_at<'a>(rows: &'a [Row], places: &Places, level: u32) -> Option
     rows.get(places[level as usize] as usize)
 }
 
-/// The connector at which rows of a purpose stand that speak for this one alone.
+/// Returns the connector whose rows of a purpose apply to this connector only.
 fn own_connector(purpose: Purpose, connector: u32) -> u32
     ensures { result ≡ own_connector purpose connector }
 {
@@ -107,7 +109,7 @@ fn own_connector(purpose: Purpose, connector: u32) -> u32
     }
 }
 
-/// The connector at which rows of a purpose stand that speak for this one and others.
+/// Returns the connector whose rows of a purpose apply to this connector and to others.
 fn shared_connector(purpose: Purpose, connector: u32) -> u32
     ensures { result ≡ shared_connector purpose connector }
 {
@@ -117,8 +119,7 @@ fn shared_connector(purpose: Purpose, connector: u32) -> u32
     }
 }
 
-/// A stack level above those of all rows, so that no level is looked at in vain: 0 where there are no
-/// rows.
+/// Returns the lowest stack level above those of all rows: 0 if there are no rows.
 pub(crate) fn level_above(rows: &[Row]) -> u32
     ensures above { All (λ row. row.profile.stack_level < result) rows.now }
     ensures level { result ≤ 100 }

@@ -1,7 +1,7 @@
-//! The profiles that a charge point has installed (OCPP 1.6, chapters 3.13, 5.5 and 5.16): what an
-//! install replaces and what a clear removes. Which of them speak for a connector, the highest stack
-//! level first, and which of their rates prevails. What changes stands in profile's
-//! `specs/Changes.antt`, which rows speak for a connector in its `specs/Candidates.antt`.
+//! The profiles that a charge point has installed (OCPP 1.6, chapters 3.13, 5.5 and 5.16): the ones
+//! that an install replaces and that a clear removes; the ones that apply to a connector, the
+//! highest stack level first; and the rate that prevails. In `profile`, `specs/Changes.antt`
+//! defines the changes, and `specs/Candidates.antt` the rows that apply to a connector.
 #![tactic(auto)]
 
 mod candidates;

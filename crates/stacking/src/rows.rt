@@ -20,8 +20,9 @@ use std::marker::Model;
 /// The most rows of a charge point.
 pub const MAX_ROWS: usize = 200;
 
-/// The profiles that a charge point has installed, in the order of their installs: no two of one
-/// chargingProfileId, no two of one connector, purpose and stack level, and at most `MAX_ROWS`.
+/// The profiles that a charge point has installed, in the order of their installs, at most
+/// `MAX_ROWS`. No two have the same chargingProfileId, and no two the same connector, purpose and
+/// stack level.
 #[derive(Drop)]
 pub struct Rows {
     items: Vec<Row>,
@@ -42,7 +43,7 @@ impl Model for Rows {
 }
 
 impl Rows {
-    /// No rows. Allocates nothing.
+    /// Makes an empty list. Allocates nothing.
     pub fn new(alloc: Global) -> Rows
         ensures { result ≡ [] }
     {
@@ -51,7 +52,7 @@ impl Rows {
         }
     }
 
-    /// The rows, in the order of their installs.
+    /// Returns the rows, in the order of their installs.
     pub fn as_slice(&self) -> &[Row]
         ensures value { result.now ≡ self.now }
         ensures rows { AreRows self.now }
@@ -59,9 +60,9 @@ impl Rows {
         self.items.as_slice()
     }
 
-    /// Installs a row, which takes the place of those with its chargingProfileId and of those with its
-    /// connector, purpose and stack level. On `TooManyProfiles`, and out of memory, nothing changes and
-    /// the row comes back.
+    /// Installs a row, which replaces those with its chargingProfileId and those with its
+    /// connector, purpose and stack level. On `TooManyProfiles` and `OutOfMemory` nothing changes,
+    /// and the row is returned.
     pub fn install(&mut self, row: Row) -> Result<(), (Refusal, Row)>
         ensures rows { OnOk result (self.new ≡ installed self.old row) }
         ensures room { OnOk result (length (installed self.old row) ≤ max_rows) }
@@ -70,7 +71,8 @@ impl Rows {
         if staying(self.items.as_slice(), &row) >= MAX_ROWS {
             return Err((Refusal::TooManyProfiles, row));
         }
-        // Memory comes first, so that a refusal leaves all rows.
+        // After the limit, so that a full table is refused as such without memory too; before the
+        // removal, so that a refusal leaves all rows.
         if self.items.reserve(1).is_err() {
             return Err((Refusal::OutOfMemory, row));
         }
@@ -79,21 +81,21 @@ impl Rows {
         Ok(())
     }
 
-    /// Whether there are at most `MAX_ROWS` after the install of a row.
+    /// Whether there would be at most `MAX_ROWS` rows after the install of a row.
     pub fn has_room(&self, row: &Row) -> bool
         ensures { result ≡ nat_le (length (installed self.now row.now)) max_rows }
     {
         staying(self.items.as_slice(), row) < MAX_ROWS
     }
 
-    /// Whether a row matches each criterion that is given.
+    /// Whether a row matches each given criterion.
     pub fn has_match(&self, criteria: &Criteria) -> bool
         ensures { result ≡ list_any (matches criteria.now) self.now }
     {
         has_match(self.items.as_slice(), criteria)
     }
 
-    /// Removes the rows that match each criterion that is given, and returns how many they were.
+    /// Removes the rows that match each given criterion, and returns their number.
     pub fn clear(&mut self, criteria: &Criteria) -> usize
         ensures rows { self.new ≡ cleared self.old criteria.now }
         ensures count { result + length self.new ≡ length self.old }
@@ -103,8 +105,8 @@ impl Rows {
         before - self.items.len()
     }
 
-    /// Removes the TxProfile rows of a connector, whose transaction has ended, and returns how many they
-    /// were.
+    /// Removes the TxProfile rows of a connector, whose transaction has ended, and returns their
+    /// number.
     pub fn drop_tx(&mut self, connector: u32) -> usize
         ensures rows { self.new ≡ without_transaction_profiles self.old connector }
         ensures count { result + length self.new ≡ length self.old }
@@ -114,10 +116,10 @@ impl Rows {
         before - self.items.len()
     }
 
-    /// A transaction of a number begins at a connector at a moment, and the TxProfile rows of the
-    /// one before it are removed. Its own profile (chapter 5.11), where it has one, is installed.
-    /// Where more than `MAX_ROWS` would stand, the profile is given up. Only a profile wants memory:
-    /// where there is none, nothing changes and the profile comes back.
+    /// Begins the transaction of a number at a connector at a moment: removes the TxProfile rows of
+    /// the previous one, and installs its own profile (chapter 5.11), if it has one. If there would
+    /// be more than `MAX_ROWS` rows, the profile is dropped. Only a profile needs memory: if there
+    /// is none, nothing changes and the profile is returned.
     pub fn begin(
         &mut self,
         connector: u32,
@@ -151,8 +153,8 @@ impl Rows {
         Ok(())
     }
 
-    /// The rows of a purpose that speak for a connector (chapter 3.13), by strictly falling stack
-    /// level, each once. A TxProfile row is one whether or not a transaction is active.
+    /// Returns the rows of a purpose that apply to a connector (chapter 3.13), by strictly falling
+    /// stack level, each once. It includes TxProfile rows whether or not a transaction is active.
     pub fn candidates(&self, purpose: Purpose, connector: u32) -> Candidates<'_>
         ensures { AreByFallingLevel
             (candidates purpose self.now connector)
@@ -162,11 +164,13 @@ impl Rows {
         Candidates {
             rows,
             places: candidate_places(rows, purpose, connector),
+            // From the highest level of a row: a walk from level 99 cost a point with few profiles
+            // more than the rest of its sweep.
             below: level_above(rows),
         }
     }
 
-    /// A copy.
+    /// Returns a copy.
     pub fn copy(&self) -> Result<Rows, AllocError>
         ensures { IfOk result (λ copy. copy ≡ self.now) }
     {

@@ -1,4 +1,5 @@
--- That two schedules agree before a place, and what one interval more, or one that contradicts, comes to.
+-- Two schedules agree before some period, and the step by one more interval, or by one that
+-- contradicts.
 use Rattle.std.proofs.Common.{◌≡◌, ℕ, ◌+◌, ◌-◌, ◌<◌, ◌≤◌, ◌==◌, ◌⊎◌, inl, inr, zero, suc, nat_lt, true, false, not, ◌&&◌, List, [], ◌∷◌, length, Some, slice_get, slice_index_or, refl, sym, ap, ◌∙◌, arith}
 use Rattle.std.proofs.lemmas.Bool.{and_parts, and_cases, cases_lt, ltb-true, ltb-false, eqb-true, eq-eqb, not-true, not-false, both_ways}
 use Rattle.std.proofs.lemmas.Option.{slice_get_past, slice_get-get_or, none-some, same_Some}
@@ -51,7 +52,7 @@ equal_limits left right instant agree h i j k =
       ]
     ]
 
--- both schedules have equal limits at a second of two intervals that don't contradict
+-- both schedules have equal limits at a second that two intervals without contradiction cover
 both_here : (first : CompositeSchedule) (first_start place : ℕ) (second : CompositeSchedule) (second_start other_place : ℕ) (left right : PeriodInterval)
     → IsPeriodInterval first first_start place left → IsPeriodInterval second second_start other_place right → contradict left right ≡ false
     → (one other : ℕ) → first_start + one ≡ second_start + other
@@ -101,7 +102,7 @@ agree_right first first_start place second second_start other_place left right h
       ]
     ]
 
--- two intervals that contradict have a second in common, at which the schedules don't agree
+-- two intervals that contradict each other share a second at which the schedules don't agree
 pub contradicted : (first : CompositeSchedule) (first_start place : ℕ) (second : CompositeSchedule) (second_start other_place : ℕ) (left right : PeriodInterval)
     → IsPeriodInterval first first_start place left → IsPeriodInterval second second_start other_place right → contradict left right ≡ true
     → Agree first first_start second second_start → ⊥
@@ -135,7 +136,7 @@ contradicted first first_start place second second_start other_place left right 
         let limits : left.limit ≡ right.limit = same_Some _ _ (sym one_limit ∙ (equal ∙ other_limit)) in
         both_ways (left.limit == right.limit) differ (eq-eqb _ _ limits)
 
--- a period is the one in force from its start on until the next one begins
+-- a period is in force from its start until the next one begins
 in_force : (ps : List CompositePeriod) (place : ℕ) (p : CompositePeriod) → AreStrictlyIncreasing ps → slice_get ps place ≡ Some p
     → (second end : ℕ) → p.start ≤ second → second < start_or end (slice_get ps (suc place)) → at ps second ≡ Some p.limit
 in_force [] place p increasing is second end since before = absurd (none-some _ is)

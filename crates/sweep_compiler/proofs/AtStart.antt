@@ -1,4 +1,4 @@
--- What is gathered at the start of a request is a sweep that stands there.
+-- The bounds gathered at the start of a request are those of a sweep at that start.
 use Rattle.std.proofs.Common.{◌≡◌, ℕ, ◌<◌, ◌≤◌, ◌^◌, ◌==◌, zero, suc, Bool, true, false, List, [], ◌∷◌, ◌++◌, length, map, filter, cond, ◌||◌, Some, None, is_some, ⊎_elim, refl, ap, sym, subst, ◌∙◌, arith}
 use Rattle.std.specs.List.{AllByRecursion, AllZip, Contains, list_any, range_with_len}
 use Rattle.std.proofs.lemmas.Bool.{cases_lt}
@@ -104,7 +104,7 @@ all_few state connector asked last (point ∷ others) are few =
     let less = looked_few state connector few in
     omega (arith, same, less)
 
--- ---- rows speak for what is asked
+-- ---- the rows that apply to the request
 
 or-first : (a b : Bool) → a ≡ true → (a || b) ≡ true
 or-first true b h = refl
@@ -195,7 +195,7 @@ all_start state connector asked last (point ∷ others) are = (
   others_start state connector asked last (looked_at state connector) others (all_look state connector asked) are.1,
 )
 
--- ---- places to come
+-- ---- later places
 
 record IsComing (state : PointState) (connector asked last next : ℕ) : Type 0 where
   later : asked < next

@@ -1,4 +1,4 @@
--- Intervals so far: with one more, and the periods that they make.
+-- The intervals so far: with one more, and the periods that they make.
 use Rattle.std.proofs.Common.{◌≡◌, ◌≢◌, ℕ, ◌+◌, ◌-◌, ◌<◌, ◌≤◌, zero, suc, Bool, true, List, [], ◌∷◌, ◌++◌, cond, Option, Some, None, refl, ap, sym, ◌∙◌, inl, inr, arith}
 use Rattle.std.specs.List.{AllByRecursion, range_with_len, count_by}
 use Rattle.std.proofs.Common.{append_assoc}
@@ -22,7 +22,7 @@ use Rattle.sweep_compiler.specs.Explained.{ExplainedSchedule, Adjoin, Differ, Is
 use Rattle.sweep_compiler.specs.Places.{places_within}
 use Rattle.sweep_compiler.proofs.Sweeping.{count_more, count_upto, periods_upto, before_stays}
 
--- ---- one interval more
+-- ---- one more interval
 
 pub adjoin_more : (from middle : ℕ) (intervals : List Interval) (new : Interval) → Adjoin from middle intervals → new.start ≡ middle → new.start < new.end
     → Adjoin from new.end (intervals ++ new ∷ [])
@@ -33,7 +33,7 @@ pub all_more : {X : Type 0} (P : X → Type 0) (xs : List X) (x : X) → AllByRe
 all_more P [] x h k = (k, tt)
 all_more P (y ∷ xs) x h k = (h.0, all_more P xs x h.1 k)
 
--- what tells an interval from its neighbours: its reason alone
+-- only its reason distinguishes an interval from its neighbours
 abbrev pub with_reason : Reason → Interval
 with_reason reason = record { start = 0; end = 0; reason = reason }
 
@@ -54,7 +54,7 @@ interval_of state connector start interval h = record {
   reason = h;
 }
 
--- a reason that holds up to a second, and stays up to a later one
+-- a reason that holds up to a second, and is constant up to a later one
 pub stays_upto : (value : ℕ → Reason) (reason : Reason) (start second next : ℕ) → ((k : ℕ) → start ≤ k → k ≤ second → reason ≡ value k)
     → start ≤ second → ((later : ℕ) → second ≤ later → later < next → value later ≡ value second)
     → (k : ℕ) → start ≤ k → k < next → reason ≡ value k
@@ -64,11 +64,11 @@ stays_upto value reason start second next h begun stays k from below =
       | inr since ↦ h second begun (omega arith) ∙ sym (stays k (omega arith) below)
     ]
 
--- a reason at one second alone
+-- a reason at a single second
 pub at_one : (value : ℕ → Reason) (reason : Reason) (second : ℕ) → reason ≡ value second → (k : ℕ) → second ≤ k → k ≤ second → reason ≡ value k
 at_one value reason second h k from upto = let same : second ≡ k = omega arith in h ∙ ap value same
 
--- the same of a later second, to which the reason stays, and where it is found again
+-- a reason that is constant up to a later second, and is the same there
 pub upto_next : (value : ℕ → Reason) (reason : Reason) (start second next : ℕ) → ((k : ℕ) → start ≤ k → k ≤ second → reason ≡ value k)
     → start ≤ second → ((later : ℕ) → second ≤ later → later < next → value later ≡ value second) → reason ≡ value next
     → (k : ℕ) → start ≤ k → k ≤ next → reason ≡ value k
@@ -80,7 +80,7 @@ upto_next value reason start second next h begun stays here k from upto =
 
 -- ---- turns
 
--- how many turns were made by a second: one at the first, and one at each place since
+-- the number of turns by a second: one for the first, and one for each place since
 abbrev pub spent_at : (ℕ → Bool) → ℕ → ℕ
 spent_at place second = 1 + count_by place (range_with_len 1 second)
 

@@ -1,4 +1,4 @@
--- The rows that are gathered fall by rank.
+-- The gathered rows are in falling order of rank.
 use Rattle.std.proofs.Common.{◌≡◌, ℕ, ◌+◌, ◌<◌, ◌≤◌, ◌==◌, Bool, true, false, ◌&&◌, List, [], ◌∷◌, ◌++◌, map, filter, cond, refl, ap, sym, subst, arith}
 use Rattle.std.specs.List.{AllByRecursion}
 use Rattle.std.proofs.lemmas.Bool.{eq-eqb}
@@ -16,7 +16,7 @@ use Rattle.sweep_compiler.specs.ByCases.Running.{Running, running_from, rank, ra
 use Rattle.sweep_compiler.specs.ByCases.Swept.{AreRunsOf}
 use Rattle.sweep_compiler.proofs.Prevailing.{rows_below, falling_tail}
 
--- ---- what holds of the candidates holds of them by falling level
+-- ---- properties of the candidates are properties of them by falling level
 
 all_filter : {X : Type 0} (P : X → Type 0) (test : X → Bool) (xs : List X) → AllByRecursion P xs → AllByRecursion P (filter test xs)
 all_filter P test [] all = tt

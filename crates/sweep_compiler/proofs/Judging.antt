@@ -1,4 +1,4 @@
--- That the verdict on a schedule that a point says is the verdict of the audit.
+-- The verdict on a schedule that a point reports is the verdict of the audit.
 use Rattle.std.proofs.Common.{◌≡◌, ℕ, List, Option, Some, None, Result, Ok, Err, IfOk, refl, sym}
 use Rattle.std.specs.Option.{unwrap_or}
 use Rattle.profile.specs.declared.unit.Unit.{Unit}

@@ -1,4 +1,4 @@
--- From a place to the next the limit stays.
+-- The limit is constant from a place to the next.
 use Rattle.std.proofs.Common.{◌≡◌, ℕ, ◌+◌, ◌-◌, ◌<◌, ◌≤◌, ◌≢◌, true, List, [], ◌∷◌, Option, Some, None, ap, sym, subst, ◌∙◌, arith}
 use Rattle.std.specs.List.{AllByRecursion, Contains}
 use Rattle.meaning.specs.View.{PointState}
@@ -53,7 +53,7 @@ nothing item (k, inside, is) = none inside
     none : k < 0 → ⊥
     none inside = omega (arith, inside)
 
--- where none waits here any more, those that wait are ahead
+-- if no row waits at this instant any more, all that wait are ahead
 pub all_ahead : (state : PointState) (connector asked last at : ℕ) (bounds : List RunningBound) (items : List Due) (sum : ℕ) (soonest : Option ℕ) → IsSwept state connector asked last at bounds items sum
     → IsSoonest items soonest → (soonest ≡ Some at → ⊥) → (item : Due) → Contains items item → at < item.instant
 all_ahead state connector asked last at bounds items sum None swept is apart item has = absurd (nothing item (subst (λ (items : List Due). Contains items item) is has))
@@ -65,9 +65,9 @@ all_ahead state connector asked last at bounds items sum (Some next) swept is ap
     let other : next ≢ at = λ (e : next ≡ at). apart (ap (λ (n : ℕ). Some n) e) in
     omega (arith, from, same, low, other)
 
--- ---- up to there
+-- ---- up to the next place
 
--- a value is what it is now at each instant up to which none is due
+-- a value is constant at each instant before which no row is due
 abbrev pub StaysWhileNoneIsDue : {X : Type 0} → X → (ℕ → X) → ℕ → ℕ → List Due → Type 0
 StaysWhileNoneIsDue now value at last items =
     (k : ℕ) → at ≤ k → k ≤ last → ((item : Due) → Contains items item → k < item.instant) → now ≡ value k

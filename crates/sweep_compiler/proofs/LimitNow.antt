@@ -1,4 +1,5 @@
--- What the bounds of a request have in force is its limit, from where a sweep stands on and up to the next place.
+-- The limits in force of a request's bounds give its limit, from the sweep's instant up to the next
+-- place.
 use Rattle.std.proofs.Common.{◌≡◌, ℕ, ◌+◌, ◌<◌, ◌≤◌, ◌==◌, suc, Bool, true, false, cond, List, [], ◌∷◌, ◌++◌, map, min, get_or, Option, None, Some, refl, ap, sym, ◌∙◌, arith}
 use Rattle.std.specs.List.{AllByRecursion, AllZip, Contains, sum_by}
 use Rattle.std.proofs.lemmas.List.{map-append}
@@ -67,7 +68,7 @@ first_at (run ∷ later) k stayed =
 
 -- ---- bounds
 
--- the first of rows that has a limit is that of some of them, or else of the others
+-- the limit of the first row that has one is that of the rows in front, or otherwise of the others
 first_append : (instant : ℕ) (rows others : List SeenRow) → first_limit instant (rows ++ others) ≡ or_else (first_limit instant rows) (first_limit instant others)
 first_append instant [] others = refl
 first_append instant (x ∷ rows) others = go (limit_seen instant x) (first_append instant rows others)

@@ -1,4 +1,4 @@
--- One bound among the others, where a row of it passes its next place.
+-- One bound among the others, when a row of it passes its next place.
 use Rattle.std.proofs.Common.{◌≡◌, ℕ, ◌+◌, ◌-◌, ◌*◌, ◌<◌, ◌≤◌, ◌^◌, zero, suc, List, [], ◌∷◌, length, get_or, Option, Some, None, refl, ap, sym, subst, ◌∙◌, arith}
 use Rattle.std.specs.List.{AllByRecursion, slice_set, sum_by}
 use Rattle.std.proofs.lemmas.List.Sums.{sum_by-set, sum_by-cons}
@@ -20,7 +20,7 @@ due_of_bound [] n row d inside = absurd (omega (arith, inside))
 due_of_bound (bound ∷ others) zero row d inside = refl
 due_of_bound (bound ∷ others) (suc n) row d inside = due_of_bound others n row d (omega (arith, inside))
 
--- a bound that is there where one of its rows is
+-- the bound of a row exists
 pub has_bound : (bounds : List RunningBound) (n row : ℕ) → row < row_count bounds n → n < length bounds
 has_bound [] n row inside = absurd (omega (arith, inside))
 has_bound (bound ∷ others) zero row inside = omega arith
@@ -52,7 +52,7 @@ pub shared_small : (bounds : List RunningBound) → AreSmall bounds → length b
 shared_small [] small few = omega arith
 shared_small (point ∷ others) small few = let all = sum_small others small.1 in omega (arith, all, few)
 
--- what changes in the sum where one of its bounds does, and that the first isn't among them
+-- the change of the sum with one of its bounds, other than the first, which isn't in the sum
 pub shared_set : (bounds : List RunningBound) (n : ℕ) (new d : RunningBound) → 0 < n → n < length bounds
     → shared_now (slice_set bounds n new) + bound_now (get_or bounds n d) ≡ shared_now bounds + bound_now new
 shared_set [] n new d some inside = absurd (omega (arith, inside))

@@ -1,4 +1,4 @@
--- What a sweep keeps where a row passes its next place.
+-- The invariant of a sweep when a row passes its next place.
 use Rattle.std.proofs.Common.{◌≡◌, ℕ, ◌<◌, ◌≤◌, ◌^◌, ◌==◌, ◌≢◌, zero, suc, Bool, true, false, List, [], ◌∷◌, length, map, Option, Some, None, inl, inr, ◌⊎◌, refl, ap, sym, subst, ◌∙◌, arith}
 use Rattle.std.specs.List.{AllByRecursion, AllZip, Contains}
 use Rattle.std.specs.List.Sorted.{IsPermutation}
@@ -13,7 +13,7 @@ use Rattle.sweep_compiler.specs.ByCases.Running.{Running, RunningBound, seen_run
 use Rattle.sweep_compiler.specs.ByCases.Queue.{Due}
 use Rattle.sweep_compiler.specs.ByCases.Swept.{IsConnectorBound, AreBounds, EachRow, row_count, due_in, passed_in, shared_now, IsPassedUpTo, IsWaiting, IsSwept}
 
--- ---- what stays
+-- ---- unchanged parts
 
 seen_passed : (run : Running) → seen_running (passed run) ≡ seen_running run
 seen_passed run = go (due run)
@@ -81,7 +81,7 @@ count_kept zero row (suc k) (bound ∷ others) = refl
 count_kept (suc n) row zero (bound ∷ others) = refl
 count_kept (suc n) row (suc k) (bound ∷ others) = count_kept n row k others
 
--- ---- when rows are due
+-- ---- the instants at which rows are due
 
 due_other_row : (n row : ℕ) (runs : List Running) → (row ≡ n → ⊥) → due_at (passed_at n runs) row ≡ due_at runs row
 due_other_row n row [] apart = refl
@@ -161,7 +161,7 @@ next_in state connector asked last at next n row [] is h again = cc
 next_in state connector asked last at next zero row (bound ∷ others) is h again = next_of_runs state connector asked last at next row bound.runs is h.0 again
 next_in state connector asked last at next (suc n) row (bound ∷ others) is h again = next_in state connector asked last at next n row others is h.1 again
 
--- ---- what waits
+-- ---- the rows that wait
 
 pub contains_cases : (x y : Due) (items : List Due) → Contains (x ∷ items) y → (x ≡ y) ⊎ Contains items y
 contains_cases x y items (zero, inside, is) = inl is
@@ -176,7 +176,7 @@ contains_first x items = (0, omega arith, refl)
 abbrev pub item : ℕ → ℕ → ℕ → Due
 item instant n row = record { instant = instant; bound = n; row = row }
 
--- after one that was taken, others wait as before
+-- after one was removed, the others wait as before
 still_waits : (items rest : List Due) (at n row : ℕ) (other : Due) → IsPermutation items (item at n row ∷ rest) → Contains items other → (other.bound ≡ n → other.row ≡ row → ⊥) → Contains rest other
 still_waits items rest at n row other p has apart = go (contains_cases (item at n row) other rest (Contains-permutation items (item at n row ∷ rest) other p has))
   where
@@ -187,7 +187,7 @@ still_waits items rest at n row other p has apart = go (contains_cases (item at 
 waited : (items rest : List Due) (taken other : Due) → IsPermutation items (taken ∷ rest) → Contains rest other → Contains items other
 waited items rest taken other p has = Contains-permutation (taken ∷ rest) items other (IsPermutation-sym items (taken ∷ rest) p) (contains_more taken other rest has)
 
--- one that isn't due any more
+-- a row that is no longer due
 pub swept_stale : (state : PointState) (connector asked last at : ℕ) (bounds : List RunningBound) (items rest : List Due) (sum n row : ℕ) → IsSwept state connector asked last at bounds items sum
     → IsPermutation items (item at n row ∷ rest) → (due_in bounds n row ≡ Some at → ⊥) → IsSwept state connector asked last at bounds rest sum
 swept_stale state connector asked last at bounds items rest sum n row swept p stale = record {
@@ -209,7 +209,7 @@ swept_stale state connector asked last at bounds items rest sum n row swept p st
         absurd (stale (ap (λ (j : ℕ). due_in bounds j row) b ∙ (ap (due_in bounds k) e ∙ (is ∙ ap (λ (i : ℕ). Some i) (sym a)))))
     go k other instant is (inr has) = has
 
--- what waits after one has passed: it again, where it has a place left
+-- the queue after a row has passed: the row again, if it has another place
 abbrev pub IsPutBack : Option ℕ → ℕ → ℕ → List Due → List Due → Type 0
 IsPutBack None n row rest after = after ≡ rest
 IsPutBack (Some next) n row rest after = IsPermutation (record { instant = next; bound = n; row = row } ∷ rest) after

@@ -1,4 +1,4 @@
--- Of candidates by falling level the first that has a limit prevails.
+-- Of candidates by falling level, the first that has a limit prevails.
 use Rattle.std.proofs.Common.{◌≡◌, ℕ, ◌<◌, ◌≤◌, ◌==◌, nat_lt, Bool, true, false, List, [], ◌∷◌, map, cond, Option, Some, None, option_map, ⊎_elim, refl, ap, sym, subst, ◌∙◌, arith}
 use Rattle.std.specs.List.{AllByRecursion, filter_map, cons_option}
 use Rattle.std.proofs.lemmas.Bool.{cases_order, eq-eqb}
@@ -21,12 +21,12 @@ use Rattle.sweep_compiler.specs.ByCases.Seen.{first_limit, seen_from}
 abbrev pub rate_for : PointState → ℕ → ℕ → ℕ → Row → Option ℕ
 rate_for state connector asked instant row = rate row.profile (base row (active_since state connector) asked) instant
 
--- the first of the rows that has a limit, with that
+-- the first row that has a limit, with its limit
 abbrev pub first_of : (Row → Option ℕ) → List Row → Option RowLimit
 first_of give [] = None
 first_of give (row ∷ rows) = row_or_else (option_map (with_limit row) (give row)) (first_of give rows)
 
--- the same of the rows of a level
+-- the first row of a level that has a limit
 abbrev at_level : (Row → Option ℕ) → List Row → ℕ → Option RowLimit
 at_level give [] n = None
 at_level give (row ∷ rows) n = cond (row.profile.stack_level == n) (row_or_else (option_map (with_limit row) (give row)) (at_level give rows n)) (at_level give rows n)
@@ -54,12 +54,12 @@ one_top limits (Some best) (Some other) h k = ⊎_elim
     (λ (more : level_of other < level_of best). none_is_some (limits (level_of best)) best (k.above (level_of best) more) h.has))
     (cases_order (level_of best) (level_of other))
 
--- the same limits have the same top
+-- equal limits have the same top
 same_top : (limits others : ℕ → Option RowLimit) (best : Option RowLimit) → ((n : ℕ) → others n ≡ limits n) → IsTopOf limits best → IsTopOf others best
 same_top limits others None same h = λ n. same n ∙ h n
 same_top limits others (Some best) same h = record { has = same (level_of best) ∙ h.has; above = λ n more. same n ∙ h.above n more }
 
--- ---- one row more
+-- ---- one more row
 
 cond_same : {X : Type 0} (b : Bool) (x : X) → cond b x x ≡ x
 cond_same true x = refl

@@ -1,4 +1,4 @@
--- What a heap says of the rows that wait.
+-- The order of the waiting rows in a heap.
 use Rattle.std.proofs.Common.{◌≡◌, ℕ, ◌<◌, ◌≤◌, nat_lt, ◌==◌, Bool, true, false, List, [], ◌∷◌, length, drop, cond, refl, ap, sym, subst, arith}
 use Rattle.std.specs.Prelude.{slice_index_or}
 use Rattle.std.specs.List.{AllByRecursion, Contains}
@@ -10,7 +10,7 @@ use Rattle.std.proofs.lemmas.Bool.Decides.{nat_tests}
 use Rattle.std.proofs.lemmas.List.Sorted.{IsPermutation-cons, IsPermutation-trans}
 use Rattle.sweep_compiler.specs.ByCases.Queue.{Due, IsSoonestOf}
 
--- the rows that wait are the heap's items
+-- the waiting rows are the items of the heap
 pub pushed : (due : Due) (old new items : List Due) → old ≡ items → IsPermutation (due ∷ old) new → IsPermutation (due ∷ items) new
 pushed due old new items e p = subst (λ (items : List Due). IsPermutation (due ∷ items) new) e p
 
@@ -32,7 +32,7 @@ not_less a b h = go (nat_lt b a) refl h
     go true less h = cc
     go false less h = grind (arith, nat_tests, less)
 
--- none is greater than the first of a heap, so none is due sooner
+-- no item is greater than the first of a heap, so none is due sooner
 pub least_of : (due : Due) (xs items : List Due) → xs ≡ items → AllByRecursion (λ (other : Due). is_lt (nat_cmp other.instant due.instant) ≡ false) xs
     → AllByRecursion (λ (other : Due). due.instant ≤ other.instant) items
 least_of due xs items e all = subst (λ (items : List Due). AllByRecursion (λ (other : Due). due.instant ≤ other.instant) items) e (go xs all)

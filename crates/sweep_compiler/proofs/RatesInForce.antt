@@ -1,4 +1,4 @@
--- The limit of the highest rank in force is that of the first of the rows by falling rank.
+-- The limit of the highest rank in force is that of the first row by falling rank.
 use Rattle.std.proofs.Common.{◌≡◌, ℕ, ◌+◌, ◌<◌, ◌==◌, zero, suc, Bool, true, false, List, [], ◌∷◌, length, drop, cond, get_or, Option, Some, None, inl, inr, refl, ap, sym, subst, ◌∙◌, arith}
 use Rattle.std.specs.List.{AllByRecursion, slice_set}
 use Rattle.std.proofs.lemmas.Bool.{eq-eqb}
@@ -43,7 +43,7 @@ top_is_first runs rates None are is = sym (first_none runs rates are.each is)
 top_is_first runs rates (Some limit) are is =
     sym (first_some runs rates is.level limit are.falling are.each (are.no_other is.level limit is.has) is.has is.none_above)
 
--- ---- one rank set
+-- ---- setting one rank
 
 set_here : (rates new : List (ℕ × ℕ)) (n : ℕ) (limit : Option ℕ) → IsSet rates n limit new → rate_of new n ≡ limit
 set_here rates new n limit is = is n ∙ ap (λ (b : Bool). cond b limit (rate_of rates n)) (eq-eqb n n refl)
@@ -121,7 +121,7 @@ in_force_set runs i new d rates after inside e is are = record {
     go n limit false apart has =
         has_kept runs i n new d e (are.no_other n limit (sym (set_apart rates after (rank_running new) n (rate_running new) is apart) ∙ has))
 
--- the same of a row that was read, passed and written back
+-- a row that was read, passed and written back
 pub passed_in_force : (runs : List Running) (i : ℕ) (read written new : Running) (rates after : List (ℕ × ℕ)) (n : ℕ) (limit : Option ℕ) → i < length runs
     → read ≡ get_or runs i read → written ≡ get_or runs i written → new ≡ passed written → n ≡ rank_running read → limit ≡ rate_running (passed read)
     → IsSet rates n limit after → AreInForce runs rates → AreInForce (slice_set runs i new) after

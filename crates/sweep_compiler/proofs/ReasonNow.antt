@@ -1,4 +1,5 @@
--- What the bounds of a request have in force sets its limit, from where a sweep stands on and up to the next place.
+-- The limits in force of a request's bounds give the reason of its limit, from the sweep's instant
+-- up to the next place.
 use Rattle.std.proofs.Common.{◌≡◌, ℕ, ◌≤◌, ◌<◌, ◌==◌, Bool, true, false, List, [], ◌∷◌, ◌++◌, map, cond, nat_lt, get_or, Option, Some, None, option_map, refl, ap, sym, subst, ◌∙◌, arith}
 use Rattle.std.specs.List.{AllByRecursion, AllZip, Contains}
 use Rattle.std.proofs.lemmas.Bool.Decides.{nat_tests}
@@ -137,7 +138,7 @@ connector_no_sum state connector asked k =
     (lesser_no_sum (own_bound state connector asked k) (bound_of PointCeiling state.ceiling)
     (row_no_sum (transaction_row state connector asked k) (bound_of ConnectorCeiling (ceiling_of state connector)) tt) tt)
 
--- the shares where the cause is the sum
+-- the shares if the cause is the sum
 abbrev pub shares_of : Cause → List Share → List Share
 shares_of Sum shares = shares
 shares_of other shares = []
@@ -157,7 +158,7 @@ no_sum_no_shares Sum shares state asked k h = absurd h
 abbrev pub reason_of : Bound → List Share → Reason
 reason_of bound shares = record { limit = bound.limit; cause = bound.cause; shares = shares }
 
--- what sets the limit, with the shares, as the bounds have it now
+-- the reason from the bounds as they are now
 abbrev pub reason_now : ℕ → List RunningBound → ℕ → Reason
 reason_now connector bounds sum =
     reason_of (bound_as_now (connector == 0) bounds sum) (shares_of (bound_as_now (connector == 0) bounds sum).cause (shares_now bounds))
@@ -182,7 +183,7 @@ pub reason_stays : (state : PointState) (connector asked last at k : ℕ) (bound
 reason_stays state connector asked last at k bounds items sum swept from upto before =
     reason_of_bounds state connector asked k bounds sum swept.gathered (rows_now state connector asked last at k bounds items sum swept from upto before) swept.sum_is
 
--- the shares, where the whole point is asked
+-- the shares in a request for the whole point
 shares_at_point : (state : PointState) (asked k : ℕ) (bounds : List RunningBound) → AreBounds state 0 asked bounds → EachRow (HasStayed k) bounds → shares_now bounds ≡ shares_by Sum state asked k
 shares_at_point state asked k [] are stayed = absurd are
 shares_at_point state asked k (point ∷ others) are stayed = shares_are state asked k (active_connectors state) others are.1 stayed.1
@@ -192,7 +193,7 @@ pub shares_stay : (state : PointState) (connector asked last at k : ℕ) (bounds
 shares_stay state connector asked last at k bounds items sum swept from upto before whole =
     shares_at_point state asked k bounds (subst (λ (n : ℕ). AreBounds state n asked bounds) whole swept.gathered) (rows_now state connector asked last at k bounds items sum swept from upto before)
 
--- where the sum sets the limit, the whole point is asked
+-- if the sum sets the limit, the request is for the whole point
 pub sum_is_whole : (state : PointState) (connector asked k : ℕ) → (bound state connector asked k).cause ≡ Sum → connector ≡ 0
 sum_is_whole state connector asked k sum = go (connector == 0) refl sum
   where
@@ -200,7 +201,7 @@ sum_is_whole state connector asked k sum = go (connector == 0) refl sum
     go true is sum = grind (arith, nat_tests, is)
     go false is sum = absurd (subst NoSum sum (connector_no_sum state connector asked k))
 
--- ---- as it is read
+-- ---- as the code reads it
 
 pub whole_read : (state : PointState) (connector asked : ℕ) (bounds : List RunningBound) (d : RunningBound) (sum : ℕ) → AreBounds state connector asked bounds → (connector == 0) ≡ true
     → below_now (get_or bounds 0 d) (bound_of Sum sum) ≡ bound_as_now (connector == 0) bounds sum

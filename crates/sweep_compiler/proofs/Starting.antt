@@ -81,7 +81,7 @@ length_take (suc k) (bound ∷ others) = let rest = length_take k others in omeg
 pub sum_fits : (bounds : List RunningBound) (k : ℕ) → AllByRecursion (λ (bound : RunningBound). bound.ceiling < 2 ^ 32) bounds → length bounds ≤ 2 ^ 32 → shared_now (take k bounds) < 2 ^ 64
 sum_fits bounds k small few = let short = length_take k bounds in shared_small (take k bounds) (small_take k bounds small) (omega (arith, short, few))
 
--- ---- who waits
+-- ---- the rows that wait
 
 pub some_not_none : (instant : ℕ) → ◌≡◌ {A = Option ℕ} None (Some instant) → ⊥
 some_not_none instant e = cc
@@ -133,7 +133,7 @@ due_past [] n row past = refl
 due_past (bound ∷ others) zero row past = due_past_row bound.runs row past
 due_past (bound ∷ others) (suc n) row past = due_past others n row past
 
--- the bound behind it
+-- the bound after it
 pub next_bound : (bounds : List RunningBound) (many rows : ℕ) (items : List Due) → row_count bounds many ≤ rows → AreWaiting bounds many rows items → AreWaiting bounds (many + 1) 0 items
 next_bound bounds many rows items all are = record {
   before = λ n row instant low is. ⊎_elim

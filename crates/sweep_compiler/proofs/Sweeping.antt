@@ -1,4 +1,4 @@
--- What a sweep has met by a second: its periods and its turns.
+-- The periods and the turns of a sweep by a second.
 use Rattle.std.proofs.Common.{◌≡◌, ℕ, ◌+◌, ◌-◌, ◌<◌, ◌≤◌, zero, suc, Bool, true, false, List, [], ◌∷◌, ◌++◌, length, cond, Option, Some, refl, ap, sym, ◌∙◌, arith}
 use Rattle.std.specs.List.{range_with_len, count_by}
 use Rattle.std.proofs.lemmas.List.{append-nil}
@@ -15,7 +15,7 @@ use Rattle.sweep_compiler.specs.Places.{places_within}
 
 -- ---- periods
 
--- no period begins where the limit stays as it was
+-- no period begins if the limit is unchanged
 begins_no : (limit : ℕ → ℕ) (n : ℕ) → limit n ≡ limit (suc n) → begins_period limit (suc n) ≡ false
 begins_no limit n h = rw (eq-eqb (limit n) (limit (suc n)) h) refl
 
@@ -33,7 +33,7 @@ stay_by limit n (suc more) h =
     ∙ (append-nil (exact_periods limit (suc (n + more)))
     ∙ (ap (exact_periods limit) same ∙ before))))
 
--- no period begins up to a second to which the limit stays
+-- no period begins up to a second if the limit is constant up to it
 periods_stay : (limit : ℕ → ℕ) (n m : ℕ) → n < m → ((later : ℕ) → n ≤ later → later < m → limit later ≡ limit n)
     → exact_periods limit m ≡ exact_periods limit (n + 1)
 periods_stay limit n m below h =
@@ -42,7 +42,7 @@ periods_stay limit n m below h =
     ap (exact_periods limit) (sym e)
     ∙ (stay_by limit n (m - suc n) (λ later from until. h later from (omega arith)) ∙ ap (exact_periods limit) one)
 
--- the periods up to a later second, to which the limit stays as it is at one that was added
+-- the periods up to a later second, if the limit is constant from a second that was added
 pub periods_upto : (limit : ℕ → ℕ) (n m : ℕ) (periods after : List CompositePeriod) (before : Option ℕ) (value : ℕ)
     → periods ≡ exact_periods limit n → before ≡ limit_before limit n → value ≡ limit n
     → after ≡ periods ++ period_added before (record { start = n; limit = value })
@@ -64,7 +64,7 @@ one_added before period = go (differs before period.limit)
 
 -- ---- turns
 
--- how many turns a sweep has made before a second: one at the first, and one at each place since
+-- the number of turns of a sweep before a second: one for the first, and one for each place since
 abbrev pub spent : (ℕ → Bool) → ℕ → ℕ
 spent place zero = 0
 spent place (suc n) = 1 + count_by place (range_with_len 1 n)
@@ -104,7 +104,7 @@ spent_all : (place : ℕ → Bool) (end : ℕ) → 0 < end → spent place end �
 spent_all place zero h = absurd (omega arith)
 spent_all place (suc end) h = let e : suc end - 1 ≡ end = omega arith in rw e refl
 
--- no more turns than one, and one for each place
+-- at most one turn, and one for each place
 pub spent_whole : (place : ℕ → Bool) (n end turns start after : ℕ) → n < end → (0 < n → place n ≡ true)
     → turns ≤ start + spent place n → after ≡ turns + 1 → after ≤ start + (1 + places_within place end)
 spent_whole place n end turns start after below here so_far turn =
@@ -112,7 +112,7 @@ spent_whole place n end turns start after below here so_far turn =
     let all = spent_all place end (omega arith) in
     omega (arith, next, so_far, turn, all)
 
--- no more turns than seconds
+-- at most as many turns as seconds
 pub spent_few : (place : ℕ → Bool) (n : ℕ) → spent place n ≤ n
 spent_few place zero = omega arith
 spent_few place (suc n) =

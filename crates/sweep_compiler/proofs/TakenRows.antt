@@ -1,4 +1,4 @@
--- The row that is due the soonest, taken from those that wait.
+-- The row that is due the soonest, removed from the queue.
 use Rattle.std.proofs.Common.{◌≡◌, ℕ, ◌<◌, ◌≤◌, ◌==◌, zero, suc, Bool, true, false, not, List, [], ◌∷◌, length, drop, cond, Option, Some, None, refl, ap, sym, subst, arith}
 use Rattle.std.specs.List.{AllByRecursion, Contains}
 use Rattle.std.specs.List.Sorted.{IsPermutation}
@@ -40,12 +40,12 @@ taken_is state connector asked last at bounds items rest sum due swept here p le
       has_bound = has_bound bounds due.bound due.row row;
     }
 
--- ---- the first, taken out
+-- ---- the first, removed
 
 pub first_out : (items rest : List Due) (due : Due) → items ≡ due ∷ drop 1 items → IsPermutation (drop 1 items) rest → IsPermutation items (due ∷ rest)
 first_out items rest due is p = subst (λ (all : List Due). IsPermutation all (due ∷ rest)) (sym is) (IsPermutation-cons due (drop 1 items) rest p)
 
--- ---- how many still wait here
+-- ---- the number that still wait at this instant
 
 abbrev one_at : ℕ → Due → ℕ
 one_at at due = cond (due.instant == at) 1 0

@@ -1,4 +1,4 @@
--- A verdict is the one that is computed.
+-- A verdict is the computed one.
 use Rattle.std.proofs.Common.{◌≡◌, ◌↔◌, ℕ, ◌+◌, ◌<◌, ◌≤◌, ◌≢◌, ◌==◌, zero, suc, min, Bool, true, false, ◌&&◌, cond, List, Option, Result, Ok, Err, is_ok, refl, sym, subst, inl, inr, ◌⊎◌, arith, rules}
 use Rattle.std.specs.Bool.{Decides}
 use Rattle.std.specs.List.{list_all, range_with_len}
@@ -62,7 +62,7 @@ equal_limits exact said = (
       (each second (omega (arith, before)) (omega (arith, before)))),
 )
 
--- ---- what can be compared
+-- ---- comparable schedules
 
 same_unit : (one other : Unit) → Decides (unit_eq one other) (one ≡ other)
 same_unit A A = (λ is. refl, λ is. refl)
@@ -74,7 +74,7 @@ some_asked : (connector start duration : ℕ) → is_ok (ask_of connector start 
 some_asked connector start zero asked = absurd (false≢true asked)
 some_asked connector start (suc n) asked = omega arith
 
--- the laws of `meaning` that the verdict rests on
+-- the laws of `meaning` on which the verdict rests
 abbrev pub ExactSchedules : Type 0
 ExactSchedules = (limit : ℕ → ℕ) (duration : ℕ) (schedule : CompositeSchedule) → 0 < duration
     → IsExactAnswer limit duration schedule ↔ (exact_schedule limit duration ≡ Ok schedule)
@@ -113,7 +113,7 @@ module _ (exact_law : ExactSchedules) (said_law : SaidSchedules) where
         exact_law (limit_asked (state_of audit.book) audit.connector start) audit.duration exact
         (some_asked audit.connector start audit.duration can.asked)
 
-    -- what is computed is the verdict
+    -- the computed verdict is a verdict
     by_limits : (exact : CompositeSchedule) → AreCompared audit start unit said exact
         → (equal : Bool) → have_equal_limits exact said ≡ equal → Is (cond equal Agrees Differs)
     by_limits exact compared true is = (exact, compared, (equal_limits exact said).0 is)
@@ -136,7 +136,7 @@ module _ (exact_law : ExactSchedules) (said_law : SaidSchedules) where
         go true can = by_exact (can_be.0 can) (exact_for audit start) refl
         go false cannot = λ exact compared. not_from_Decides _ can_be cannot compared.can
 
-    -- the verdict is what is computed
+    -- a verdict is the computed one
     compared_are : (exact : CompositeSchedule) → AreCompared audit start unit said exact
         → verdict_on audit start unit said ≡ cond (have_equal_limits exact said) Agrees Differs
     compared_are exact compared =

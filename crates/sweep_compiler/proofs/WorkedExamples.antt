@@ -1,4 +1,4 @@
--- Places counted by the definitions alone, against numbers found by hand.
+-- Numbers of places computed from the definitions alone, compared with values found by hand.
 use Rattle.std.specs.Prelude.{◌≡◌, ℕ, ◌+◌, nat_le, IsTrue, List, [], ◌∷◌, Option, Some, None}
 use Rattle.std.proofs.Common.{refl}
 use Rattle.std.proofs.Math.IntN.{pos}
@@ -34,7 +34,7 @@ no_transaction TxProfile = refl
 pub low : IsTrue (nat_le 0 max_stack_level)
 low = refl
 
--- a row of level 0, installed at midnight, valid until a second where one is given
+-- a row of level 0, installed at midnight, valid until a second if one is given
 abbrev row_until : Option ℕ → ℕ → Purpose → (kind : Kind) (start : Option ℕ) → start_of kind start ≡ start → Option ℕ → List Period → Row
 row_until until connector purpose kind start own duration periods = record {
   connector = connector;
@@ -66,7 +66,7 @@ idle = None ∷ (None ∷ [])
 abbrev on_first : List (Option ℕ)
 on_first = at_start 0 ∷ (None ∷ [])
 
--- how many places are in a request from a second after midnight on
+-- the number of places in a request from a second after midnight on
 abbrev counted_places : PointState → ℕ → ℕ → ℕ → ℕ
 counted_places state connector second duration = places_within (is_second_asked state connector (midnight + second)) duration
 
@@ -77,7 +77,8 @@ night = point idle (row_at 0 TxDefaultProfile (Recurring Daily) (at_start 79200)
 pub end_of_the_night : counted_places night 1 194398 60 ≡ 1
 end_of_the_night = refl
 
--- the start of a request is no place of it, its last second may be one, and the second after that is none
+-- the start of a request is no place of it, its last second may be one, and the second after that
+-- is none
 pub first_second : counted_places night 1 194400 60 ≡ 0
 first_second = refl
 
@@ -87,7 +88,7 @@ last_second_of_all = refl
 pub past_the_end : counted_places night 1 194390 10 ≡ 0
 past_the_end = refl
 
--- a second is counted once, of however many rows it is a place
+-- a second is counted once, even if it is a place of several rows
 abbrev daily : ℕ → Row
 daily limit = row_at 0 TxDefaultProfile (Recurring Daily) (at_start 30) refl None (period 0 limit ∷ (period 10 60 ∷ []))
 
@@ -104,7 +105,7 @@ hidden_on_the_first = refl
 pub shown_on_the_second : counted_places hidden 2 0 60 ≡ 2
 shown_on_the_second = refl
 
--- a TxProfile has places during a transaction alone
+-- a TxProfile has places only during a transaction
 abbrev transaction : List (Option ℕ) → PointState
 transaction starts = point starts (row_at 1 TxProfile Relative None refl (Some 40) (period 0 60 ∷ (period 5 80 ∷ [])) ∷ [])
 
@@ -114,7 +115,7 @@ during_the_transaction = refl
 pub without_a_transaction : counted_places (transaction idle) 1 0 60 ≡ 0
 without_a_transaction = refl
 
--- the whole point looks at its active connectors, and always at its own maximum
+-- a request for the whole point covers its active connectors, and always its own maximum
 pub of_the_active : counted_places (transaction on_first) 0 0 60 ≡ 2
 of_the_active = refl
 
@@ -124,6 +125,6 @@ of_an_idle_point = refl
 pub of_the_maximum : counted_places (point idle (row_at 0 ChargePointMaxProfile Absolute (at_start 30) refl None (period 0 500 ∷ []) ∷ [])) 0 0 60 ≡ 1
 of_the_maximum = refl
 
--- the end of a profile's validity is a place, its limit there or not
+-- the end of a profile's validity is a place, whether or not the profile has a limit there
 pub until_valid_to : counted_places (point idle (row_until (at_start 30) 1 TxDefaultProfile Absolute (at_start 0) refl None (period 0 100 ∷ []) ∷ [])) 1 29 2 ≡ 1
 until_valid_to = refl

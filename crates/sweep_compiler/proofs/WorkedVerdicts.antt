@@ -1,5 +1,6 @@
--- Verdicts computed by the definitions alone, against those found by hand. The book has 16.0 A for half a minute after
--- midnight, and 10.0 A from then on. It is asked for a minute at connector 1.
+-- Verdicts computed from the definitions alone, compared with values found by hand. The book has
+-- 16.0 A for half a minute after midnight, and 10.0 A from then on. The audit is of connector 1 for
+-- a minute.
 use Rattle.std.specs.Prelude.{◌≡◌, ℕ, ◌+◌, List, [], ◌∷◌, Option, Some, None}
 use Rattle.std.proofs.Common.{refl}
 use Rattle.ocpp_scalars.specs.Limits.{last_second}
@@ -36,7 +37,7 @@ span start limit = record { start = start; limit = limit }
 abbrev verdict_from : ℕ → List CompositePeriod → Verdict
 verdict_from second periods = verdict_of (audit 60) (Schedule (midnight + second) None A periods)
 
--- on a schedule from midnight on that says its duration
+-- on a schedule from midnight on with a duration
 abbrev verdict_over : ℕ → List CompositePeriod → Verdict
 verdict_over duration periods = verdict_of (audit 60) (Schedule midnight (Some duration) A periods)
 
@@ -62,7 +63,7 @@ lower = refl
 pub at_the_last_second : verdict_from 0 (span 0 160 ∷ (span 30 100 ∷ (span 59 101 ∷ []))) ≡ Differs
 at_the_last_second = refl
 
--- the book is asked from the start that the point said
+-- the book's schedule begins at the start that the point reported
 pub later_start : verdict_from 30 (span 0 100 ∷ []) ≡ Agrees
 later_start = refl
 
@@ -85,7 +86,7 @@ no_duration = refl
 pub no_period : verdict_from 0 [] ≡ Unsettled
 no_period = refl
 
--- what isn't asked
+-- reports that don't match the request
 pub in_watts : verdict_of (audit 60) (Schedule midnight None W as_meant) ≡ Unsettled
 in_watts = refl
 

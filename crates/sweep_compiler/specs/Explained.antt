@@ -13,8 +13,8 @@ pub record ExplainedSchedule : Type 0 where
   pub duration : ℕ
   pub intervals : List Interval
 
--- intervals adjoin from a second up to another: the first begins there, each next one where the one before
--- it ends, and the last ends at the other
+-- intervals adjoin from one second to another: the first begins at the one, each later one at the
+-- end of the interval before it, and the last ends at the other
 abbrev pub Adjoin : ℕ → ℕ → List Interval → Type 0
 Adjoin from end [] = from ≡ end
 Adjoin from end (interval ∷ later) =
@@ -26,8 +26,8 @@ Differ [] = Unit {0}
 Differ (interval ∷ []) = Unit {0}
 Differ (interval ∷ (next ∷ later)) = (interval.reason ≢ next.reason) × Differ (next ∷ later)
 
--- the limit of an interval is the limit at each of its seconds, and its reason the reason, in a request of a
--- connector from a start on
+-- the limit of an interval is the limit at each of its seconds, and its reason is the reason there,
+-- in a request for a connector from a start on
 pub record IsIntervalOf (state : PointState) (connector start : ℕ) (interval : Interval)
     : Type 0 where
   pub limit :
@@ -37,7 +37,7 @@ pub record IsIntervalOf (state : PointState) (connector start : ℕ) (interval :
       (second : ℕ) → interval.start ≤ second → second < interval.end
       → interval.reason ≡ reason_asked state connector start second
 
--- a request of a connector from a start on for a number of seconds, explained
+-- the explanation of a request for a connector from a start on for a number of seconds
 pub record IsExplanation (state : PointState) (connector start duration : ℕ)
     (explained : ExplainedSchedule) : Type 0 where
   pub lasts : explained.duration ≡ duration
@@ -45,7 +45,7 @@ pub record IsExplanation (state : PointState) (connector start duration : ℕ)
   pub each : AllByRecursion (IsIntervalOf state connector start) explained.intervals
   pub differ : Differ explained.intervals
 
--- the periods of intervals behind a limit, where there is one: an interval whose limit is that of the one
+-- the periods of intervals after a limit, if there is one: an interval with the limit of the one
 -- before it begins none
 abbrev pub periods_behind : Option ℕ → List Interval → List CompositePeriod
 periods_behind before [] = []
@@ -53,6 +53,6 @@ periods_behind before (interval ∷ later) =
     period_added before (record { start = interval.start; limit = interval.reason.limit })
     ++ periods_behind (Some interval.reason.limit) later
 
--- the periods of intervals, neighbours of equal limit joined
+-- the periods of intervals: neighbours of equal limit are joined
 abbrev pub joined : List Interval → List CompositePeriod
 joined intervals = periods_behind None intervals

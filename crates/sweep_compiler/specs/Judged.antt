@@ -12,12 +12,12 @@ pub record Judgement : Type 0 where
   pub verdict : Verdict
   pub short : Bool
 
--- The verdict of an audit on what the point said, or Unsettled where memory ran out: that is only where
--- what the point said can be compared.
+-- The verdict of an audit on the point's reply, or Unsettled if memory ran out, which is possible
+-- only if the reply can be compared.
 abbrev pub IsVerdictFor : AuditRequest → Said → Verdict → Bool → Type 0
 IsVerdictFor audit said verdict false = IsVerdict audit said verdict
 IsVerdictFor audit said verdict true = (verdict ≡ Unsettled) × MayNeedMemory audit said
 
--- an audit was judged on something that its point said
+-- an audit was judged on some reply of its point
 abbrev pub IsJudged : AuditRequest → Verdict → Bool → Type 0
 IsJudged audit verdict short = (said : Said) × IsVerdictFor audit said verdict short

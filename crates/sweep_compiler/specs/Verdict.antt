@@ -1,5 +1,5 @@
--- The verdict of an audit: whether a point's composite schedule is the one that its book means
--- (OCPP 1.6, 5.7).
+-- The verdict of an audit: whether a point's composite schedule is the one of its book (OCPP 1.6,
+-- 5.7).
 use Rattle.std.specs.Prelude.{◌≡◌, ℕ, ◌<◌, List, Option, Some, None, IsOk}
 use Rattle.profile.specs.declared.unit.Unit.{Unit}
 use Rattle.meaning.specs.declared.composite.CompositePeriod.{CompositePeriod}
@@ -14,33 +14,34 @@ use Rattle.point_book.specs.Book.{BookState, state_of}
 use Rattle.sweep_compiler.specs.declared.verdict.Verdict.{Verdict}
 use Rattle.sweep_compiler.specs.declared.verdict.Verdict.TheVariants.{Agrees, Differs, Rejected, Unsettled}
 
--- what an audit asks a point: its schedule of a connector over a number of seconds, in a unit; and the book
--- that the answer is held against
+-- the request of an audit to a point: for its schedule of a connector over a number of seconds, in
+-- a unit; with the book to compare the reply with
 pub record AuditRequest : Type 0 where
   pub book : BookState
   pub connector : ℕ
   pub duration : ℕ
   pub unit : Unit
 
--- how many seconds a point's schedule covers: as many as it says, or else as were asked
+-- the seconds that a point's schedule covers: as many as it reports, otherwise as many as requested
 abbrev pub said_duration : Option ℕ → AuditRequest → ℕ
 said_duration None audit = audit.duration
 said_duration (Some duration) audit = duration
 
--- a point's schedule as it says it, over these seconds
+-- a point's schedule over these seconds
 abbrev pub said_schedule : Option ℕ → List CompositePeriod → AuditRequest → CompositeSchedule
 said_schedule duration periods audit =
     record { duration = said_duration duration audit; periods = periods }
 
--- A point's schedule can be compared: it is in the unit that was asked, its periods make a schedule, and
--- the same may be asked of the book from its start on.
+-- A point's schedule can be compared: it is in the requested unit, its periods make a schedule, and
+-- the book may be asked for one from the same start on.
 pub record CanBeCompared (audit : AuditRequest) (start : ℕ) (unit : Unit) (said : CompositeSchedule)
     : Type 0 where
   pub in_unit : unit ≡ audit.unit
   pub schedule : IsSaidSchedule said.duration said.periods
   pub asked : IsOk (ask_of audit.connector start audit.duration)
 
--- the exact schedule of the audit's book from a start on, with no more periods than an answer may have
+-- the exact schedule of the audit's book from a start on, with at most as many periods as an answer
+-- may have
 abbrev pub IsExactFor : AuditRequest → ℕ → CompositeSchedule → Type 0
 IsExactFor audit start exact =
     IsExactAnswer
@@ -58,7 +59,7 @@ HaveEqualLimits exact said =
     (second : ℕ) → second < exact.duration → second < said.duration
     → at exact.periods second ≡ at said.periods second
 
--- the verdict on a schedule that a point says
+-- the verdict on a schedule that a point reports
 abbrev pub IsVerdictOn : AuditRequest → ℕ → Unit → CompositeSchedule → Verdict → Type 0
 IsVerdictOn audit start unit said Agrees =
     (exact : CompositeSchedule) × AreCompared audit start unit said exact
@@ -70,15 +71,16 @@ IsVerdictOn audit start unit said Rejected = ⊥
 IsVerdictOn audit start unit said Unsettled =
     (exact : CompositeSchedule) → ¬ AreCompared audit start unit said exact
 
--- The verdict of an audit on what the point said. A refusal is Rejected. What can't be read or compared is
--- Unsettled, and so is all where the exact schedule is too long to be an answer. Else it Agrees or Differs.
+-- The verdict of an audit on the point's reply. A refusal is Rejected. A reply that can't be read
+-- or compared is Unsettled, and so is every reply if the exact schedule is too long to be an
+-- answer. Otherwise it Agrees or Differs.
 abbrev pub IsVerdict : AuditRequest → Said → Verdict → Type 0
 IsVerdict audit Refused verdict = verdict ≡ Rejected
 IsVerdict audit Unread verdict = verdict ≡ Unsettled
 IsVerdict audit (Schedule start duration unit periods) verdict =
     IsVerdictOn audit start unit (said_schedule duration periods audit) verdict
 
--- memory may be needed: what the point said can be compared
+-- memory may be needed: the point's reply can be compared
 abbrev pub MayNeedMemory : AuditRequest → Said → Type 0
 MayNeedMemory audit Refused = ⊥
 MayNeedMemory audit Unread = ⊥

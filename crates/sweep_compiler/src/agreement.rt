@@ -1,4 +1,4 @@
-//! Whether two schedules agree.
+//! Agreement of two schedules.
 
 ghost use Rattle.std.specs.Prelude.{◌≡◌, ◌↔◌, ◌<◌, length, IsTrue};
 ghost use Rattle.sweep_compiler.specs.Agree.{Agree};
@@ -7,8 +7,8 @@ ghost use Rattle.sweep_compiler.specs.ByCases.Agree.{begin_of, IsPeriodInterval,
 use meaning::Composite;
 use ocpp_scalars::Instant;
 
-/// Whether two schedules, each with its start, have equal limits at each instant that both cover. Those
-/// that have no instant in common agree. Each list of periods is gone through once. Allocates nothing.
+/// Whether two schedules, each with its start, have equal limits at each instant that both cover.
+/// Schedules with no instant in common agree. Reads each list of periods once. Allocates nothing.
 pub fn agree(
     first: &Composite,
     first_start: Instant,
@@ -34,18 +34,19 @@ pub fn agree(
     true
 }
 
-/// The time of one period, in seconds since 1970, with its limit.
+/// The interval of one period, in seconds since 1970, with its limit.
 #[derive(Clone, Copy)]
 struct PeriodInterval {
     start: u64,
-    /// The second behind its last one.
+    /// The second after its last one.
     end: u64,
     /// In tenths.
     limit: u32,
 }
 
 impl PeriodInterval {
-    /// The time of a schedule's period: up to the next one, and of the last one up to the end.
+    /// Makes the interval of a schedule's period: up to the next one, or to the end of the
+    /// schedule.
     fn of(schedule: &Composite, start: Instant, place: usize) -> PeriodInterval
         requires inside { place < length schedule.now.periods }
         ensures { IsPeriodInterval schedule.now start place result }
@@ -58,7 +59,7 @@ impl PeriodInterval {
         }
     }
 
-    /// Whether another interval has an instant in common and another limit.
+    /// Whether another interval shares an instant with this one and has another limit.
     fn contradicts(&self, other: &PeriodInterval) -> bool
         ensures { result ≡ contradict self.now other.now }
     {
@@ -66,7 +67,8 @@ impl PeriodInterval {
     }
 }
 
-/// The second at which the period at a place begins, and behind the last one the end of the schedule.
+/// Returns the second at which the period at an index begins, or after the last one the end of the
+/// schedule.
 fn begin_of(schedule: &Composite, place: usize) -> u32
     ensures { result ≡ begin_of schedule.now place }
 {

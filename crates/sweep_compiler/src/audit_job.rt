@@ -1,4 +1,4 @@
-//! What an audit asks, with the book that the answer is held against.
+//! The request of an audit, with the book to compare the reply with.
 
 ghost use Rattle.std.specs.Prelude.{◌≡◌, ◌↔◌, ◌≤◌, length, IfOk, IsTrue};
 ghost use Rattle.std.specs.Arc.{arc_value};
@@ -9,8 +9,8 @@ use std::alloc::AllocError;
 use std::marker::Model;
 use std::sync::Arc;
 
-/// What an audit asks of a charge point (chapter 5.7): its schedule of a connector for a number of
-/// seconds, and the book that the answer is held against. The book has the connector.
+/// The request of an audit to a charge point (chapter 5.7): for its schedule of a connector for a
+/// number of seconds, with the book to compare the reply with. The book has the connector.
 #[derive(Drop)]
 pub struct AuditJob {
     book: Arc<PointBook>,
@@ -38,7 +38,7 @@ impl Model for AuditJob {
 }
 
 impl AuditJob {
-    /// The audit of a connector that a book has, for a number of seconds, in a unit.
+    /// Makes the audit of a connector that a book has, for a number of seconds, in a unit.
     pub fn new(book: Arc<PointBook>, connector: u32, duration: u32, unit: Unit) -> AuditJob
         requires has_connector { connector ≤ length (arc_value book).ceilings }
         ensures { result ≡ record {
@@ -56,7 +56,7 @@ impl AuditJob {
         }
     }
 
-    /// The book that the answer is held against.
+    /// Returns the book to compare the reply with.
     pub fn book(&self) -> &PointBook
         ensures value { result.now ≡ self.now.book }
         ensures has_connector { self.now.connector ≤ length self.now.book.ceilings }
@@ -64,35 +64,35 @@ impl AuditJob {
         &self.book
     }
 
-    /// The same book with one owner more. Copies nothing.
+    /// Returns the same book with another owner. Copies nothing.
     pub fn shared_book(&self) -> Result<Arc<PointBook>, AllocError>
         ensures { IfOk result (λ book. arc_value book ≡ self.now.book) }
     {
         Arc::try_clone(&self.book)
     }
 
-    /// The connector that is asked; 0 is the whole point.
+    /// Returns the requested connector; 0 is the whole point.
     pub fn connector(&self) -> u32
         ensures { result ≡ self.now.connector }
     {
         self.connector
     }
 
-    /// How many seconds are asked.
+    /// Returns the requested number of seconds.
     pub fn duration(&self) -> u32
         ensures { result ≡ self.now.duration }
     {
         self.duration
     }
 
-    /// The unit that is asked, which is that of the book's limits.
+    /// Returns the requested unit, which is that of the book's limits.
     pub fn unit(&self) -> Unit
         ensures { result ≡ self.now.unit }
     {
         self.unit
     }
 
-    /// The same audit, its book with one owner more. Copies nothing.
+    /// Returns the same audit with another owner of its book. Copies nothing.
     pub fn share(&self) -> Result<AuditJob, AllocError>
         ensures { IfOk result (λ job. job ≡ self.now) }
     {
@@ -104,7 +104,7 @@ impl AuditJob {
         })
     }
 
-    /// Whether two audits are equal, and so are their books.
+    /// Whether two audits are equal, including their books.
     pub fn same(&self, other: &AuditJob) -> bool
         ensures { IsTrue result ↔ (self.now ≡ other.now) }
     {

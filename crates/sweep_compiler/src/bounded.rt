@@ -1,4 +1,4 @@
-//! What bounds a connector, or the whole point, on the way through a request.
+//! The bound of a connector, or of the whole point, on the way through a request.
 
 ghost use Rattle.std.specs.Prelude.{◌≡◌, ◌<◌, ◌^◌, length, IfErr, IfOk};
 ghost use Rattle.meaning.specs.declared.cause.Cause.TheVariants.{Sum};
@@ -14,11 +14,11 @@ use stacking::InForce;
 use std::alloc::Global;
 use std::marker::Model;
 
-/// A ceiling and rows by falling rank, with the limit that each has in force: the first that has one
+/// A ceiling and rows by falling rank, each with its limit in force: the first that has one
 /// prevails.
 #[derive(Drop)]
 pub(crate) struct Bounded<'a> {
-    /// The connector, 0 being the whole point.
+    /// The connector, 0 for the whole point.
     connector: u32,
     runs: Vec<Run<'a>>,
     ceiling: u32,
@@ -36,7 +36,7 @@ impl<'a> Model for Bounded<'a> {
 }
 
 impl<'a> Bounded<'a> {
-    /// A connector with rows, whose limits are put in force, and a ceiling.
+    /// Makes the bound of a connector from rows, whose limits are put in force, and a ceiling.
     pub(crate) fn new(
         alloc: Global,
         connector: u32,
@@ -60,28 +60,28 @@ impl<'a> Bounded<'a> {
         })
     }
 
-    /// How many rows there are.
+    /// Returns the number of rows.
     pub(crate) fn len(&self) -> usize
         ensures { result ≡ length self.now.runs }
     {
         self.runs.len()
     }
 
-    /// The least of the ceiling and the limit that prevails.
+    /// Returns the least of the ceiling and the limit that prevails.
     pub(crate) fn limit(&self) -> u32
         ensures { result ≡ bound_now self.now }
     {
         at_most(self.ceiling, self.in_force.top())
     }
 
-    /// The profile that prevails, with its limit.
+    /// Returns the profile that prevails, with its limit.
     fn prevailing(&self) -> Option<ProfileLimit>
         ensures { result ≡ first_profile_limit self.now.runs }
     {
         first_profile_limit(self.runs.as_slice())
     }
 
-    /// What sets the limit of a connector that this bounds.
+    /// Returns the bound of the connector's own limit.
     pub(crate) fn own_bound(&self) -> Bound
         ensures { result ≡ own_bound_now self.now }
     {
@@ -92,7 +92,7 @@ impl<'a> Bounded<'a> {
         lesser_of(self.prevailing(), ceiling)
     }
 
-    /// What the connector that this bounds has in the sum.
+    /// Returns the connector's share in the sum.
     pub(crate) fn share(&self) -> Share
         ensures { result ≡ share_now self.now }
     {
@@ -104,7 +104,7 @@ impl<'a> Bounded<'a> {
         }
     }
 
-    /// The least of what bounds the whole point and a bound below it.
+    /// Returns the least of the whole point's bound and a given one.
     pub(crate) fn or_below(&self, other: Bound) -> Bound
         ensures { result ≡ below_now self.now other }
     {
@@ -115,10 +115,12 @@ impl<'a> Bounded<'a> {
         lesser_of(self.prevailing(), other.or_less(ceiling))
     }
 
-    /// The same of what the connectors may draw together, which may be more than any limit.
+    /// Returns the least of the whole point's bound and the sum of the connectors' limits, which
+    /// may exceed every limit.
     pub(crate) fn or_sum(&self, sum: u64) -> Bound
         ensures { result ≡ below_now self.now (bound_of Sum sum) }
     {
+        // A greater sum isn't the least, and may not fit a limit's 32 bits.
         if sum > u64::from(self.ceiling) {
             let ceiling = Bound {
                 limit: self.ceiling,
@@ -133,7 +135,7 @@ impl<'a> Bounded<'a> {
         self.or_below(shared)
     }
 
-    /// The instant of the next place of a row.
+    /// Returns the instant of the next place of a row.
     pub(crate) fn due(&self, index: usize) -> Option<Instant>
         requires within { index < length self.now.runs }
         ensures { result ≡ due_at self.now.runs index }
@@ -141,21 +143,21 @@ impl<'a> Bounded<'a> {
         self.runs[index].due()
     }
 
-    /// Lets a row pass its next place, and puts its limit there in force.
+    /// Moves a row past its next place, and puts its limit there in force.
     pub(crate) fn pass(&mut self, index: usize) -> Result<(), Refusal>
         requires within { index < length self.old.runs }
         ensures passed { IfOk result (λ _. self.new ≡ bound_passed index self.old) }
         ensures cause { IfErr result (λ refusal. refusal ≡ OutOfMemory) }
     {
         let run = &self.runs[index];
-        // Memory comes first, so that a refusal leaves all as it was.
+        // Memory comes first, so that a refusal changes nothing.
         self.in_force.set(run.rank(), run.next_rate())?;
         self.runs[index].pass();
         Ok(())
     }
 }
 
-/// The first row that has a limit, with that.
+/// Returns the first row that has a limit, with its limit.
 fn first_profile_limit(runs: &[Run<'_>]) -> Option<ProfileLimit>
     ensures { result ≡ first_profile_limit runs.now }
 {
@@ -168,14 +170,15 @@ fn first_profile_limit(runs: &[Run<'_>]) -> Option<ProfileLimit>
     None
 }
 
-/// The limits of rows by falling rank, each at its rank.
+/// Returns the limits of rows by falling rank, each at its rank.
 fn rates_of(alloc: Global, runs: &[Run<'_>]) -> Result<InForce, Refusal>
     requires falling { AreFalling runs.now }
     ensures rates { IfOk result (λ rates. AreInForce runs.now rates) }
     ensures cause { IfErr result (λ refusal. refusal ≡ OutOfMemory) }
 {
     let mut rates = InForce::new(alloc);
-    // From the lowest rank on, so that each one stands behind the others.
+    // From the lowest rank, so that each rate is appended: from the highest, each insert would move
+    // all others.
     let mut place = runs.len();
     while place > 0 {
         place -= 1;
@@ -185,7 +188,7 @@ fn rates_of(alloc: Global, runs: &[Run<'_>]) -> Result<InForce, Refusal>
     Ok(rates)
 }
 
-/// The lesser of a limit and another, where that is there.
+/// Returns the lesser of a limit and another, if there is one.
 fn at_most(limit: u32, other: Option<u32>) -> u32
     ensures { result ≡ at_most limit other }
 {

@@ -1,4 +1,4 @@
-//! Compiled answers, each with the book and the request that it is right for.
+//! Compiled answers, each with the book and the request for which it is right.
 
 ghost use Rattle.std.specs.Prelude.{◌≡◌, ◌≤◌, length, Ok, Err};
 ghost use Rattle.std.specs.Arc.{arc_value};
@@ -14,9 +14,10 @@ use std::alloc::Global;
 use std::marker::Model;
 use std::sync::Arc;
 
-/// The answer to a request of a book (chapter 5.7): the exact schedule, or that it is too long, or that memory ran
-/// out. Whoever has one needn't trust who made it: the answer is right for this book and this request. It is
-/// held twice, so that it can be handed out and kept in a history without memory.
+/// The answer to a request to a book (chapter 5.7): the exact schedule, that it is too long, or
+/// that memory ran out. By its type it is right for this book and this request, so its maker
+/// needn't be trusted. It is held twice, so that it can be handed out and kept in a history without
+/// memory.
 #[derive(Drop)]
 pub struct Compiled {
     book: Arc<PointBook>,
@@ -45,7 +46,8 @@ impl Model for Compiled {
 }
 
 impl Compiled {
-    /// The answer to a request of a book that has its connector. Where memory runs out, that is the answer.
+    /// Compiles the answer to a request to a book that has its connector. If memory runs out, that
+    /// is the answer.
     pub fn make(alloc: Global, book: Arc<PointBook>, ask: Ask) -> Compiled
         requires has_connector { ask.connector ≤ length (arc_value book).ceilings }
         ensures book { result.book ≡ arc_value book }
@@ -63,8 +65,8 @@ impl Compiled {
         }
     }
 
-    /// The answer to a request that nobody waits for any more: that memory ran out, which is right for each. It takes
-    /// neither time nor memory.
+    /// Makes the answer to an abandoned request: that memory ran out, which is right for every
+    /// request. It takes neither time nor memory.
     pub fn unmade(book: Arc<PointBook>, ask: Ask) -> Compiled
         ensures book { result.book ≡ arc_value book }
         ensures ask { result.ask ≡ ask }
@@ -78,12 +80,14 @@ impl Compiled {
         }
     }
 
-    /// The answer with this schedule, or that there is no memory for it twice.
+    /// Makes the answer with this schedule, or that there is no memory to hold it twice.
     fn of_schedule(book: Arc<PointBook>, ask: Ask, schedule: Composite) -> Compiled
         requires right { IsCompiledFor (arc_value book) ask (Ok schedule) }
         ensures book { result.book ≡ arc_value book }
         ensures ask { result.ask ≡ ask }
     {
+        // Copied here and not when the answer is posted, so that a post, which is made under the
+        // lock, needs no memory.
         let (answer, again) = match schedule.copy() {
             Ok(copy) => (Ok(schedule), Ok(copy)),
             Err(_) => (Err(Refusal::OutOfMemory), Err(Refusal::OutOfMemory)),
@@ -96,21 +100,21 @@ impl Compiled {
         }
     }
 
-    /// The book that was asked.
+    /// Returns the book of the request.
     pub fn book(&self) -> &PointBook
         ensures { result.now ≡ self.now.book }
     {
         &self.book
     }
 
-    /// What was asked of it.
+    /// Returns the request.
     pub fn ask(&self) -> &Ask
         ensures { result.now ≡ self.now.ask }
     {
         &self.ask
     }
 
-    /// The answer, twice.
+    /// Returns the answer, twice.
     pub fn into_answers(self) -> (Result<Composite, Refusal>, Result<Composite, Refusal>)
         ensures one { result.0 ≡ self.answer }
         ensures other { result.1 ≡ self.answer }

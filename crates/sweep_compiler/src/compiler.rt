@@ -12,11 +12,11 @@ use ocpp_scalars::Refusal;
 use point_book::PointBook;
 use std::alloc::Global;
 
-/// The exact schedule of a request (chapter 5.7). Its limit is evaluated once for the start, and at
-/// most once for each place after it, however long the request is. The rows that count are gathered
-/// first, in memory that grows with them and with the connectors looked at, and not with the
-/// duration. The refusals are `ResultTooLong`, where the schedule has more than
-/// `MAX_COMPOSITE_PERIODS` periods, and `OutOfMemory`.
+/// Compiles the exact schedule of a request (chapter 5.7). Its limit is evaluated once for the
+/// start, and at most once for each place after it, however long the request is. The rows that
+/// count are gathered first. Their memory grows with them and with the connectors that the request
+/// covers, and not with the duration. The refusals are `ResultTooLong`, if the schedule has more
+/// than `MAX_COMPOSITE_PERIODS` periods, and `OutOfMemory`.
 pub fn compile(
     alloc: Global,
     book: &PointBook,

@@ -1,4 +1,4 @@
-//! What a sweep goes along.
+//! The limits along which a sweep goes.
 
 ghost use Rattle.std.specs.Prelude.{◌≡◌, ℕ, ◌+◌, ◌<◌, ◌^◌, Bool, IfErr, IfOk, IfSome};
 ghost use Rattle.ocpp_scalars.specs.declared.refusal.Refusal.TheVariants.{OutOfMemory};
@@ -7,8 +7,8 @@ ghost use Rattle.sweep_compiler.specs.ByCases.Curve.{LeadsOn};
 use crate::turns::Turns;
 use ocpp_scalars::Refusal;
 
-/// A limit over the seconds of a schedule, which changes only at places, and the second at which a
-/// sweep along it stands.
+/// A limit over the seconds of a schedule, which changes only at places, and the current second of
+/// a sweep along it.
 pub(crate) trait Curve {
     /// The limit at a second.
     ghost limits: { Self → ℕ → ℕ };
@@ -16,16 +16,16 @@ pub(crate) trait Curve {
     /// Whether a second is a place.
     ghost is_place: { Self → ℕ → Bool };
 
-    /// How many seconds there are.
+    /// The number of seconds.
     ghost end: { Self → ℕ };
 
-    /// The second at which the sweep stands.
+    /// The current second of the sweep.
     ghost here: { Self → ℕ };
 
-    /// Whether the sweep stands where its limit can be evaluated: not in the midst of a second.
+    /// Whether the limit can be evaluated here: not in the middle of a second.
     ghost IsReady: { Self → Type 0 };
 
-    /// The limit here, in tenths, which is one turn.
+    /// Returns the limit here, in tenths, which takes one turn.
     fn limit(&self, turns: &mut Turns) -> u32
         requires ready { IsReady self.now }
         requires within { here self.now < end self.now }
@@ -33,9 +33,9 @@ pub(crate) trait Curve {
         ensures limit { result ≡ limits self.now (here self.now) }
         ensures turn { turns.new ≡ turns.old + 1 };
 
-    /// Goes on to a later place, up to which the limit stays as it is here, and returns that, or
-    /// `None` where it stays so to the end. `OutOfMemory` where memory runs out on the way, and then
-    /// the sweep can't go on.
+    /// Goes on to a later place, up to which the limit is the same as here, and returns that place,
+    /// or `None` if the limit is the same to the end. Returns `OutOfMemory` if memory runs out on
+    /// the way; then the sweep can't go on.
     fn go_on(&mut self) -> Result<Option<u32>, Refusal>
         requires ready { IsReady self.old }
         requires within { here self.old < end self.old }

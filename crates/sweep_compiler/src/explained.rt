@@ -1,4 +1,4 @@
-//! What sets the limits of a request.
+//! The causes of a request's limits.
 
 ghost use Rattle.std.specs.Prelude.{◌≡◌, ℕ, ◌+◌, ◌-◌, ◌<◌, ◌≤◌, ◌^◌, length, IfOk};
 ghost use Rattle.point_book.specs.Book.{state_of};
@@ -17,9 +17,9 @@ use ocpp_scalars::Refusal;
 use point_book::PointBook;
 use std::alloc::{AllocError, Global};
 
-/// What sets the limit at each second of a request (chapter 3.13), in intervals. The reason is evaluated
-/// once for the start, and at most once for each place after it, however long the request is. Memory is
-/// taken for the rows that count, the intervals, and the shares of each.
+/// Explains the limit at each second of a request (chapter 3.13), in intervals. The reason is
+/// evaluated once for the start, and at most once for each place after it, however long the request
+/// is. Memory is taken for the rows that count, the intervals, and the shares of each.
 pub fn explain(
     alloc: Global,
     book: &PointBook,
@@ -41,7 +41,7 @@ pub fn explain(
         asked: ask.start,
         last: ask.start.plus(u64::from(ask.duration) - 1),
     };
-    // The one refusal on the way is that memory ran out.
+    // The only refusal possible here is that memory ran out.
     let Ok(mut curve) = gathering.curve(ask.connector) else {
         return Err(AllocError);
     };
@@ -51,7 +51,8 @@ pub fn explain(
     }
 }
 
-/// The intervals of a curve, found at its first second and then from place to place: one turn for each.
+/// Returns the intervals of a curve, found at its first second and then from place to place: one
+/// turn for each.
 fn explain_along(
     alloc: Global,
     curve: &mut LimitCurve<'_>,

@@ -6,8 +6,8 @@ ghost use Rattle.sweep_compiler.specs.Explained.{Adjoin};
 use crate::interval::Interval;
 use std::marker::Model;
 
-/// What sets the limits of an asked schedule (chapter 3.13), in intervals. The first begins at second 0, each next
-/// one at the end of the one before it, and the last ends with the schedule.
+/// The causes of a requested schedule's limits (chapter 3.13), in intervals. The first begins at
+/// second 0, each later one at the end of the one before it, and the last ends with the schedule.
 #[derive(Drop)]
 pub struct Explanation {
     /// Seconds.
@@ -26,7 +26,7 @@ impl Model for Explanation {
 }
 
 impl Explanation {
-    /// The explanation of these intervals over a number of seconds.
+    /// Makes the explanation of these intervals over a number of seconds.
     pub(crate) fn new(duration: u32, intervals: Vec<Interval>) -> Explanation
         requires adjoin { Adjoin 0 duration intervals.items }
         ensures lasts { result.duration ≡ duration }
@@ -38,14 +38,14 @@ impl Explanation {
         }
     }
 
-    /// How many seconds it covers.
+    /// Returns the number of seconds that it covers.
     pub fn duration(&self) -> u32
         ensures { result ≡ self.now.duration }
     {
         self.duration
     }
 
-    /// The intervals in order.
+    /// Returns the intervals in order.
     pub fn intervals(&self) -> &[Interval]
         ensures value { result.now ≡ self.now.intervals }
         ensures adjoin { Adjoin 0 self.now.duration self.now.intervals }

@@ -1,4 +1,4 @@
-//! The rows that count for a request, gathered once, on their way from its start.
+//! The rows that count for a request, gathered once, at its start.
 
 ghost use Rattle.std.specs.Prelude.{◌≡◌, ◌+◌, ◌<◌, ◌≤◌, ◌^◌, ◌++◌, length, map, is_some, IfErr, IfOk};
 ghost use Rattle.ocpp_scalars.specs.declared.refusal.Refusal.TheVariants.{OutOfMemory};
@@ -23,7 +23,7 @@ use profile::{Purpose, Row};
 use stacking::Candidates;
 use std::alloc::{AllocError, Global};
 
-/// What a request is of: a book, and from where on up to where.
+/// The book of a request, and its first and last instant.
 #[derive(Clone, Copy)]
 pub(crate) struct Gathering<'a> {
     pub alloc: Global,
@@ -36,7 +36,7 @@ pub(crate) struct Gathering<'a> {
 }
 
 impl<'a> Gathering<'a> {
-    /// The limit of a connector at the start of a request.
+    /// Returns the limit of a connector at the start of a request.
     pub(crate) fn curve(&self, connector: u32) -> Result<LimitCurve<'a>, Refusal>
         requires has_connector { connector ≤ length self.now.view.ceilings.now }
         requires short { self.now.last < self.now.asked + 2 ^ 32 }
@@ -59,7 +59,8 @@ impl<'a> Gathering<'a> {
         })
     }
 
-    /// What bounds the whole point, and behind it what bounds each connector that is looked at.
+    /// Returns the bound of the whole point, followed by the bound of each connector that the
+    /// request covers.
     fn bounds(&self, connector: u32) -> Result<Vec<Bounded<'a>>, Refusal>
         requires has_connector { connector ≤ length self.now.view.ceilings.now }
         ensures bounds { IfOk result (λ bounds. AreAtStart (point_state self.now.view) connector
@@ -71,7 +72,7 @@ impl<'a> Gathering<'a> {
         Ok(bounds)
     }
 
-    /// What bounds each connector that is looked at.
+    /// Returns the bound of each connector that the request covers.
     fn looked(&self, connector: u32) -> Result<Vec<Bounded<'a>>, Refusal>
         requires has_connector { connector ≤ length self.now.view.ceilings.now }
         ensures looked { IfOk result (λ looked. AreConnectorsAtStart (point_state self.now.view)
@@ -87,7 +88,7 @@ impl<'a> Gathering<'a> {
         Ok(looked)
     }
 
-    /// What bounds each connector with an active transaction.
+    /// Returns the bound of each connector with an active transaction.
     fn active(&self) -> Result<Vec<Bounded<'a>>, Refusal>
         ensures looked { IfOk result (λ looked. AreConnectorsAtStart (point_state self.now.view)
             self.now.asked self.now.last (active_connectors (point_state self.now.view))
@@ -101,7 +102,7 @@ impl<'a> Gathering<'a> {
         Ok(looked)
     }
 
-    /// Adds the connector after the first `before`, where it has an active transaction.
+    /// Adds the connector after the first `before`, if it has an active transaction.
     fn add_active(&self, looked: &mut Vec<Bounded<'a>>, before: usize) -> Result<(), Refusal>
         requires has_connector { before < length self.now.view.ceilings.now }
         ensures added { IfOk result (λ _. IsWithConnector
@@ -117,7 +118,7 @@ impl<'a> Gathering<'a> {
         Ok(())
     }
 
-    /// What bounds the whole point.
+    /// Returns the bound of the whole point.
     fn point(&self) -> Result<Bounded<'a>, Refusal>
         ensures bound { IfOk result (λ bound.
             IsPointAtStart (point_state self.now.view) self.now.asked self.now.last bound) }
@@ -127,7 +128,7 @@ impl<'a> Gathering<'a> {
         Bounded::new(self.alloc, 0, runs, self.view.ceiling)
     }
 
-    /// What bounds a connector.
+    /// Returns the bound of a connector.
     fn connector(&self, connector: u32) -> Result<Bounded<'a>, Refusal>
         requires above { 0 < connector }
         requires has_connector { connector ≤ length self.now.view.ceilings.now }
@@ -142,7 +143,7 @@ impl<'a> Gathering<'a> {
         Bounded::new(self.alloc, connector, runs, ceiling)
     }
 
-    /// The rows of a purpose that count for a connector, by falling stack level.
+    /// Returns the rows of a purpose that count for a connector, by falling stack level.
     fn runs_of(&self, purpose: Purpose, connector: u32) -> Result<Vec<Run<'a>>, AllocError>
         ensures { IfOk result (λ runs. AreRunsOf purpose (point_state self.now.view) connector
             self.now.asked self.now.last runs.items) }
@@ -173,7 +174,7 @@ impl<'a> Gathering<'a> {
         Ok(())
     }
 
-    /// A row that counts for a connector, at the start.
+    /// Returns a row that counts for a connector, at the start.
     fn run(&self, row: &'a Row, connector: usize) -> Run<'a>
         ensures { result ≡ running_from (point_state self.now.view) connector
             self.now.asked self.now.last row.now }
@@ -183,7 +184,7 @@ impl<'a> Gathering<'a> {
     }
 }
 
-/// What the connectors behind the first bound may draw together.
+/// Returns the sum of the limits of the connectors, which follow the first bound.
 fn shared(bounds: &[Bounded<'_>]) -> u64
     requires small { AllByRecursion (λ (bound : RunningBound). bound.ceiling < 2 ^ 32) bounds.now }
     requires few { length bounds.now ≤ 2 ^ 32 }
@@ -196,7 +197,7 @@ fn shared(bounds: &[Bounded<'_>]) -> u64
     sum
 }
 
-/// The next place of each row of some bounds.
+/// Returns the next place of each row of some bounds.
 fn queue_of(alloc: Global, bounds: &[Bounded<'_>]) -> Result<Queue, AllocError>
     ensures { IfOk result (λ queue. AreWaiting bounds.now (length bounds.now) 0 queue) }
 {

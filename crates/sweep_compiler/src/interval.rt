@@ -2,12 +2,12 @@
 
 use meaning::Reason;
 
-/// An interval of an asked schedule over which the limit and what sets it stay the same.
+/// An interval of a requested schedule over which the limit and its reason are constant.
 #[derive(Drop)]
 pub struct Interval {
-    /// Its first second, counted from the start of the request.
+    /// Its first second, from the start of the request.
     pub start: u32,
-    /// The second behind its last one.
+    /// The second after its last one.
     pub end: u32,
     pub reason: Reason,
 }

@@ -16,10 +16,12 @@ use profile::Unit;
 use std::alloc::{AllocError, Global};
 use std::marker::Model;
 
-/// An audit with its verdict: right for this audit and something that a point may say, or Unsettled where
-/// memory ran out.
+/// An audit with its verdict: right for this audit and some reply that a point may give, or
+/// Unsettled if memory ran out.
 #[derive(Drop)]
 pub struct Judged {
+    // Private, so that only `make` pairs them: a reply is judged without the lock, and the session
+    // that does so needn't be trusted.
     job: AuditJob,
     verdict: Verdict,
     short: bool,
@@ -40,7 +42,7 @@ impl Model for Judged {
 }
 
 impl Judged {
-    /// The verdict of an audit on what its point said. Where memory runs out, that is Unsettled and
+    /// Judges an audit by its point's reply. If memory runs out, the verdict is Unsettled and
     /// `short`.
     pub fn make(alloc: Global, job: AuditJob, said: Said) -> Judged
         ensures audit { result.audit ≡ job }
@@ -60,7 +62,7 @@ impl Judged {
         }
     }
 
-    /// The same, its audit's book with one owner more. Copies nothing.
+    /// Returns the same value with another owner of its audit's book. Copies nothing.
     pub fn share(&self) -> Result<Judged, AllocError>
         ensures { IfOk result (λ judged. judged ≡ self.now) }
     {
@@ -71,7 +73,7 @@ impl Judged {
         })
     }
 
-    /// What was asked.
+    /// Returns the audit.
     pub fn audit(&self) -> &AuditJob
         ensures value { result.now ≡ self.now.audit }
         ensures right { IsJudged self.now.audit self.now.verdict self.now.short }
@@ -79,15 +81,15 @@ impl Judged {
         &self.job
     }
 
-    /// The verdict.
+    /// Returns the verdict.
     pub fn verdict(&self) -> Verdict
         ensures { result ≡ self.now.verdict }
     {
         self.verdict
     }
 
-    /// Whether the verdict is Unsettled only because memory ran out. Else refused memory has no part in
-    /// it.
+    /// Whether the verdict is Unsettled only because memory ran out. Otherwise no failed allocation
+    /// affected it.
     pub fn short(&self) -> bool
         ensures { result ≡ self.now.short }
     {
@@ -95,7 +97,7 @@ impl Judged {
     }
 }
 
-/// The verdict on what a point said.
+/// Returns the verdict on a point's reply.
 fn verdict_of(alloc: Global, job: &AuditJob, said: Said) -> Result<Verdict, AllocError>
     ensures verdict { IfOk result (λ verdict. IsVerdict job.now said verdict) }
     ensures short { OnErr result (MayNeedMemory job.now said) }
@@ -118,7 +120,8 @@ fn verdict_of(alloc: Global, job: &AuditJob, said: Said) -> Result<Verdict, Allo
     }
 }
 
-/// The schedule that a point says over a number of seconds, where it is one in the asked unit.
+/// Returns the schedule that a point reports over a number of seconds, if it is one in the
+/// requested unit.
 fn comparable(job: &AuditJob, duration: u32, unit: Unit, periods: SaidPeriods) -> Option<Composite>
     ensures said { IfSome result
         (λ schedule. schedule ≡ record { duration = duration; periods = periods }) }
@@ -134,7 +137,7 @@ fn comparable(job: &AuditJob, duration: u32, unit: Unit, periods: SaidPeriods) -
     }
 }
 
-/// The verdict on a schedule from a start on, in the unit that was asked.
+/// Returns the verdict on a schedule from a start on, in the requested unit.
 fn compared(
     alloc: Global,
     job: &AuditJob,
@@ -150,6 +153,8 @@ fn compared(
         return Ok(Verdict::Unsettled);
     };
     match compile(alloc, job.book(), &ask, &mut Turns::new()) {
+        // By seconds and not by lists of periods: a point may split equal periods, or return a
+        // shorter schedule.
         Ok(exact) if agree(&exact, start, said, start) => Ok(Verdict::Agrees),
         Ok(_) => Ok(Verdict::Differs),
         Err(Refusal::ResultTooLong) => Ok(Verdict::Unsettled),

@@ -1,5 +1,5 @@
-//! The sweep compiler of composite schedules (OCPP 1.6, chapter 5.7). It evaluates the limit at the
-//! start of a request and at the places after it, and nowhere else. At a place a profile may change
+//! The sweep compiler of composite schedules (OCPP 1.6, chapter 5.7). It evaluates the limit only
+//! at the start of a request and at the places after it, the instants at which a profile may change
 //! its limit: `specs/Places.antt`.
 #![tactic(auto)]
 

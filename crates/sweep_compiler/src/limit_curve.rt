@@ -21,37 +21,39 @@ use meaning::{Bound, Cause, Reason, Shares, View};
 use ocpp_scalars::{Instant, Refusal};
 use std::alloc::{AllocError, Global};
 
-/// The limit that is asked, on its way from place to place.
+/// The requested limit, on its way from place to place.
 #[derive(Drop)]
 pub(crate) struct LimitCurve<'a> {
     pub view: View<'a>,
     pub connector: u32,
     pub asked: Instant,
-    /// The last instant that is asked.
+    /// The last requested instant.
     pub last: Instant,
-    /// The instant at which the sweep stands: each place up to it was passed.
+    /// The current instant of the sweep: each place up to it has been passed.
     pub at: Instant,
-    /// What bounds the whole point, and behind it what bounds each connector that is looked at.
+    /// The bound of the whole point, followed by the bound of each connector that the request
+    /// covers.
     pub bounds: Vec<Bounded<'a>>,
-    /// What the connectors may draw together here.
+    /// The sum of the connectors' limits here.
     pub sum: u64,
     /// The next place of each row that has one left.
     pub queue: Queue,
 }
 
 impl LimitCurve<'_> {
-    /// The limit here, in tenths.
+    /// Returns the limit here, in tenths.
     pub(crate) fn limit_here(&self) -> u32
         requires ready { IsReadyCurve self.now }
         requires within { self.now.at ≤ self.now.last }
         ensures { result ≡ limit
             (point_state self.now.view) self.now.connector self.now.asked self.now.at }
     {
+        // In a request for one connector, the sum is that connector's own limit.
         let point = self.bounds[0].limit();
         u64::from(point).min(self.sum) as u32
     }
 
-    /// What sets the limit here.
+    /// Returns the bound here.
     fn bound_here(&self) -> Bound
         requires ready { IsReadyCurve self.now }
         requires within { self.now.at ≤ self.now.last }
@@ -66,7 +68,7 @@ impl LimitCurve<'_> {
         }
     }
 
-    /// The limit here with what sets it.
+    /// Returns the limit here with its cause.
     pub(crate) fn reason_here(&self, alloc: Global) -> Result<Reason, AllocError>
         requires ready { IsReadyCurve self.now }
         requires within { self.now.at ≤ self.now.last }
@@ -85,7 +87,8 @@ impl LimitCurve<'_> {
         })
     }
 
-    /// What each active connector has in the sum here, in a request of the whole point.
+    /// Returns the share of each active connector in the sum here, in a request for the whole
+    /// point.
     fn shares_here(&self, alloc: Global) -> Result<Shares, AllocError>
         requires ready { IsReadyCurve self.now }
         requires within { self.now.at ≤ self.now.last }
@@ -96,8 +99,8 @@ impl LimitCurve<'_> {
         shares_of(alloc, &self.bounds)
     }
 
-    /// Goes on to a later place, up to which the limit and what sets it stay as they are here, and returns
-    /// that, or `None` where they stay so to the end.
+    /// Goes on to a later place, up to which the limit and its reason are the same as here, and
+    /// returns that place, or `None` if they are the same to the end.
     pub(crate) fn go_to_next(&mut self) -> Result<Option<u32>, Refusal>
         requires ready { IsReadyCurve self.old }
         requires within { self.old.at ≤ self.old.last }
@@ -139,7 +142,7 @@ impl LimitCurve<'_> {
         Ok(())
     }
 
-    /// Lets the row that is due here the soonest pass its place.
+    /// Moves the first row that is due here past its place.
     fn pass_soonest(&mut self) -> Result<(), Refusal>
         requires swept { IsSweptCurve self.old }
         requires here { IsSoonestOf self.old.queue self.old.at }
@@ -153,7 +156,7 @@ impl LimitCurve<'_> {
         let Some(due) = self.queue.first() else {
             return Ok(());
         };
-        // Each row waits once, so this never holds: the test is in the place of a proof of that.
+        // Each row waits once, so this never holds: the test replaces a proof of that.
         if self.bounds[due.bound].due(due.row) != Some(due.instant) {
             self.queue.remove_first();
             return Ok(());
@@ -171,7 +174,7 @@ impl LimitCurve<'_> {
     }
 }
 
-/// What each connector behind the first bound has in the sum.
+/// Returns the share in the sum of each connector, which follow the first bound.
 fn shares_of(alloc: Global, bounds: &[Bounded<'_>]) -> Result<Shares, AllocError>
     ensures { IfOk result (λ shares. shares ≡ shares_now bounds.now) }
 {
@@ -182,8 +185,8 @@ fn shares_of(alloc: Global, bounds: &[Bounded<'_>]) -> Result<Shares, AllocError
     Ok(Shares::new(shares))
 }
 
-/// Lets a row of a bound pass its next place, keeps the sum of what the connectors may draw, and returns
-/// the instant at which the row is due again.
+/// Moves a row of a bound past its next place, updates the sum of the connectors' limits, and
+/// returns the instant at which the row is due again.
 fn pass_row(
     bounds: &mut Vec<Bounded<'_>>,
     sum: &mut u64,
@@ -201,8 +204,11 @@ fn pass_row(
     ensures next { IfOk result (λ next. next ≡ due_in bounds.new.items bound row) }
     ensures cause { IfErr result (λ refusal. refusal ≡ OutOfMemory) }
 {
+    // Only this row's limit changes: evaluating all rows would make the work at each place grow
+    // with them.
     let before = bounds[bound].limit();
     bounds[bound].pass(row)?;
+    // The first bound is that of the whole point, which isn't in the sum.
     if bound > 0 {
         let after = bounds[bound].limit();
         *sum = *sum - u64::from(before) + u64::from(after);

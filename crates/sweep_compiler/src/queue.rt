@@ -1,4 +1,4 @@
-//! The rows that wait for their next places.
+//! The queue of rows that wait for their next places.
 
 ghost use Rattle.std.specs.Prelude.{◌≡◌, ◌≤◌, ◌<◌, [], ◌∷◌, drop, length, nat_eq, IfOk, IfSome, IfNone, IsPermutation};
 ghost use Rattle.std.specs.List.{AllByRecursion};
@@ -22,8 +22,8 @@ pub(crate) struct Due {
     pub row: usize,
 }
 
-// The instants alone decide, the soonest being the greatest, since the heap compares at each turn. In
-// which order the rows pass that are due at one instant makes no difference.
+// Only the instants are compared, since the heap compares at each turn; the soonest is the
+// greatest. The order of rows that are due at the same instant makes no difference.
 impl PartialEq for Due {
     ghost eq = { on (λ due. due.instant) nat_eq };
 
@@ -86,7 +86,7 @@ impl Model for Queue {
 impl Queue {
     ghost use Rattle.sweep_compiler.specs.ByCases.Queue.{Due, IsSoonest, IsSoonestOf};
 
-    /// None waits. Allocates nothing.
+    /// Makes an empty queue. Allocates nothing.
     pub(crate) fn new(alloc: Global) -> Queue
         ensures { result ≡ [] }
     {
@@ -103,7 +103,7 @@ impl Queue {
         Ok(())
     }
 
-    /// The least of the instants at which any is due.
+    /// Returns the earliest instant at which a row is due.
     pub(crate) fn soonest(&self) -> Option<Instant>
         ensures { IsSoonest self.now result }
     {
@@ -113,7 +113,7 @@ impl Queue {
         }
     }
 
-    /// The one that is due the soonest.
+    /// Returns the row that is due the soonest.
     pub(crate) fn first(&self) -> Option<Due>
         ensures empty { IfNone result (self.now ≡ []) }
         ensures first { IfSome result (λ due. self.now ≡ due ∷ drop 1 self.now) }
@@ -126,16 +126,17 @@ impl Queue {
         }
     }
 
-    /// Puts a row in the place of the first. Allocates nothing.
+    /// Replaces the first row. Allocates nothing.
     pub(crate) fn replace_first(&mut self, due: Due)
         requires some { 0 < length self.old }
         ensures { IsPermutation (due ∷ drop 1 self.old) self.new }
     {
+        // In place: a pop and a push would restore the heap twice at each place.
         let mut first = self.heap.peek_mut().unwrap();
         *first = due;
     }
 
-    /// Takes the first out.
+    /// Removes the first row.
     pub(crate) fn remove_first(&mut self)
         requires some { 0 < length self.old }
         ensures { IsPermutation (drop 1 self.old) self.new }

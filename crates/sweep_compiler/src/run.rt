@@ -10,8 +10,8 @@ use profile::{MAX_STACK_LEVEL, Purpose, Row};
 use recurrence::{Place, Places};
 use std::marker::Model;
 
-/// A row that counts for a request, the limit that it has at the last of its places that was passed, and
-/// the places that are still to come.
+/// A row that counts for a request, its limit at the last of its places that was passed, and its
+/// later places.
 #[derive(Drop)]
 pub(crate) struct Run<'a> {
     row: &'a Row,
@@ -41,7 +41,7 @@ impl<'a> Model for Run<'a> {
 }
 
 impl<'a> Run<'a> {
-    /// A row counted from a base, at an instant, with its places up to a last one.
+    /// Makes a row, counted from a base, at an instant, with its places up to a last one.
     pub(crate) fn new(row: &'a Row, base: Instant, start: Instant, last: Instant) -> Run<'a>
         ensures { result ≡ record { row = row.now; base = base; since = start; last = last } }
     {
@@ -58,8 +58,8 @@ impl<'a> Run<'a> {
         }
     }
 
-    /// The rank of its row: a TxProfile comes before any TxDefaultProfile, and of one purpose the
-    /// higher stack level (chapter 3.13).
+    /// Returns the rank of its row: a TxProfile comes before any TxDefaultProfile, and of one
+    /// purpose the higher stack level first (chapter 3.13).
     pub(crate) fn rank(&self) -> u32
         ensures { result ≡ rank_running self.now }
     {
@@ -70,14 +70,14 @@ impl<'a> Run<'a> {
         }
     }
 
-    /// The limit that it has had since the last of its places that was passed.
+    /// Returns the limit that it has had since the last of its places that was passed.
     pub(crate) fn rate(&self) -> Option<u32>
         ensures { result ≡ rate_running self.now }
     {
         self.rate
     }
 
-    /// Its profile with that limit, where it has one.
+    /// Returns its profile with that limit, if it has one.
     pub(crate) fn profile_limit(&self) -> Option<ProfileLimit>
         ensures { result ≡ option_map profile_limit_of (row_running self.now) }
     {
@@ -85,7 +85,7 @@ impl<'a> Run<'a> {
         Some(ProfileLimit::of(self.row, limit))
     }
 
-    /// The limit that it will have at its next place, or where there is none has to the end.
+    /// Returns the limit from its next place on, or its present limit if there is no next place.
     pub(crate) fn next_rate(&self) -> Option<u32>
         ensures { result ≡ rate_running (passed self.now) }
     {
@@ -95,14 +95,14 @@ impl<'a> Run<'a> {
         }
     }
 
-    /// The instant of its next place.
+    /// Returns the instant of its next place.
     pub(crate) fn due(&self) -> Option<Instant>
         ensures { result ≡ due self.now }
     {
         Some(self.next?.instant)
     }
 
-    /// Passes its next place, where there is one.
+    /// Passes its next place, if there is one.
     pub(crate) fn pass(&mut self)
         ensures { self.new ≡ passed self.old }
     {

@@ -1,4 +1,4 @@
-//! How often a limit was evaluated.
+//! The number of evaluations of a limit.
 
 ghost use Rattle.std.specs.Prelude.{◌≡◌, ℕ, ◌+◌, ◌<◌, ◌≤◌, ◌^◌, length, IfOk};
 ghost use Rattle.meaning.specs.View.{point_state};
@@ -11,8 +11,8 @@ use meaning::Reason;
 use std::alloc::{AllocError, Global};
 use std::marker::Model;
 
-/// How often a limit was evaluated: each evaluation of the limit at one instant is a turn, with what
-/// sets it or without. Only the evaluation itself counts one.
+/// The number of evaluations of a limit: each evaluation at one instant is a turn, with or without
+/// its cause. Nothing else counts as a turn.
 #[derive(Drop)]
 pub struct Turns {
     count: u64,
@@ -27,14 +27,14 @@ impl Model for Turns {
 }
 
 impl Turns {
-    /// No turns so far.
+    /// Makes a count of no turns.
     pub fn new() -> Turns
         ensures { result ≡ 0 }
     {
         Turns { count: 0 }
     }
 
-    /// How many turns there were.
+    /// Returns the number of turns.
     pub fn count(&self) -> u64
         ensures { result ≡ self.now }
     {
@@ -48,8 +48,8 @@ impl Turns {
         self.count += 1;
     }
 
-    /// The limit that is asked, where a sweep stands and in tenths, which is one turn.
-    // The counter evaluates by itself, so that whoever evaluates by it can't forget to count.
+    /// Evaluates the requested limit at the instant of a sweep, in tenths, which is one turn.
+    // The counter evaluates the limit itself, so that a caller can't forget to count.
     pub(crate) fn limit_of(&mut self, curve: &LimitCurve<'_>) -> u32
         requires room { self.old + 1 < 2 ^ 64 }
         requires ready { IsReadyCurve curve.now }
@@ -62,7 +62,7 @@ impl Turns {
         curve.limit_here()
     }
 
-    /// The limit that is asked with what sets it, where a sweep stands, which is one turn.
+    /// Evaluates the requested limit with its cause at the instant of a sweep, which is one turn.
     pub(crate) fn reason_of(
         &mut self,
         alloc: Global,

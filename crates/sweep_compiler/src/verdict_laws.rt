@@ -8,13 +8,13 @@ ghost use Rattle.sweep_compiler.specs.ByCases.Verdict.{verdict_of};
 
 use meaning::{exact_schedules, said_schedules};
 
-/// The law that the verdict of an audit on what its point said is what is computed. So there is one
-/// verdict, and no second one.
+/// The law that the verdict of an audit on its point's reply is the computed one. So there is
+/// exactly one verdict.
 pub fn verdicts_are_computed()
     ensures { (audit : AuditRequest) (said : Said) (verdict : Verdict)
         → IsVerdict audit said verdict ↔ (verdict_of audit said ≡ verdict) }
 {
-    // Laws that this one stands on: nothing runs.
+    // This law rests on these: nothing runs.
     exact_schedules();
     said_schedules();
 }

@@ -1,13 +1,14 @@
-//! Faults at each call in turn; what a crash leaves behind what was acknowledged, and what a log that is
-//! opened then goes on with.
+//! Faults at each call in turn; the bytes that a crash leaves behind the acknowledged ones, and
+//! those with which a log opened afterwards goes on.
 
 use append_log::{Answer, Log, LogFault, MemoryFile, whole_length};
 use std::alloc::{AllocError, Global};
 use std::process::Abort;
 
-/// Letters of the answers of the file: `m` is made, `p` takes one byte, `f` finds no room, `x` fails; how many
-/// bytes a crash leaves behind what is on the disk; what the trials come to, with `k` kept, `f` full, `x` failed
-/// and `-` failed before; what the crash leaves; and what the log has that is opened then. `/` is a line feed.
+/// Rows of five columns. First the outcomes of the file's calls: `m` succeeds, `p` takes one byte,
+/// `f` finds a full device, `x` fails. Then the number of bytes that a crash leaves behind those on
+/// disk. Then the outcomes of the trials: `k` kept, `f` full, `x` failed, `-` failed before. Then
+/// the bytes that the crash leaves, and those of the log opened afterwards. `/` is a line feed.
 const FAULTS: &str = "|0|kkk|a/bc/|a/bc/
 mmmm|0|kkk|a/bc/|a/bc/
 f|0|fkk|a/bc/|a/bc/
@@ -57,7 +58,7 @@ fn a_crash_leaves_a_first_part_and_opening_its_whole_lines(rt: HostRuntime) {
     }
 }
 
-/// Plays a row: each text is added, and tried once to be kept.
+/// Plays a row: adds each text, and tries once to write and sync it.
 fn play(rt: &impl Abort, alloc: Global, texts: &[&str], row: &str) {
     let (letters, rest) = row.split_once('|').expect(rt, row);
     let (behind, wanted) = rest.split_once('|').expect(rt, row);
@@ -75,7 +76,7 @@ fn play(rt: &impl Abort, alloc: Global, texts: &[&str], row: &str) {
     assert!(rt; found.as_str() == wanted, "{row}: {found}");
 }
 
-/// A log in a file that has this text. Its calls come to the answers of these letters, once it is opened.
+/// Opens a log in a file with this text. The file's later calls have the outcomes of these letters.
 fn log_in(rt: &impl Abort, alloc: Global, text: &str, letters: &str) -> Log<MemoryFile> {
     let bytes = text.as_bytes().to_vec(alloc).expect(rt, "error");
     let answers = answers_of(alloc, letters).expect(rt, "error");
@@ -84,7 +85,7 @@ fn log_in(rt: &impl Abort, alloc: Global, text: &str, letters: &str) -> Log<Memo
     Log::open(alloc, file, end).ok().expect(rt, "it is opened")
 }
 
-/// The answers of letters, the last one first, behind that of the cut.
+/// Returns the answers of the letters, the last one first, and then that of the cut.
 fn answers_of(alloc: Global, letters: &str) -> Result<Vec<Answer>, AllocError> {
     let mut answers = Vec::new(alloc);
     for letter in letters.as_bytes().iter().rev() {
@@ -108,7 +109,7 @@ fn trial(log: &mut Log<MemoryFile>) -> &'static str {
     }
 }
 
-/// What a crash leaves of a log, with so many bytes behind what is on the disk.
+/// Returns the bytes that a crash leaves of a log, with `behind` bytes after those on disk.
 fn text_left(rt: &impl Abort, alloc: Global, log: &Log<MemoryFile>, behind: usize) -> String {
     let left = log.file().crash(alloc, behind).expect(rt, "error");
     String::from_utf8(left).ok().expect(rt, "ASCII")

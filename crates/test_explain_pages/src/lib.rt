@@ -1,5 +1,5 @@
-//! Tests of `explain_pages` by its public names alone. They stand here, since a crate with tests of its own is
-//! proved twice.
+//! Tests of `explain_pages` through its public names alone. They have a crate of their own, since a
+//! crate with tests is proved twice.
 #![tactic(auto)]
 
 #[cfg(test)]

@@ -20,7 +20,7 @@ fn hundred_rows(rt: &impl Abort, alloc: Global) -> String {
     lines
 }
 
-/// In a week no line of 100 profiles has more than 2,000 steps, so none is cut.
+/// Checks that in a week no line of 100 profiles has more than 2,000 steps, so none is cut.
 #[test]
 fn a_hundred_profiles(rt: HostRuntime) {
     let alloc = rt.alloc();
@@ -34,7 +34,8 @@ fn a_hundred_profiles(rt: HostRuntime) {
     expect(&rt, picture.as_str(), ">Tue 2025-01-07</text>\n>V3</text>");
 }
 
-/// Pictures and pages of a request whose every second is an interval say where they end.
+/// Checks that pictures and pages of a request whose every second is an interval say where they
+/// end.
 #[test]
 fn too_many_intervals(rt: HostRuntime) {
     let alloc = rt.alloc();

@@ -1,4 +1,5 @@
-//! Why profiles have no part, against reasons found by hand, and the sentences for it.
+//! The reasons why profiles have no part, against reasons found by hand, and the sentences for
+//! them.
 
 use crate::samples::{expect, explain, interval, point_with, profile, same};
 use explain_pages::{
@@ -10,9 +11,10 @@ use profile::Purpose;
 use std::alloc::Global;
 use std::process::Abort;
 
-/// A connector that is asked for a day, which of the two connectors have had a transaction since midnight, the rows of
-/// the point, and the reason of each row. One interval begins at midnight and one at noon (43,200), and no profile sets
-/// the limit of either. A profile may prevail at one second alone, or for one of two connectors.
+/// A connector that is requested for a day, which of the two connectors have had a transaction
+/// since midnight, the rows of the point, and the reason of each row. One interval begins at
+/// midnight and one at noon (43,200), and no profile sets the limit of either. A profile may
+/// prevail at one second only, or for one of two connectors.
 const UNCOUNTED: &str = "\
 1 none | id=1 start=0; id=2 level=1 start=0 duration=43200 | NotLeast NotLeast
 1 none | id=2 level=1 start=0 duration=43200; id=1 start=0 | NotLeast NotLeast
@@ -76,7 +78,7 @@ fn uncounted(
     write_json(alloc, &explained).expect(rt, rows)
 }
 
-/// The names of the reasons in JSON, with a blank between them.
+/// The names of the reasons in JSON, separated by blanks.
 fn names_of(rt: &impl Abort, alloc: Global, json: &str) -> String {
     let mut names = String::new(alloc);
     for piece in json.split("\"reason\":\"").skip(1) {
@@ -105,7 +107,7 @@ const REASONS: [NoPart; 13] = [
     NoPart::NoActiveConnector,
 ];
 
-/// That each reason has a sentence of its own, and that it stands in table, JSON and page.
+/// Checks that each reason has a sentence of its own, which is in the table, the JSON and the page.
 #[test]
 fn each_reason_has_its_sentence(rt: HostRuntime) {
     let mut seen = String::from_str(rt.alloc(), sentence(NoPart::NotLeast)).expect(&rt, "error");
@@ -118,7 +120,7 @@ fn each_reason_has_its_sentence(rt: HostRuntime) {
     }
 }
 
-/// The same of a point whose name has what is written otherwise in JSON and in pages.
+/// The same for a point whose name has characters that JSON and pages escape.
 fn expect_everywhere(rt: &impl Abort, alloc: Global, reason: NoPart) {
     let never = profile(3, Purpose::TxProfile, 2);
     let named = profile(2, Purpose::TxProfile, 2);

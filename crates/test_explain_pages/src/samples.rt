@@ -16,8 +16,8 @@ pub(crate) struct Point {
     starts: [Option<Instant>; 2],
 }
 
-/// A point with the rows of lines, and with a transaction since midnight at `none` of the connectors, the `first`,
-/// the `second` or `both`.
+/// A point with the rows of lines, and with a transaction since midnight at `none` of the
+/// connectors, the `first`, the `second` or `both`.
 pub(crate) fn point_with(rt: &impl Abort, alloc: Global, lines: &str, active: &str) -> Point {
     let midnight = instant_at(0).expect(rt, "error");
     Point {
@@ -45,7 +45,7 @@ fn starts_of(start: Instant, active: &str) -> [Option<Instant>; 2] {
 }
 
 impl Point {
-    /// What it has.
+    /// Returns the point's profiles, ceilings and transactions.
     pub(crate) fn view(&self) -> View<'_> {
         View {
             ceiling: 630,
@@ -56,7 +56,8 @@ impl Point {
     }
 }
 
-/// What was explained of a connector of a point for a number of seconds from midnight on.
+/// Returns an explained request for a connector of a point, for a number of seconds from midnight
+/// on.
 pub(crate) fn explain<'a>(
     rt: &impl Abort,
     view: View<'a>,
@@ -103,14 +104,14 @@ pub(crate) fn interval(
     }
 }
 
-/// That a text has each line of some others in it.
+/// Checks that a text contains each line of another one.
 pub(crate) fn expect(rt: &impl Abort, text: &str, wanted: &str) {
     for line in wanted.lines() {
         assert!(rt; text.contains(line), "{line}");
     }
 }
 
-/// That a text is another one.
+/// Checks that two texts are equal.
 pub(crate) fn same(rt: &impl Abort, found: &str, wanted: &str) {
     assert!(rt; found == wanted, "{found}, wanted {wanted}");
 }

@@ -1,4 +1,4 @@
-//! Tables for people, against those made by hand, by how many columns there are.
+//! Tables for people, against tables made by hand, at several widths.
 
 use crate::samples::{explain, interval, point_with, profile, same};
 use explain_pages::{NoPart, NotCounted, write_table};

@@ -1,4 +1,4 @@
--- How a list ends.
+-- The end of a list.
 use Rattle.std.specs.Prelude.{◌≡◌, List, [], ◌∷◌, ◌++◌}
 
 -- the last of xs is x

@@ -2,7 +2,7 @@
 //! is noted, and it goes on, so that its thread ends.
 
 use crate::gates::HoldingGate;
-use compile_pool::{Jobs, MOST_OF_SHORT, answer_unmade, is_at_most, wait_answer};
+use compile_pool::{Jobs, answer_unmade, short_work, wait_answer};
 use ocpp_scalars::Refusal;
 use site_core::PointId;
 use std::alloc::Global;
@@ -186,7 +186,7 @@ impl<C: Ledger, A: Ledger> Desk<'_, '_, '_, C, A> {
         words: Words<'_>,
     ) -> Result<u64, Refusal> {
         let job = self.job(rt, pass, words)?;
-        Ok(u64::from(is_at_most(&job, MOST_OF_SHORT)))
+        Ok(u64::from(short_work(&job).is_some()))
     }
 
     /// How often the limit is evaluated for a request.

@@ -1,5 +1,5 @@
-//! Worked days of a simulated point, as texts. Each begins with its steps, a line each, and an empty line.
-//! Then comes a line for each thing that happens.
+//! Worked days of a simulated point, as texts. Each begins with its steps, a line each, and an
+//! empty line. Then comes a line for each event.
 
 /// Every step, with the replies of a central system, good and bad. The second stop is of a start that the
 /// central system refused. The fourth is of a transaction that has ended, though the central system answered
@@ -172,7 +172,7 @@ call | [2,"2","StartTransaction",{"connectorId":1,"idTag":"own","meterStart":7,"
 < [2,"c","GetCompositeSchedule",{"connectorId":1,"duration":60}] | [3,"c",{"status":"Accepted","connectorId":1,"scheduleStart":"2025-01-01T00:00:00Z","chargingSchedule":{"duration":60,"chargingRateUnit":"A","chargingSchedulePeriod":[{"startPeriod":0,"limit":16.0}]}}]
 call | -"#;
 
-/// Of two, the one that was asked for last comes first.
+/// Of two remote starts, the later one comes first.
 pub(crate) const WITHOUT_PROFILES: &str = r#"
 
 < [2,"a","RemoteStartTransaction",{"connectorId":2,"idTag":""}] | [3,"a",{"status":"Accepted"}]
@@ -184,8 +184,9 @@ call | [2,"1","StartTransaction",{"connectorId":2,"idTag":"","meterStart":0,"tim
 < [3,"1",{"idTagInfo":{"status":"Accepted"},"transactionId":2}] | -
 call | -"#;
 
-/// At most 200 profiles; one takes the place of another. The profile of a start that is asked for is then given up,
-/// and its transaction begins: the limit is by the default of level 0, since those of the higher levels begin later.
+/// At most 200 profiles; one replaces another. The profile of a remote start is then dropped, and
+/// its transaction begins: the limit is by the default of level 0, since those of the higher levels
+/// begin later.
 pub(crate) const PROFILES: &str = r#"stop 1
 
 fill 1 100 1 | -

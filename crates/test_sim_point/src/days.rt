@@ -1,13 +1,13 @@
-//! What no clause says: worked days of a simulated point, message by message, and that memory suffices at
-//! the largest sizes. Below a point's steps, and an empty line, a day has lines `WHAT | WANTED`, where `-` is wanted
-//! for nothing and `..TEXT` for what ends so:
+//! Worked days of a simulated point, message by message, which no clause covers; and a check that memory
+//! suffices at the largest sizes. Below a point's steps and an empty line, a day has lines `WHAT | WANTED`.
+//! In place of an answer, `-` means none, and `..TEXT` one that ends in this text:
 //!
 //! ```text
-//! at SECONDS | -        it is so many seconds after midnight
+//! at SECONDS | -        the time is now this many seconds after midnight
 //! call | TEXT           the next call
-//! < TEXT | ANSWER       a message comes, and is answered
-//! default CONNECTOR LEVEL PERIODS | ANSWER    a default of so many periods is installed
-//! fill CONNECTOR LEVELS PERIODS | -           so many are accepted, at the levels from 0 on
+//! < TEXT | ANSWER       a message arrives, and is answered
+//! default CONNECTOR LEVEL PERIODS | ANSWER    a default of this many periods is installed
+//! fill CONNECTOR LEVELS PERIODS | -           this many are accepted, at the levels from 0 on
 //! ```
 use crate::day_texts::{
     BEFORE_OTHER_STEPS, CALLS, EVERY_STEP, PERIODS, PROFILES, REJECTED_STARTS, REMOTE_START,
@@ -112,7 +112,7 @@ fn default_text(
     text
 }
 
-/// A point and the moment that it is.
+/// A point and the current moment.
 #[derive(Drop)]
 struct Day {
     alloc: Global,
@@ -121,12 +121,12 @@ struct Day {
 }
 
 impl Day {
-    /// What a message is answered.
+    /// Returns the answer to a message.
     fn answered(&mut self, rt: &impl Abort, text: &str) -> Option<String> {
         self.point.on_text(self.now, text).expect(rt, "error")
     }
 
-    /// What the install of a default is answered.
+    /// Returns the answer to the install of a default.
     fn default(&mut self, rt: &impl Abort, words: &str) -> Option<String> {
         let (connector, level, periods) = three(rt, words);
         self.install(rt, connector, number(rt, level), periods)
@@ -154,7 +154,7 @@ impl Day {
         }
     }
 
-    /// What comes of a line's word and the rest of it.
+    /// Returns the result of a line's word and the rest of it.
     fn found(&mut self, rt: &impl Abort, what: &str) -> Option<String> {
         let (word, text) = what.split_once(' ').unwrap_or((what, ""));
         match word {

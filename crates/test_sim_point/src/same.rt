@@ -1,5 +1,5 @@
-//! What tests compare, each by a function of its own: an assertion is long to prove, and a call of
-//! one is not. Each is given the case that it compares.
+//! Comparisons of tests, each in a function of its own: an assertion is long to prove, and a call
+//! is not. Each takes the case that it compares.
 
 use std::process::Abort;
 

@@ -1,5 +1,5 @@
-//! A simulated point at a WebSocket over bytes in memory: what it sends, and how it ends where a
-//! device fails.
+//! A simulated point at a WebSocket over bytes in memory: the messages that it sends, and how it
+//! ends if a device fails.
 use crate::days::{instant_at, point_with};
 use crate::same::{holds, same_text};
 use ocpp_scalars::{Instant, Moments};
@@ -11,7 +11,7 @@ use std::process::Abort;
 use std::sync::Wait;
 use tungstenite::{Duplex, MaskKeys, Message, NoMask, Role, WebSocket};
 
-/// A clock that stands still, or tells nothing.
+/// A clock that always gives the same instant, or none.
 #[derive(Clone, Copy)]
 struct Fixed(Option<Instant>);
 
@@ -31,7 +31,7 @@ impl MaskKeys for OneKey {
     }
 }
 
-/// Fails at the call of a number, of those that read, write and flush.
+/// Fails at the call of this number, counting reads, writes and flushes.
 #[derive(Drop)]
 struct Failing<S> {
     inner: S,
@@ -69,14 +69,14 @@ impl<S: Write> Write for Failing<S> {
     }
 }
 
-/// What the central system sends, a message on each line.
+/// The central system's messages, one on each line.
 const CENTRAL: &str = r#"[2,"a","ClearChargingProfile",{}]
 [3,"0",{"currentTime":"2025-01-01T00:00:00Z"}]
 [3,"1",{"idTagInfo":{"status":"Accepted"},"transactionId":7}]
 [2,"b","GetCompositeSchedule",{"connectorId":1,"duration":60}]
 [3,"2",{}]"#;
 
-/// What the point then sends: its calls, and an answer behind each CALL.
+/// The point's messages after that: its calls, and an answer to each CALL.
 const POINT: &str = r#"[2,"0","Heartbeat",{}]
 [3,"a",{"status":"Unknown"}]
 [2,"1","StartTransaction",{"connectorId":1,"idTag":"a","meterStart":3,"timestamp":"2025-01-01T00:00:00Z"}]
@@ -87,8 +87,8 @@ fn simulated(rt: &impl Abort, alloc: Global) -> SimPoint {
     point_with(rt, alloc, "heartbeat\nstart 1 a 3\nstop 1")
 }
 
-/// The bytes of these messages as a server sends them, behind a binary message, and then of its
-/// close.
+/// Returns the bytes of these messages as a server sends them, after a binary message, and then of
+/// its close.
 fn sent_by_central(rt: &impl Abort, alloc: Global, texts: &str, closes: bool) -> Vec<u8> {
     let stream = Duplex {
         reader: [].as_slice(),
@@ -107,7 +107,7 @@ fn sent_by_central(rt: &impl Abort, alloc: Global, texts: &str, closes: bool) ->
     socket.into_inner().writer
 }
 
-/// The message is this text.
+/// Checks that a message is this text.
 fn is_text(rt: &impl Abort, message: &Message, wanted: &str) {
     match message {
         Message::Text(text) => same_text(rt, text.as_str(), wanted, "a text"),
@@ -115,7 +115,7 @@ fn is_text(rt: &impl Abort, message: &Message, wanted: &str) {
     }
 }
 
-/// The point sent these messages, and then its close.
+/// Checks that the point sent these messages, and then its close.
 fn are_texts(rt: &impl Abort, alloc: Global, bytes: &[u8], texts: &str) {
     let stream = Duplex {
         reader: bytes,
@@ -129,7 +129,7 @@ fn are_texts(rt: &impl Abort, alloc: Global, bytes: &[u8], texts: &str) {
     holds(rt, last.is_close(), "a close");
 }
 
-/// A point is sent these messages and a close, and sends those and a close.
+/// Checks that a point that receives these messages and a close sends those and a close.
 fn sends<R: Abort + Wait>(rt: &R, alloc: Global, point: SimPoint, central: &str, wanted: &str) {
     let bytes = sent_by_central(rt, alloc, central, true);
     let mut output = Vec::new(alloc);
@@ -144,7 +144,7 @@ fn sends<R: Abort + Wait>(rt: &R, alloc: Global, point: SimPoint, central: &str,
     are_texts(rt, alloc, output.as_slice(), wanted);
 }
 
-/// A start is asked for while the last step's call is in flight.
+/// A remote start arrives while the last step's call is in flight.
 const REMOTE_START: &str = r#"[2,"a","RemoteStartTransaction",{"connectorId":1,"idTag":"b"}]
 [3,"0",{"currentTime":"2025-01-01T00:00:00Z"}]
 [3,"1",{"idTagInfo":{"status":"Accepted"},"transactionId":7}]"#;
@@ -161,7 +161,7 @@ fn days_at_a_socket(rt: HostRuntime) {
     sends(&rt, alloc, one_step, REMOTE_START, STARTED);
 }
 
-/// How a point ends at these bytes, with a device that fails at the call of a number.
+/// Returns how a point ends after these bytes, with a device that fails at the call of this number.
 fn end_at<R: Abort + Wait>(rt: &R, alloc: Global, bytes: &[u8], at: usize, clock: &Fixed) -> Ended {
     let mut output = Vec::new(alloc);
     let inner = Duplex {
@@ -193,7 +193,7 @@ fn a_device_that_fails_ends_it(rt: HostRuntime) {
     holds(&rt, failed >= 10, "each call before the close may fail");
 }
 
-/// With these bytes and this clock the point ends so, where no call fails.
+/// Checks how the point ends after these bytes with this clock, if no call fails.
 fn ends(rt: &(impl Abort + Wait), alloc: Global, bytes: &[u8], clock: &Fixed, wanted: Ended) {
     let ended = end_at(rt, alloc, bytes, 100, clock);
     holds(rt, ended == wanted, "how it ends");
@@ -206,7 +206,7 @@ fn a_connection_without_a_close_is_broken(rt: HostRuntime) {
     let whole = sent_by_central(&rt, alloc, CENTRAL, false);
     ends(&rt, alloc, whole.as_slice(), &clock, Ended::Broken);
     ends(&rt, alloc, &[], &clock, Ended::Broken);
-    // A clock that tells nothing.
+    // A clock that can't be read.
     ends(&rt, alloc, whole.as_slice(), &Fixed(None), Ended::Broken);
     // The central system closes first.
     let closing = sent_by_central(&rt, alloc, "", true);

@@ -1,14 +1,14 @@
-//! Who may come, by a file of keys. Its digests and the headers were made with Python's hashlib and
-//! base64.
+//! Admission by a file of keys. Its digests and the headers were made with Python's `hashlib` and
+//! `base64`.
 
 use crate::same::same_text;
 use site_keys::{Admission, Keys, Role};
 use std::alloc::Global;
 use std::process::Abort;
 
-/// CP1 has the keys 00 01 .. 13 and 64 65 .. 77, CP2 has ff 3a 00 c8 .. d8, CP3 and the column have
-/// the first again. The password of ann is `open sesame`, another's is empty. The last line has no
-/// line feed.
+/// CP1 has the keys 00 01 .. 13 and 64 65 .. 77, CP2 has ff 3a 00 c8 .. d8. CP3 and `Säule-7` have
+/// the first key of CP1. The password of ann is `open sesame`, that of `empty` is empty. The last
+/// line has no line feed.
 const FILE: &str = "# keys of the test site\r
 
 point CP1 000102030405060708090a0b0c0d0e0f 836411b133eb13d2167b4176d6aa95a8ffe940956f272e23f3f1e9c4bc1d0ee1\r
@@ -19,7 +19,7 @@ operator CP3 404142434445464748494a4b4c4d4e4f 29e1ce02a58b5ce289720045ddba34eabb
 point Säule-7 505152535455565758595a5b5c5d5e5f ccd3ac47d751db78dee13e9faafe9390e7fa5e509430f23b64e446cc09a8a019
 operator empty 606162636465666768696a6b6c6d6e6f 2ed1bad92452df6752ac09877a37fc86ec876010faa7d80765bd5131fb8e0226";
 
-/// ROLE|IDENTITY|HEADER|the user, or the status of HTTP. A key comes as hex digits or as bytes.
+/// ROLE|IDENTITY|HEADER|the user, or the HTTP status. A key is sent as hex digits or as bytes.
 const ROWS: &str = "\
 point|CP1|Basic Q1AxOjAwMDEwMjAzMDQwNTA2MDcwODA5MGEwYjBjMGQwZTBmMTAxMTEyMTM=|CP1
 point|CP1|Basic Q1AxOjAwMDEwMjAzMDQwNTA2MDcwODA5MEEwQjBDMEQwRTBGMTAxMTEyMTM=|CP1
@@ -76,7 +76,7 @@ fn role_named(word: &str) -> Role {
     }
 }
 
-/// Says what came of a header.
+/// Compares the result for a header with the expected one.
 fn comes(rt: &impl Abort, admission: &Admission, wanted: &str, case: &str) {
     let said = match admission {
         Admission::Admitted(user) => user.as_str(),

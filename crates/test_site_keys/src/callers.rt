@@ -1,3 +1,3 @@
-//! Callers of libraries: the READMEs of their crates link to them.
+//! Callers of libraries, which the READMEs of those crates link to.
 
 mod keys;

@@ -1,4 +1,4 @@
-//! Tests of `site_keys` by its public names alone, with digests and headers that were made elsewhere.
+//! Tests of `site_keys` by its public names alone, with digests and headers from another program.
 #![tactic(auto)]
 
 #[cfg(test)]

@@ -1,4 +1,4 @@
-//! A new key as it is written. The digest was made with Python's hashlib.
+//! The texts of a new key. The digest was made with Python's `hashlib`.
 
 use crate::same::same_text;
 use site_keys::{Role, write_key};

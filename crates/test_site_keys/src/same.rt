@@ -1,5 +1,5 @@
-//! What tests compare, by a function of its own: an assertion is long to prove, and a call of one
-//! is not.
+//! The comparison of tests, in a function of its own: an assertion takes long to prove, a call
+//! doesn't.
 
 use std::process::Abort;
 

@@ -1,4 +1,4 @@
-//! Tests of `site_status` by its public names alone: the texts of a small site, made by hand.
+//! Tests of `site_status` through its public names alone: the texts of a small site, made by hand.
 #![tactic(auto)]
 
 #[cfg(test)]

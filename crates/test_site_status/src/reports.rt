@@ -1,4 +1,4 @@
-//! A small site, and what was seen of its points.
+//! A small site, and the observations of its points.
 
 use messages::ActionKind;
 use ocpp_scalars::Instant;
@@ -16,22 +16,22 @@ const SITE: &str =
 /// 2025-01-01T00:00:00Z, in seconds since 1970.
 const MIDNIGHT: u64 = 1_735_689_600;
 
-/// What a point says in its reply, with what means something in JSON, in HTML and in a label.
+/// A point's reply with characters that are special in JSON, in HTML and in a label.
 const REASON: &str = "no <room> & \"none\" \\ 'either'\n";
 
-/// A number of seconds after midnight.
+/// Returns the instant a number of seconds after midnight.
 pub(crate) fn at(rt: &impl Abort, seconds: u64) -> Instant {
     Instant::try_new(MIDNIGHT + (seconds & 0xffff)).expect(rt, "an instant")
 }
 
-/// The site without profiles and transactions.
+/// Returns the site without profiles and transactions.
 pub(crate) fn machine(rt: &impl Abort, alloc: Global) -> Machine {
     let site = read_site(alloc, SITE.as_bytes()).ok().expect(rt, "a site");
     Machine::new(alloc, site).expect(rt, "error")
 }
 
-/// What was seen of the points: the first booted, was sent call 0, and rejected it; of the second
-/// nothing was.
+/// Returns the observations of the points: the first booted, was sent call 0, and rejected it;
+/// there are none of the second.
 pub(crate) fn news(rt: &impl Abort, alloc: Global) -> Vec<PointNews> {
     let mut points = Vec::new(alloc);
     points.push(first_news(rt, alloc)).expect(rt, "error");
@@ -60,12 +60,12 @@ fn first_news(rt: &impl Abort, alloc: Global) -> PointNews {
     news
 }
 
-/// A call to the first point waits since a moment; of the second that isn't known.
+/// A call to the first point waits since a moment; for the second no moment is known.
 pub(crate) fn waits(rt: &impl Abort) -> [Option<Instant>; 2] {
     [Some(at(rt, 5)), None]
 }
 
-/// What is told of the site 60 seconds after midnight.
+/// Returns the report on the site 60 seconds after midnight.
 pub(crate) fn report<'a>(
     rt: &impl Abort,
     machine: &'a Machine,

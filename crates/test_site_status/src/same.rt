@@ -1,5 +1,5 @@
-//! What tests compare, each by a function of its own: an assertion is long to prove, and a call of one is not.
-//! Each is given the case that it compares.
+//! Comparisons of tests, each a function of its own: an assertion takes long to prove, and a call
+//! of one doesn't. Each is given the case that it compares.
 
 use std::process::Abort;
 

@@ -1,4 +1,4 @@
-//! The texts of a small site, each as it was written by hand.
+//! The texts of a small site, compared with texts written by hand.
 
 use crate::reports::{machine, news, report, waits};
 use crate::same::{holds, same_text};
@@ -10,7 +10,7 @@ const STATE: &str =
     r#"{"moment":"2025-01-01T00:01:00Z","health":"device full","sessions":{"points":1,"operators":2},"seats":256,"freeSeats":253,"changes":4,"answers":5,"refusedHandshakes":6,"turnedAway":7,"journal":{"bytes":1234,"syncs":9,"syncMicroseconds":12003450},"points":[{"id":"CP1","connectedSince":"2025-01-01T00:00:01Z","lastText":"2025-01-01T00:00:02Z","booted":"2025-01-01T00:00:02Z","mayHaveForgotten":false,"confirmed":0,"inFlight":0,"inFlightSince":null,"waiting":1,"waitingSince":"2025-01-01T00:00:05Z","rejections":1,"rejected":{"call":0,"action":"ClearChargingProfile","moment":"2025-01-01T00:00:04Z","reason":"no <room> & \"none\" \\ 'either'\n"},"audit":"None","transactions":[],"profiles":[]},{"id":"CP2","connectedSince":null,"lastText":null,"booted":null,"mayHaveForgotten":false,"confirmed":0,"inFlight":0,"inFlightSince":null,"waiting":1,"waitingSince":null,"rejections":0,"rejected":null,"audit":"None","transactions":[],"profiles":[]}]}
 "#;
 
-/// Some of the lines of the figures.
+/// Some of the metrics' lines.
 const SAMPLES: &str = r#"# TYPE central_healthy gauge
 central_healthy 0
 central_sessions{kind="point"} 1
@@ -38,7 +38,7 @@ central_calls_rejected_total{point="CP1"} 1
 central_point_may_have_forgotten{point="CP1"} 0
 central_point_audit_differs{point="CP2"} 0"#;
 
-/// What the page has of the first point.
+/// The section of the first point in the page.
 const PARTS: &str = r#"<html lang="en">
 <h2>CP1</h2>
 <strong>The device of its journal is full
@@ -91,7 +91,7 @@ fn told(rt: &impl Abort, alloc: Global, health: Health, body: &str) {
     same_text(rt, answer.body.as_str(), body, "its body");
 }
 
-/// The words that programs read, of which a socket's client sees two.
+/// The words that programs read; a client of the status port sees only two of them.
 #[test]
 fn words_of_health(rt: HostRuntime) {
     told(&rt, rt.alloc(), Health::Restoring, "restoring\n");

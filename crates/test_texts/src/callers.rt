@@ -1,4 +1,4 @@
-//! Callers of libraries, one for each: the READMEs of their crates link to them.
+//! Callers of libraries, one for each. The READMEs of their crates link to them.
 
 mod frames;
 mod scalars;

@@ -1,6 +1,6 @@
-//! What no replayed script shows: line breaks in a text, the longest one, memory that is refused while a
-//! text is read, and the last of several fields of one name. `tests/cases/replay` at the top of the
-//! repository has everything else that is read and written.
+//! Cases that no replayed script shows: line breaks in a text, the longest text, a failed
+//! allocation while a text is read, and the last of several fields of one name.
+//! `tests/cases/replay` at the top of the repository has all other cases of reading and writing.
 use crate::same::{holds, same_text};
 use ocppj_frame::{
     Field, Frame, FrameFault, ReadingMemory, list_field, read_frame, read_tree, whole_field,
@@ -40,7 +40,8 @@ fn frames_have_at_most_1048576_bytes(rt: HostRuntime) {
     holds(&rt, is_read, "a byte more as a tree");
 }
 
-/// How many entries the list of a call has, and its last field; `None` where memory ran out.
+/// Returns the number of entries in the list of a call, and its last field; `None` if memory ran
+/// out.
 fn parts(memory: &mut ReadingMemory, text: &str) -> Option<(usize, Field<i32>)> {
     match read_frame(memory, text) {
         Ok(Frame::Call { payload, .. }) => {
@@ -56,8 +57,8 @@ fn parts(memory: &mut ReadingMemory, text: &str) -> Option<(usize, Field<i32>)> 
     }
 }
 
-/// A text whose reading fails at an allocation, whichever it is, is read into the same memory at the next
-/// attempt. `tests/program.py` lets twenty fail in a row; else the text is read at once.
+/// Checks that after a failed allocation, whichever it is, the next attempt reads the text into the
+/// same memory. `tests/program.py` lets twenty fail in a row; otherwise the first attempt reads it.
 #[test]
 fn a_text_is_read_again_where_memory_was_refused(rt: HostRuntime) {
     let head = "[2,\"again\",\"DataTransfer\",{\"list\":[";

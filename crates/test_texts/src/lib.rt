@@ -1,5 +1,5 @@
-//! Tests of the crates that read and write texts, `ocpp_scalars` and `ocppj_frame`, of what no
-//! replayed script shows. They stand here, since a crate with tests of its own is proved twice.
+//! Tests of `ocpp_scalars` and `ocppj_frame`, for the cases that no replayed script shows. They
+//! have a crate of their own, since a crate with tests is proved twice.
 #![tactic(auto)]
 
 #[cfg(test)]

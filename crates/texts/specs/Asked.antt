@@ -1,4 +1,5 @@
--- What a message asks for: nothing, an answer without a step, a step, or that a call is confirmed.
+-- The request that a message makes: nothing, an answer without a step, a step, or the confirmation
+-- of a call.
 use Rattle.std.specs.Prelude.{ℕ, ◌≡◌, codes, Bool, true, false, List, Option, Some, None, Result, Ok, Err, if◌then◌else◌}
 use Rattle.std.specs.Str.{bytes_eq}
 use Rattle.ocpp_scalars.specs.declared.refusal.Refusal.{Refusal}
@@ -38,13 +39,13 @@ use Rattle.site_core.specs.declared.step.Take.{Take}
 use Rattle.texts.specs.ByCases.Number.{number_of}
 use Rattle.texts.specs.SentText.{Sent}
 
--- ---- actions: a step, or the answer where there is none
+-- ---- actions: a step, or the answer without one
 
--- the answer to an action that isn't known, or isn't its sender's
+-- the answer to an action that is unknown, or that its sender doesn't send
 abbrev pub not_implemented : Response
 not_implemented = Error NotImplemented
 
--- the install of the profile that the fields make, or why they make none
+-- the install of the profile that the fields make, or the rejection if they make none
 abbrev pub wanted_by_making : Sent → ℕ → Result Profile Refusal → Wanted
 wanted_by_making text connector (Ok profile) = wanted.Step (steps.Install text.point
     (record { connector = connector; moment = text.moment; profile = profile }))
@@ -59,7 +60,7 @@ abbrev pub profile_made : Result Profile Refusal → Result (Option Profile) Ref
 profile_made (Ok profile) = Ok (Some profile)
 profile_made (Err refusal) = Err refusal
 
--- the profile that a remote start's fields make, if they have one, or why they make none
+-- the profile that a remote start's fields make, if it has any, or the refusal if they make none
 abbrev pub remote_profile : Option ProfileParts → Result (Option Profile) Refusal
 remote_profile None = Ok None
 remote_profile (Some parts) = profile_made (profile_of_parts (without_transaction parts))
@@ -70,12 +71,12 @@ wanted_by_remote_start text start (Ok profile) =
     wanted.Step (steps.RemoteStart text.point start.connector start.id_tag profile)
 wanted_by_remote_start text start (Err refusal) = wanted.Response (Rejected refusal)
 
--- how the transaction began: as the CALL tells
+-- the beginning of a transaction, from the fields of the CALL
 abbrev pub begin_of : StartTransaction → Begin
 begin_of start =
     record { id_tag = start.id_tag; meter_start = start.meter_start; timestamp = start.timestamp }
 
--- what is asked from the moment of the message on, whatever versions were seen before
+-- a request from the moment of the message on, whichever versions were seen before
 abbrev pub take_of : Sent → ScheduleRequest → Take
 take_of text request = record {
   point = text.point;
@@ -112,12 +113,13 @@ abbrev pub wanted_by_reading : Sent → Result Action CallFault → Wanted
 wanted_by_reading text (Ok action) = wanted_by text action
 wanted_by_reading text (Err fault) = wanted.Response (Error fault)
 
--- the step or the answer to the CALL of this id
+-- the request of the CALL of this id: the step or the answer
 abbrev pub asked_with : List ℕ → ActionKind → Wanted → Asked
 asked_with id kind (wanted.Step step) = asked.Step id kind step
 asked_with id kind (wanted.Response response) = asked.Respond id response
 
--- an action that isn't its sender's, or is nobody's, isn't implemented, whatever its fields are
+-- an action that is unknown, or that its sender doesn't send, isn't implemented, whatever its
+-- fields are
 abbrev pub asked_of_kind : Sent → List ℕ → Option ActionKind → Tree → Asked
 asked_of_kind text id None payload = asked.Respond id not_implemented
 asked_of_kind text id (Some kind) payload =
@@ -129,7 +131,7 @@ asked_of_call text id name payload =
 
 -- ---- replies to calls (OCPP-J 1.6, 4.2.2 and 4.2.3)
 
--- the number of the call that an id stands for: its decimal text, and nothing else, is the id
+-- the number of the call whose decimal text the id is
 abbrev pub call_numbered : List ℕ → Option ℕ
 call_numbered id = if bytes_eq id (codes "0") then Some 0 else number_of id
 
@@ -137,15 +139,15 @@ abbrev pub asked_confirm : List ℕ → Bool → Option ℕ → Asked
 asked_confirm point accepted None = asked.Nothing
 asked_confirm point accepted (Some number) = asked.Confirm point number accepted
 
--- A point's reply confirms the call of its id, and tells whether it accepts. An operator is sent no
--- calls.
+-- A point's reply confirms the call of its id, and says whether the point accepts it. An operator
+-- is sent no calls.
 abbrev pub asked_of_reply : Side → List ℕ → List ℕ → Bool → Asked
 asked_of_reply Operator point id accepted = asked.Nothing
 asked_of_reply Point point id accepted = asked_confirm point accepted (call_numbered id)
 
 -- ---- messages
 
--- only a CALL is answered, a malformed one too where it has an id
+-- only a CALL is answered, even a malformed one if it has an id
 abbrev pub asked_of_message : Sent → Result Message FrameFault → Asked
 asked_of_message text (Ok (call id name payload)) = asked_of_call text id name payload
 asked_of_message text (Ok (call_result id payload)) =
@@ -158,10 +160,10 @@ asked_of_message text (Err _) = asked.Nothing
 unfoldable pub asked_of : Sent → Asked
 asked_of text = asked_of_message text (message_of_text text.frame)
 
--- ---- what any message asks for
+-- ---- the requests of all messages
 
--- The steps that a CALL may ask for. What is made over a link comes of the link itself, or of a
--- reply, and so does a verdict.
+-- The steps that a CALL may request. Steps over a link come from the link itself or from a reply,
+-- and a verdict comes from a reply.
 abbrev pub IsOfCall : Step → Type 0
 IsOfCall (steps.Install point row) = Unit {0}
 IsOfCall (steps.Clear point criteria) = Unit {0}
@@ -194,6 +196,6 @@ abbrev pub asks_schedule : Result Message FrameFault → Bool
 asks_schedule (Ok (call id name payload)) = is_schedule_kind (action_named name)
 asks_schedule _ = false
 
--- what a held message asks for, where it is a CALL of GetCompositeSchedule
+-- the request of a held message, if that is a CALL of GetCompositeSchedule
 abbrev pub hold_of : Sent → Option Asked
 hold_of text = if asks_schedule (message_of_text text.frame) then Some (asked_of text) else None

@@ -1,4 +1,4 @@
--- The numbers of requests and calls in a text, from 1 on. Call 0 is read apart.
+-- The numbers of requests and calls in a text, from 1 on. Call 0 is read separately.
 use Rattle.std.specs.Prelude.{ℕ, ◌≡◌, ◌≤◌, List}
 use Rattle.std.specs.Fmt.{decimal}
 use Rattle.site_core.specs.Limits.{max_number}

@@ -28,9 +28,9 @@ schedule_response unit kind ask (Ok schedule) = responses.Schedule
     (record { connector = ask.connector; start = ask.start; unit = unit; schedule = schedule })
 schedule_response unit kind ask (Err refusal) = refused_response kind refusal
 
--- A reply as a response to a CALL of this kind. A retransmitted start is answered as the first
--- time. No answer says that a request is taken or compiled, that the central system is stopped, what
--- becomes of a link or of a call, or that a verdict is kept.
+-- A reply as a response to a CALL of this kind. A retransmitted start is answered as the first one
+-- was. There is no response to a request that is taken or compiled, a stop of the central system, a
+-- change of a link or of a call, or a kept verdict.
 abbrev pub reply_response : Unit → ActionKind → Reply → Option Response
 reply_response unit kind Accepted = Some responses.Accepted
 reply_response unit kind Unknown = Some responses.Unknown
@@ -53,7 +53,7 @@ reply_response unit kind VerdictKept = None
 reply_response unit kind (Status status) = Some (responses.PointStatus status)
 reply_response unit kind (Called call) = Some responses.Accepted
 
--- what came of a step as a response to a CALL of this kind
+-- the response to a CALL of this kind, from the outcome of its step
 abbrev pub response_of : Unit → ActionKind → Result Reply Refusal → Option Response
 response_of unit kind (Ok reply) = reply_response unit kind reply
 response_of unit kind (Err refusal) = Some (refused_response kind refusal)

@@ -1,4 +1,4 @@
--- What a point's reply to an audit says (OCPP 1.6, 5.7, and chapter 6, GetCompositeSchedule.conf).
+-- A point's reply to an audit (OCPP 1.6, 5.7, and chapter 6, GetCompositeSchedule.conf).
 use Rattle.std.specs.Prelude.{Result, Ok, Err}
 use Rattle.ocppj_frame.specs.declared.fault.FrameFault.{FrameFault}
 use Rattle.ocppj_frame.specs.Message.{Message}
@@ -8,7 +8,7 @@ use Rattle.meaning.specs.declared.said.Said.TheVariants.{Refused}
 use Rattle.messages.specs.Said as messages
 use Rattle.texts.specs.SentText.{Sent}
 
--- what can't be read as a message refuses, as a message without a status does
+-- a text that can't be read as a message refuses, as a message without a status does
 abbrev pub said_by : Result Message FrameFault → Said
 said_by (Ok message) = messages.said_of message
 said_by (Err fault) = Refused

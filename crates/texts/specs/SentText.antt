@@ -1,15 +1,15 @@
--- A message that comes to the central system.
+-- A message that the central system receives.
 use Rattle.std.specs.Prelude.{ℕ, List}
 use Rattle.messages.specs.declared.side.Side.{Side}
 
 pub record Sent : Type 0 where
-  -- when it comes
+  -- its moment
   pub moment : ℕ
-  -- who sends it
+  -- the sender's side
   pub sender : Side
-  -- the identity of the point that an operator's message is for, or that sends its own
+  -- the identity of the point that sends it, or that an operator's message is for
   pub point : List ℕ
-  -- the message itself
+  -- the frame
   pub frame : List ℕ
 
 abbrev pub sent : ℕ → Side → List ℕ → List ℕ → Sent

@@ -1,4 +1,5 @@
-//! What a message asks for: nothing, an answer without a step, a step, or that a call is confirmed.
+//! The request that a message makes: nothing, an answer without a step, a step, or the confirmation
+//! of a call.
 
 ghost use Rattle.std.specs.Prelude.{◌≡◌, None, Ok, IfOk, IfErr};
 ghost use Rattle.ocppj_frame.specs.Frame.{message_in};
@@ -24,10 +25,10 @@ use site_core::{PointId, Step, Take};
 use std::alloc::{AllocError, Global};
 use transactions::Begin;
 
-/// The answer to a CALL of an action that isn't known, or isn't its sender's.
+/// The answer to a CALL of an action that is unknown, or that its sender doesn't send.
 const NOT_IMPLEMENTED: Response = Response::Error(CallFault::NotImplemented);
 
-/// What a message asks for.
+/// The request that a message makes.
 #[derive(Drop)]
 pub enum Asked {
     /// The message isn't answered.
@@ -37,13 +38,14 @@ pub enum Asked {
         id: MessageId,
         response: Response,
     },
-    /// The CALL of this id, of an action of this kind, asks for a step.
+    /// The CALL of this id, of an action of this kind, requests a step.
     Step {
         id: MessageId,
         kind: ActionKind,
         step: Step,
     },
-    /// The message is the point's reply to the call of this number, and accepts it or doesn't.
+    /// The message is the point's reply to the call of this number; `accepted` says whether the
+    /// point accepts that call.
     Confirm {
         point: PointId,
         call: u64,
@@ -51,16 +53,16 @@ pub enum Asked {
     },
 }
 
-/// What an action wants.
+/// A step that an action requests, or its answer.
 #[derive(Drop)]
 enum Wanted {
     Step(Step),
-    /// It is answered without a step.
+    /// The answer of an action without a step.
     Response(Response),
 }
 
-/// What a message asks for. The message is read into `memory`. Where memory runs out, the error has
-/// a CALL's id, if it was known by then.
+/// Reads a message into `memory`, and returns its request. If memory runs out, the error has the id
+/// of the CALL, if it was known by then.
 #[tactic(auto, unfolding(crate::specs::Asked::asked_of))]
 pub fn asked_of(
     alloc: Global,
@@ -85,8 +87,8 @@ pub fn asked_of(
     }
 }
 
-/// What a held message asks for: as [`asked_of`] has it, or `None` where the message is no CALL of
-/// GetCompositeSchedule. The message is read into `memory`.
+/// Reads a held message into `memory`, and returns its request as [`asked_of`] does, or `None` if
+/// the message isn't a CALL of GetCompositeSchedule.
 #[tactic(auto, unfolding(crate::specs::Asked::asked_of))]
 pub fn hold_of(
     alloc: Global,
@@ -109,7 +111,7 @@ pub fn hold_of(
     }
 }
 
-/// Whether a message is a CALL of GetCompositeSchedule.
+/// Returns whether a message is a CALL of GetCompositeSchedule.
 fn asks_schedule(frame: &Frame<'_>) -> bool
     ensures { result ≡ asks_schedule (Ok (message_in frame.now)) }
 {
@@ -125,7 +127,7 @@ fn is_schedule_kind(kind: Option<ActionKind>) -> bool
     matches!(kind, Some(ActionKind::GetCompositeSchedule))
 }
 
-/// What a message asks for: only a CALL is answered, and a reply may confirm a call.
+/// Returns the request of a message: only a CALL is answered, and a reply may confirm a call.
 fn asked_of_message(
     alloc: Global,
     text: &SentText<'_>,
@@ -155,12 +157,13 @@ fn asked_of_message(
             }
         }
         Frame::Reply { id, .. } => asked_of_reply(alloc, text, id.as_str(), accepted),
+        // A CALLERROR confirms a call too: only the number of a reply decides that.
         Frame::Fault { id } => asked_of_reply(alloc, text, id.as_str(), accepted),
         Frame::Other => Ok(Asked::Nothing),
     }
 }
 
-/// What a reply of this id asks for: a point's confirms the call of that number.
+/// Returns the request of a reply with this id: a point's reply confirms the call of that number.
 fn asked_of_reply(
     alloc: Global,
     text: &SentText<'_>,
@@ -172,12 +175,13 @@ fn asked_of_reply(
     ensures call { IfErr result (λ unread. unread.call ≡ None) }
 {
     match text.sender() {
+        // An operator is sent no calls that it could reply to.
         Side::Operator => Ok(Asked::Nothing),
         Side::Point => asked_confirm(alloc, text.point(), accepted, call_numbered(id)),
     }
 }
 
-/// The confirmation of a point's call of this number, if there is one.
+/// Returns the confirmation of the point's call of this number, or nothing without a number.
 fn asked_confirm(
     alloc: Global,
     point: &str,
@@ -200,14 +204,15 @@ fn asked_confirm(
     }
 }
 
-/// The number of the call whose decimal text an id is.
+/// Returns the number of the call whose decimal text an id is.
 fn call_numbered(id: &str) -> Option<u64>
     ensures { result ≡ call_numbered id.now }
 {
+    // Calls are counted from 0, and `number_of` reads the numbers from 1 on.
     if id == "0" { Some(0) } else { number_of(id) }
 }
 
-/// What the CALL of this id asks for, whose action wants this.
+/// Returns the request of the CALL of this id, whose action requests `wanted`.
 fn asked_with(id: MessageId, kind: ActionKind, wanted: Wanted) -> Asked
     ensures { result ≡ asked_with id kind wanted }
 {
@@ -217,7 +222,7 @@ fn asked_with(id: MessageId, kind: ActionKind, wanted: Wanted) -> Asked
     }
 }
 
-/// What the action with these fields wants.
+/// Reads the fields of an action, and returns the step that it requests or its answer.
 fn wanted_by_fields(
     alloc: Global,
     text: &SentText<'_>,
@@ -234,7 +239,7 @@ fn wanted_by_fields(
     }
 }
 
-/// What an action wants: a step, or an answer without one.
+/// Returns the step that an action requests, or its answer.
 fn wanted_by(alloc: Global, text: &SentText<'_>, action: Action) -> Result<Wanted, AllocError>
     ensures { IfOk result (λ wanted. wanted ≡ wanted_by text.now action) }
 {
@@ -275,7 +280,7 @@ fn wanted_by(alloc: Global, text: &SentText<'_>, action: Action) -> Result<Wante
     Ok(Wanted::Response(response))
 }
 
-/// The request for a schedule that these fields make.
+/// Returns the request for a schedule with these fields.
 fn step_of_ask(
     alloc: Global,
     text: &SentText<'_>,
@@ -289,11 +294,12 @@ fn step_of_ask(
         start: text.moment(),
         duration: request.duration,
         unit: request.unit,
+        // The message doesn't say which version its sender saw last, so any will do.
         seen: 0,
     }))
 }
 
-/// The audit that these fields make.
+/// Returns the audit with these fields.
 fn step_of_audit(
     alloc: Global,
     text: &SentText<'_>,
@@ -309,7 +315,7 @@ fn step_of_audit(
     })
 }
 
-/// The start that these fields make.
+/// Returns the start with these fields.
 fn step_of_start(
     alloc: Global,
     text: &SentText<'_>,
@@ -329,7 +335,7 @@ fn step_of_start(
     })
 }
 
-/// The install of the profile that these fields make, or that they make none.
+/// Returns the install of the profile with these fields, or the rejection if they make none.
 fn wanted_by_parts(
     alloc: Global,
     text: &SentText<'_>,
@@ -354,7 +360,7 @@ fn wanted_by_parts(
     }
 }
 
-/// The remote start that these fields make, or that their profile is none.
+/// Returns the remote start with these fields, or the rejection if its profile's fields make none.
 fn wanted_by_remote_start(
     alloc: Global,
     text: &SentText<'_>,
@@ -374,8 +380,9 @@ fn wanted_by_remote_start(
     }
 }
 
-/// The profile of a remote start, if it has one, or why its fields make none. The transactionId is
-/// dropped: the profile comes into force with the transaction that the start begins.
+/// Returns the profile of a remote start, if it has one, or the refusal if its fields make none.
+/// The transactionId is dropped: the profile comes into force with the transaction that the start
+/// begins.
 fn remote_profile(parts: Option<ProfileParts>) -> Result<Option<Profile>, Refusal>
     ensures { result ≡ remote_profile parts }
 {

@@ -1,4 +1,5 @@
-//! What a message asks for, and what came of it as an answer: no socket, no store.
+//! Reads the request of a message, and turns the outcome of its step into an answer. Has no socket
+//! and no store.
 #![tactic(auto)]
 
 mod asked;

@@ -1,5 +1,5 @@
-//! Numbers in a text from 1 on, in decimal without leading zeros: of requests, and of calls after
-//! call 0.
+//! Numbers from 1 on in a text, in decimal without leading zeros: those of requests, and of calls
+//! after call 0.
 
 ghost use Rattle.std.specs.Prelude.{◌≡◌, ◌↔◌, ℕ, Some};
 ghost use Rattle.texts.specs.Number.{IsDecimalOf};
@@ -7,12 +7,13 @@ ghost use Rattle.texts.specs.ByCases.Number.{begins_above_zero, number_of};
 
 use site_core::MAX_NUMBER;
 
-/// The number from 1 to 1,000,000,000,000 that a word is, in decimal without leading zeros.
+/// Returns the number from 1 to 1,000,000,000,000 that a word is, in decimal without leading zeros.
 pub fn number_of(word: &str) -> Option<u64>
     ensures value { result ≡ number_of word.now }
     ensures decimal { (number : ℕ)
         → ((number_of word.now ≡ Some number) ↔ IsDecimalOf word.now number) }
 {
+    // `parse` also accepts a plus and leading zeros.
     if !begins_above_zero(word) {
         return None;
     }
@@ -25,8 +26,7 @@ pub fn number_of(word: &str) -> Option<u64>
     Some(number)
 }
 
-/// Whether a word begins with a byte above the digit 0. `parse` takes a plus and zeros before a
-/// number.
+/// Returns whether the first byte of a word is above the digit 0.
 fn begins_above_zero(word: &str) -> bool
     ensures { result ≡ begins_above_zero word.now }
 {

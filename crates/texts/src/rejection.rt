@@ -1,17 +1,18 @@
-//! Why a point doesn't accept a call.
+//! The reason for which a point doesn't accept a call.
 
 use messages::ReplyStatus;
 use ocppj_frame::{Frame, ReadingMemory, read_frame};
 use std::alloc::{AllocError, Global};
 
-/// So many bytes are kept of what a point says where it rejects a call.
+/// The most bytes that are kept of a reply with which a point rejects a call.
 pub const MAX_REJECTION_BYTES: usize = 200;
 
-/// A reply of more bytes isn't read for its status: reading takes many times its size.
+/// The most bytes of a reply that is read for its status.
+// Reading a message takes up to 150 times its size.
 const LONGEST_STATUS_REPLY: usize = 4_096;
 
-/// Why a point doesn't accept a call, by its reply: the status of that, where it is one that OCPP knows
-/// (chapter 7), or the beginning of whatever else it says.
+/// Returns the reason for which a point doesn't accept a call, from its reply: the status, if it is
+/// one that OCPP has (chapter 7), or else the beginning of the reply.
 pub fn rejection_in(alloc: Global, frame: &str) -> Result<String, AllocError> {
     if frame.len() > LONGEST_STATUS_REPLY {
         return beginning_of(alloc, frame);
@@ -26,7 +27,7 @@ pub fn rejection_in(alloc: Global, frame: &str) -> Result<String, AllocError> {
     }
 }
 
-/// As much of the beginning of a text as is kept.
+/// Returns the beginning of a text, of at most `MAX_REJECTION_BYTES` bytes.
 fn beginning_of(alloc: Global, text: &str) -> Result<String, AllocError> {
     let mut beginning = String::new(alloc);
     for character in text.chars() {

@@ -9,8 +9,9 @@ use ocpp_scalars::Refusal;
 use profile::Unit;
 use site_core::Reply;
 
-/// What came of a step as a response to a CALL of this kind, on a site of this unit. `None` where
-/// that isn't answered: a request that is taken or compiled has no answer yet.
+/// Returns the response to a CALL of this kind, from the outcome of its step on a site of this
+/// unit. Returns `None` if there is no response: a request that is taken or compiled has no answer
+/// yet.
 pub fn response_of(
     unit: Unit,
     kind: ActionKind,
@@ -24,7 +25,7 @@ pub fn response_of(
     }
 }
 
-/// What a step's reply is as a response.
+/// Returns the response that a step's reply is, if it is one.
 pub fn reply_response(unit: Unit, kind: ActionKind, reply: Reply) -> Option<Response>
     ensures { result ≡ reply_response unit kind reply }
 {
@@ -49,7 +50,7 @@ pub fn reply_response(unit: Unit, kind: ActionKind, reply: Reply) -> Option<Resp
     }
 }
 
-/// The answer to a request for a composite schedule.
+/// Returns the response to a request for a composite schedule.
 pub fn schedule_response(
     unit: Unit,
     kind: ActionKind,
@@ -69,8 +70,8 @@ pub fn schedule_response(
     }
 }
 
-/// A refused SetChargingProfile, GetCompositeSchedule, RemoteStartTransaction, AuditPoint or
-/// PointStatus is answered by its .conf, any other refused CALL by a CALLERROR.
+/// Returns the response to a refused CALL: the .conf of a SetChargingProfile, GetCompositeSchedule,
+/// RemoteStartTransaction, AuditPoint or PointStatus, and a CALLERROR of any other action.
 pub fn refused_response(kind: ActionKind, refusal: Refusal) -> Response
     ensures { result ≡ refused_response kind refusal }
 {
@@ -80,6 +81,7 @@ pub fn refused_response(kind: ActionKind, refusal: Refusal) -> Response
         | ActionKind::RemoteStartTransaction
         | ActionKind::AuditPoint
         | ActionKind::PointStatus => Response::Rejected(refusal),
+        // ClearChargingProfile.conf, for one, has no status for a refusal.
         _ => Response::Error(CallFault::Refused(refusal)),
     }
 }

@@ -1,4 +1,4 @@
-//! What a point's reply to an audit says.
+//! A point's reply to an audit.
 
 ghost use Rattle.std.specs.Prelude.{◌≡◌, IfOk};
 ghost use Rattle.texts.specs.Said.{said_of};
@@ -9,11 +9,8 @@ use messages::read_said;
 use ocppj_frame::{FrameFault, ReadingMemory, read_frame};
 use std::alloc::{AllocError, Global};
 
-/// What a message says as a point's reply to an audit (chapter 6, GetCompositeSchedule.conf):
-/// `Refused` where it is no message. It is read into `memory`, once more than [`asked_of`] has read
-/// it, so that only the reply to an audit pays for it.
-///
-/// [`asked_of`]: crate::asked_of
+/// Reads a message into `memory`, as a point's reply to an audit (chapter 6,
+/// GetCompositeSchedule.conf). A text that isn't a message is `Refused`.
 pub fn said_of(
     alloc: Global,
     memory: &mut ReadingMemory,
@@ -21,6 +18,7 @@ pub fn said_of(
 ) -> Result<Said, AllocError>
     ensures { IfOk result (λ said. said ≡ said_of text.now) }
 {
+    // `asked_of` has already read the message. Reading it again costs only a reply to an audit.
     match read_frame(memory, text.frame()) {
         Ok(frame) => match read_said(alloc, &frame) {
             Ok(said) => Ok(said),

@@ -1,4 +1,4 @@
-//! A message that comes to the central system, with its moment, its sender and its point.
+//! A message that the central system receives, with its moment, its sender and its point.
 
 ghost use Rattle.std.specs.Prelude.{◌≡◌};
 
@@ -6,7 +6,7 @@ use messages::Side;
 use ocpp_scalars::Instant;
 use std::marker::Model;
 
-/// A message that comes to the central system.
+/// A message that the central system receives.
 #[derive(Drop)]
 pub struct SentText<'a> {
     moment: Instant,
@@ -31,8 +31,8 @@ impl<'a> Model for SentText<'a> {
 impl<'a> SentText<'a> {
     ghost use Rattle.texts.specs.SentText.{sent};
 
-    /// The message `frame`, an OCPP-J frame (OCPP-J 1.6, chapter 4), that comes from an operator
-    /// for a point, or from that point.
+    /// Makes a message of `frame`, an OCPP-J frame (OCPP-J 1.6, chapter 4). An operator sends it
+    /// for a point, or the point itself does.
     pub fn new(moment: Instant, sender: Side, point: &'a str, frame: &'a str) -> SentText<'a>
         ensures { result ≡ sent moment sender point.entry.now frame.entry.now }
     {
@@ -44,28 +44,29 @@ impl<'a> SentText<'a> {
         }
     }
 
-    /// When it comes.
+    /// Returns the moment at which the message comes.
     pub fn moment(&self) -> Instant
         ensures { result ≡ self.now.moment }
     {
         self.moment
     }
 
-    /// Who sends it.
+    /// Returns the sender's side.
     pub fn sender(&self) -> Side
         ensures { result ≡ self.now.sender }
     {
         self.sender
     }
 
-    /// The identity of the point that an operator's message is for, or that sends its own.
+    /// Returns the identity of the point that sends the message, or that an operator's message is
+    /// for.
     pub fn point(&self) -> &str
         ensures { result.now ≡ self.now.point }
     {
         self.point
     }
 
-    /// The message itself.
+    /// Returns the frame.
     pub fn frame(&self) -> &str
         ensures { result.now ≡ self.now.frame }
     {

@@ -1,10 +1,10 @@
-//! Messages that couldn't be read, because memory ran out.
+//! Messages that couldn't be read because memory ran out.
 
 use ocppj_frame::MessageId;
 
 /// Memory ran out while a message was read.
 #[derive(Drop)]
 pub struct Unread {
-    /// The id of the CALL that the message is, where that was known before.
+    /// The id of the CALL, if it was already read.
     pub call: Option<MessageId>,
 }

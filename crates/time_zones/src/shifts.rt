@@ -1,4 +1,4 @@
-//! How far the clock of a zone is ahead of UTC, and when that changes.
+//! The offset of a zone's clock from UTC, and its changes.
 
 use crate::zone_fault::ZoneFault;
 use explain_pages::ClockShift;
@@ -6,11 +6,12 @@ use jiff_core::{Error, Timestamp};
 use jiff_tz::Tzif;
 use std::alloc::Global;
 
-/// The most changes that are looked at. In 31 days, the longest time that is explained, no clock has more than two.
+/// The maximum number of transitions read for a request.
+// In 31 days, the longest request, no clock changes more than twice: a file with more is faulty.
 const MAX_CHANGES: usize = 64;
 
-/// How far the clock of a zone is ahead of UTC from one moment to another, both in seconds since 1970: first what
-/// it is at the first moment, and then each change up to the other one. `bytes` are the zone's TZif file.
+/// Returns the offset of a zone's clock from UTC between two moments, both in seconds since 1970:
+/// first the one at `from`, and then each change up to `until`. `bytes` are the zone's TZif file.
 pub fn clock_shifts(
     alloc: Global,
     bytes: &[u8],
@@ -24,6 +25,7 @@ pub fn clock_shifts(
     };
     let (start, end) = (timestamp(from)?, timestamp(until)?);
     let ahead = zone.to_offset(start).seconds;
+    // Local times count their seconds from 1970 too, and can't be negative.
     if from.checked_add_signed(i64::from(ahead)).is_none() {
         return Err(ZoneFault::Calendar);
     }
@@ -33,7 +35,7 @@ pub fn clock_shifts(
     Ok(shifts)
 }
 
-/// Appends what the clock is ahead from each change on, behind one instant and up to another.
+/// Appends the offset after each change, from after `start` up to `end`.
 fn push_changes(
     shifts: &mut Vec<ClockShift>,
     zone: &Tzif,
@@ -51,6 +53,7 @@ fn push_changes(
             return Ok(());
         }
         let ahead = zone.to_offset(at).seconds;
+        // A transition may change only the name of the time or its summer-time flag.
         if ahead != before {
             shifts.push(ClockShift {
                 from: second(at)?,
@@ -62,7 +65,7 @@ fn push_changes(
     Err(ZoneFault::NoZone)
 }
 
-/// The instant of a moment, in seconds since 1970.
+/// Converts seconds since 1970 to a timestamp.
 fn timestamp(moment: u64) -> Result<Timestamp, ZoneFault> {
     match Timestamp::from_nanosecond(i128::from(moment) * 1_000_000_000) {
         Ok(timestamp) => Ok(timestamp),
@@ -70,7 +73,7 @@ fn timestamp(moment: u64) -> Result<Timestamp, ZoneFault> {
     }
 }
 
-/// The moment of an instant, in seconds since 1970.
+/// Converts a timestamp to seconds since 1970.
 fn second(timestamp: Timestamp) -> Result<u64, ZoneFault> {
     match u64::try_from(timestamp.floor_second()) {
         Ok(second) => Ok(second),

@@ -1,13 +1,13 @@
-//! Why a zone's clock isn't told.
+//! The faults of a zone's file or of its clock.
 
 use std::alloc::{AllocError, AllocFailed};
 
-/// Why a zone's clock isn't told.
+/// The reason why the clock of a zone can't be used.
 #[derive(Clone, Copy, PartialEq, Eq)]
 pub enum ZoneFault {
-    /// The bytes are no TZif file, or its clock changes more often than any does.
+    /// The bytes aren't a TZif file, or the clock changes more often than any zone's does.
     NoZone,
-    /// By that clock the time would begin before 1970, or it ends after 9999-12-30T22:00:00Z.
+    /// The time begins before 1970 in local time, or ends after 9999-12-30T22:00:00Z.
     Calendar,
     /// Memory ran out.
     OutOfMemory,

@@ -4,21 +4,22 @@ ghost use Rattle.std.specs.Prelude.{◌≡◌, IsTrue};
 ghost use Rattle.std.specs.List.{list_all};
 ghost use Rattle.time_zones.specs.ZoneName.{is_zone_byte};
 
-/// The most bytes of a zone's name.
+/// The maximum length of a zone's name, in bytes.
 const MAX_NAME_BYTES: usize = 64;
 
-/// Whether a text may name a zone: parts of letters, digits, `_`, `-` and `+`, with a `/` between two of them. So the
-/// file of the name lies in the folder of the zones. The files below `right` count leap seconds: they are none of
-/// this calendar.
+/// Returns whether a text may name a zone: parts of letters, digits, `_`, `-` and `+`, with a `/`
+/// between two of them. So the named file is in the folder of the zones. The files below `right`
+/// aren't accepted.
 pub fn is_zone_name(name: &str) -> bool
     ensures bytes { IsTrue result → IsTrue (list_all is_zone_byte name.now) }
 {
     has_zone_bytes(name.as_bytes()) && has_zone_parts(name)
 }
 
-/// Whether a name is as long as one may be, and none of its parts is empty.
+/// Returns whether a name isn't too long, has no empty part, and isn't below `right`.
 fn has_zone_parts(name: &str) -> bool {
     name.len() <= MAX_NAME_BYTES
+        // Those files count leap seconds, which this calendar doesn't have.
         && !name.starts_with("right/")
         && name.split('/').all(|part| !part.is_empty())
 }

@@ -1,4 +1,4 @@
--- What a table keeps with its slots: of empty slots, and where one slot changes.
+-- The invariant of a table's slots holds for empty slots, and after a change of one slot.
 use Rattle.std.proofs.Common.{◌≡◌, ℕ, ◌<◌, ◌^◌, zero, suc, refl, List, ◌∷◌, map, replicate, Option, None, set, ap, sym, ◌∙◌}
 use Rattle.std.proofs.lemmas.List.{map-set, length-set, length-replicate}
 use Rattle.transactions.specs.declared.transaction.Transaction.{Transaction}

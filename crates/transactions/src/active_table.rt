@@ -12,10 +12,10 @@ use ocpp_scalars::Instant;
 use std::alloc::{AllocError, Global};
 use std::marker::Model;
 
-/// What a start was.
+/// The effect of a start at a connector.
 #[derive(Clone, Copy, PartialEq, Eq)]
 pub enum Began {
-    /// A new transaction began, with the number that was offered for it.
+    /// A new transaction begins, with the number that was offered for it.
     Fresh,
     /// A retransmitted StartTransaction of the active transaction, which has this number.
     Repeat(i32),
@@ -25,11 +25,12 @@ pub enum Began {
 #[derive(Drop)]
 pub struct ActiveTable {
     slots: Vec<Option<Transaction>>,
+    // The start of each slot's transaction.
     /// The start of each slot's transaction, which readers of schedules borrow as they are.
     starts: Vec<Option<Instant>>,
 }
 
-// Clauses see the slots, those of connectors 1, 2, ..
+// In clauses, a table is the list of its slots, those of connectors 1, 2, ..
 impl Model for ActiveTable {
     ghost use Rattle.std.specs.Prelude.{List, Option};
     ghost use Rattle.transactions.specs.declared.transaction.Transaction.{Transaction};
@@ -43,7 +44,7 @@ impl Model for ActiveTable {
 }
 
 impl ActiveTable {
-    /// A table of a number of connectors, none with a transaction.
+    /// Makes a table of a number of connectors, all without a transaction.
     pub fn new(alloc: Global, connectors: u32) -> Result<ActiveTable, AllocError>
         ensures { IfOk result (λ table. table ≡ replicate connectors None) }
     {
@@ -52,7 +53,7 @@ impl ActiveTable {
         Ok(ActiveTable { slots, starts })
     }
 
-    /// Begins a transaction at a connector, in place of the one that is active there. A retransmitted
+    /// Begins a transaction at a connector, and ends the one that is active there. A retransmitted
     /// StartTransaction of that one changes nothing. Allocates nothing.
     pub fn start(&mut self, connector: u32, begin: Begin, next: i32) -> Began
         requires above { 0 < connector }
@@ -70,15 +71,15 @@ impl ActiveTable {
         began
     }
 
-    /// What a start at a connector would be. Changes nothing.
+    /// Returns the effect that a start at a connector would have. Changes nothing.
     pub fn began(&self, connector: u32, begin: &Begin) -> Began
         ensures { result ≡ began self.now connector begin.now }
     {
         what_began(self.slots.as_slice(), connector, begin)
     }
 
-    /// Ends the transaction of this number, and returns its connector, or `None` where no active one
-    /// has it. Allocates nothing.
+    /// Ends the transaction of this number, and returns its connector, or `None` if no active
+    /// transaction has it. Allocates nothing.
     pub fn stop(&mut self, id: i32) -> Option<u32>
         ensures connector { result ≡ connector_of self.old id }
         ensures slots { self.new ≡ stopped self.old id }
@@ -88,7 +89,7 @@ impl ActiveTable {
         Some(place as u32 + 1)
     }
 
-    /// The connector of the active transaction of this number, or `None` where no active one has it.
+    /// Returns the connector of the active transaction of this number, or `None` if none has it.
     pub fn connector_of(&self, id: i32) -> Option<u32>
         ensures { result ≡ connector_of self.now id }
     {
@@ -104,8 +105,8 @@ impl ActiveTable {
         self.slots[place] = slot;
     }
 
-    /// The number of the active transaction at a connector; connector 0 and one that the table
-    /// lacks have none.
+    /// Returns the number of the active transaction at a connector; connector 0 and connectors that
+    /// the table lacks have none.
     pub fn active_on(&self, connector: u32) -> Option<i32>
         ensures { result ≡ option_map (λ (t : Transaction). t.id) (active_at self.now connector) }
     {
@@ -115,21 +116,22 @@ impl ActiveTable {
         }
     }
 
-    /// The active transaction at a connector; connector 0 and one that the table lacks have none.
+    /// Returns the active transaction at a connector; connector 0 and connectors that the table
+    /// lacks have none.
     pub fn active_at(&self, connector: u32) -> Option<&Transaction>
         ensures { option_copied result ≡ active_at self.now connector }
     {
         active_at(self.slots.as_slice(), connector)
     }
 
-    /// The start of the active transaction at connectors 1, 2, ..
+    /// Returns the starts of the active transactions at connectors 1, 2, ..
     pub fn starts(&self) -> &[Option<Instant>]
         ensures { result.now ≡ starts self.now }
     {
         self.starts.as_slice()
     }
 
-    /// A copy.
+    /// Returns a copy.
     pub fn copy(&self) -> Result<ActiveTable, AllocError>
         ensures { IfOk result (λ copy. copy ≡ self.now) }
     {
@@ -139,7 +141,7 @@ impl ActiveTable {
         Ok(ActiveTable { slots, starts })
     }
 
-    /// Whether two tables are equal, the idTags with their letters' case.
+    /// Whether two tables are equal; the case of idTags counts.
     pub fn same(&self, other: &ActiveTable) -> bool
         ensures { IsTrue result ↔ (self.now ≡ other.now) }
     {
@@ -168,10 +170,11 @@ fn active_at(slots: &[Option<Transaction>], connector: u32) -> Option<&Transacti
     }
 }
 
-/// What a start at a connector is.
+/// Returns the effect of a start at a connector.
 fn what_began(slots: &[Option<Transaction>], connector: u32, begin: &Begin) -> Began
     ensures { result ≡ began slots.now connector begin.now }
 {
+    // Only the active transaction is compared: remembering ended ones would need unbounded memory.
     match active_at(slots, connector) {
         Some(active) if begin.is_repeat_of(&active.begin) => Began::Repeat(active.id),
         _ => Began::Fresh,

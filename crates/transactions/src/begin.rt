@@ -1,4 +1,4 @@
-//! What a charge point tells of a transaction that begins.
+//! The fields of a StartTransaction.
 
 ghost use Rattle.std.specs.Prelude.{◌≡◌, ◌↔◌, IsTrue, IfOk};
 ghost use Rattle.std.specs.Str.{str_eq_ignore_ascii_case};
@@ -7,10 +7,10 @@ ghost use Rattle.transactions.specs.Begin.{is_repeat};
 use ocpp_scalars::{IdTag, Instant};
 use std::alloc::{AllocError, Global};
 
-/// What a charge point tells of a transaction that begins (chapter 6, StartTransaction.req).
+/// The fields of a StartTransaction (chapter 6, StartTransaction.req).
 #[derive(Drop)]
 pub struct Begin {
-    /// idTag: who starts it.
+    /// idTag: the identifier that starts the transaction.
     pub id_tag: IdTag,
     /// meterStart, in Wh.
     pub meter_start: i32,
@@ -18,11 +18,12 @@ pub struct Begin {
 }
 
 impl Begin {
-    /// Whether this is the earlier StartTransaction, retransmitted: meterStart and timestamp are equal,
-    /// and so is idTag, where the case of ASCII letters doesn't count.
+    /// Whether this StartTransaction is a retransmission of an earlier one: meterStart and
+    /// timestamp are equal, and so is idTag, in which the case of ASCII letters doesn't count.
     pub fn is_repeat_of(&self, earlier: &Begin) -> bool
         ensures { result ≡ is_repeat self.now earlier.now }
     {
+        // By these fields and not by its message id: a point may use a new id for each try.
         self.has_tag_of(earlier)
             && self.meter_start == earlier.meter_start
             && self.timestamp == earlier.timestamp
@@ -36,7 +37,7 @@ impl Begin {
             .eq_ignore_ascii_case(earlier.id_tag.as_str())
     }
 
-    /// A copy.
+    /// Returns a copy.
     pub fn copy(&self, alloc: Global) -> Result<Begin, AllocError>
         ensures { IfOk result (λ copy. copy ≡ self.now) }
     {
@@ -47,7 +48,7 @@ impl Begin {
         })
     }
 
-    /// Whether two are equal, the idTags with their letters' case.
+    /// Whether two are equal; the case of idTags counts.
     pub fn same(&self, other: &Begin) -> bool
         ensures { IsTrue result ↔ (self.now ≡ other.now) }
     {

@@ -10,12 +10,12 @@ use std::alloc::{AllocError, Global};
 pub struct Transaction {
     /// transactionId.
     pub id: i32,
-    /// How it began.
+    /// The StartTransaction that began it.
     pub begin: Begin,
 }
 
 impl Transaction {
-    /// A copy.
+    /// Returns a copy.
     pub fn copy(&self, alloc: Global) -> Result<Transaction, AllocError>
         ensures { IfOk result (λ copy. copy ≡ self.now) }
     {
@@ -25,7 +25,7 @@ impl Transaction {
         })
     }
 
-    /// Whether two are equal, the idTags with their letters' case.
+    /// Whether two are equal; the case of idTags counts.
     pub fn same(&self, other: &Transaction) -> bool
         ensures { IsTrue result ↔ (self.now ≡ other.now) }
     {

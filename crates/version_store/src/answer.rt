@@ -1,4 +1,4 @@
-//! What is handed out.
+//! Answers that are handed out.
 
 ghost use Rattle.std.specs.Prelude.{◌≡◌};
 ghost use Rattle.std.specs.Arc.{arc_value};
@@ -10,8 +10,8 @@ use site_core::SharedBook;
 use std::marker::Model;
 use std::sync::Arc;
 
-/// The answer to a request for a composite schedule (chapter 5.7), with the request's number, what
-/// its point had when it was taken, and the `Ask`.
+/// The answer to a request for a composite schedule (chapter 5.7), with the request's number, the
+/// book that its point had when it was taken, and the `Ask`.
 #[derive(Drop)]
 pub struct Answer {
     number: u64,
@@ -54,36 +54,36 @@ impl Answer {
         }
     }
 
-    /// The request's number.
+    /// Returns the request's number.
     pub fn number(&self) -> u64
         ensures { result ≡ self.now.number }
     {
         self.number
     }
 
-    /// What the point had when the request was taken.
+    /// Returns the book that the point had when the request was taken.
     pub fn book(&self) -> &PointBook
         ensures { result.now ≡ self.now.book }
     {
         &self.book
     }
 
-    /// What was asked.
+    /// Returns the request's `Ask`.
     pub fn ask(&self) -> &Ask
         ensures { result.now ≡ self.now.ask }
     {
         &self.ask
     }
 
-    /// The answer: the exact schedule, or that it is too long, that memory ran out, or that the
-    /// central system was stopped before.
+    /// Returns the answer: the exact schedule, or the refusal that it is too long, that memory ran
+    /// out, or that the central system was stopped before.
     pub fn answer(&self) -> &Result<Composite, Refusal>
         ensures { result.now ≡ self.now.answer }
     {
         &self.answer
     }
 
-    /// The answer, by itself.
+    /// Returns the answer without the rest.
     pub fn into_answer(self) -> Result<Composite, Refusal>
         ensures { result ≡ self.answer }
     {

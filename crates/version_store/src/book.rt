@@ -31,13 +31,13 @@ use std::marker::Model;
 use std::sync::ledger::{Blank, Ledger};
 
 /// The central system of a site with the history that led to it. Each call that changes something
-/// adds one event, and none is ever refused because the history is full. A pass fits only the book
-/// that it was made with, and the two ledgers see to that.
+/// adds one event, and no call is ever refused because the history is full. A pass fits only the
+/// book that it was made with: the types of the two ledgers ensure that.
 #[derive(Drop)]
 pub struct Book<C: Ledger, A: Ledger, N: ListName = NoName> {
     history: History,
     ledgers: Ledgers<C, A>,
-    /// Who records its changes.
+    /// The recorder of its changes.
     recorder: StateRecorder<N>,
 }
 
@@ -55,8 +55,7 @@ impl<C: Ledger, A: Ledger, N: ListName> Model for Book<C, A, N> {
 }
 
 impl<C: Ledger, A: Ledger> Book<C, A> {
-    /// The book of a site where nothing was done yet, with a pass for each session, which counts
-    /// nothing yet.
+    /// Makes the book of a site at its opening, with an unused pass for each session.
     pub fn make(
         alloc: Global,
         changes: Blank,
@@ -84,7 +83,7 @@ impl<C: Ledger, A: Ledger> Book<C, A> {
 }
 
 impl<C: Ledger, A: Ledger, N: ListName> Book<C, A, N> {
-    /// The same, whose states are recorded in a ghost list.
+    /// Makes the same, with its states recorded in a ghost list.
     pub fn make_with(
         alloc: Global,
         changes: Blank,
@@ -107,7 +106,7 @@ impl<C: Ledger, A: Ledger, N: ListName> Book<C, A, N> {
         Book::make_from(alloc, changes, answers, site, sessions, recorder)
     }
 
-    /// The book of a site where nothing was done yet, with who records its states.
+    /// Makes the book of a site at its opening, with the recorder of its states.
     fn make_from(
         alloc: Global,
         changes: Blank,
@@ -127,6 +126,7 @@ impl<C: Ledger, A: Ledger, N: ListName> Book<C, A, N> {
     {
         let history = History::new(alloc, site)?;
         let (ledgers, changed, answered) = Ledgers::open(changes, answers);
+        // All passes are made now: a later one could count a session twice, against the totals.
         let passes = passes_of(alloc, changed, answered, sessions)?;
         let book = Book {
             history,
@@ -136,8 +136,8 @@ impl<C: Ledger, A: Ledger, N: ListName> Book<C, A, N> {
         Ok((book, passes))
     }
 
-    /// Ends the book. With the passes of all its sessions, the numbers of changes that were made
-    /// and of answers that were handed out are what those passes count together.
+    /// Ends the book with the passes of all its sessions. Returns the numbers of changes made and of
+    /// answers handed out, which are the sums of those passes.
     pub fn settle(self, passes: Vec<Pass<C, A>>) -> Totals
         requires changes { C.parts ≤ length passes.items }
         requires answers { A.parts ≤ length passes.items }
@@ -151,14 +151,14 @@ impl<C: Ledger, A: Ledger, N: ListName> Book<C, A, N> {
 }
 
 impl<C: Ledger, A: Ledger, N: ListName> Book<C, A, N> {
-    /// What is recorded of its states by now.
+    /// Returns the states that are recorded by now.
     pub fn recorded(&self) -> RecordedStates<N>
         ensures { IsAt N.is_recorded result self.now.present }
     {
         self.recorder.recorded()
     }
 
-    /// Makes a step of a session: what each of its calls stands for. On a refusal the step comes
+    /// Makes a step of a session. Its other calls each make such a step. On a refusal the step comes
     /// back.
     pub fn make_step(&mut self, pass: &mut Pass<C, A>, step: Step) -> Result<Reply, Refused>
         requires { may_fold step ≡ true }
@@ -177,11 +177,11 @@ impl<C: Ledger, A: Ledger, N: ListName> Book<C, A, N> {
         Ok(reply)
     }
 
-    /// How many events are stored. With what is always so of a book. Its present state is the
-    /// replay of its base and of these events, and the history is legal. Each kept request has the
-    /// book that its Take, or the base, gave it. Each answer is right for that book and the `Ask`.
-    /// Each point's audit has the book that the point had when it was begun, and its verdict is one
-    /// for that book and something that the point said.
+    /// Returns the number of stored events. Also shows the invariant of a book. Its present state is
+    /// the replay of its base and of these events, and the history is legal. Each kept request has
+    /// the book that its Take, or the base, gave it. Each answer is right for that book and the
+    /// `Ask`. Each point's audit has the book that the point had when it was begun, and its verdict
+    /// is Unsettled, or one on that book and something that the point may have replied.
     pub fn stored(&self) -> usize
         ensures value { result ≡ length self.now.events }
         ensures store { IsStore self.now }
@@ -189,7 +189,7 @@ impl<C: Ledger, A: Ledger, N: ListName> Book<C, A, N> {
         self.history.events().len()
     }
 
-    /// The state that the stored events begin with.
+    /// Returns the state that the stored events begin with.
     pub fn base(&self) -> &Machine
         ensures value { result.now ≡ self.now.base }
         ensures machine { IsMachine self.now.base }
@@ -199,74 +199,74 @@ impl<C: Ledger, A: Ledger, N: ListName> Book<C, A, N> {
         base
     }
 
-    /// The stored events, the first one first.
+    /// Returns the stored events, in order.
     pub fn events(&self) -> &[StoredEvent]
         ensures { result.now ≡ self.now.events }
     {
         self.history.events()
     }
 
-    /// The state now.
+    /// Returns the present state.
     pub fn present(&self) -> &Machine
         ensures { result.now ≡ self.now.present }
     {
         self.history.present()
     }
 
-    /// What the last fold left behind, if it wasn't taken yet. Whoever shares the book drops it
-    /// without its lock.
+    /// Takes the remains of the last fold, if they weren't taken yet. Callers that share the book
+    /// drop them without its lock.
     pub fn take_folded(&mut self) -> Option<Folded>
         ensures { self.new ≡ self.old }
     {
         self.history.take_folded()
     }
 
-    /// Gives back the memory of events that `Folded::into_room` left, so that the next fold needs
-    /// no new one.
+    /// Gives back the memory of events that `Folded::into_room` left, so that the next fold needs no
+    /// other.
     pub fn give_room(&mut self, room: EventRoom)
         ensures { self.new ≡ self.old }
     {
         self.history.give_room(room);
     }
 
-    /// How many changes were made and answers handed out, by all sessions.
+    /// Returns the numbers of changes made and answers handed out, by all sessions.
     pub fn totals(&self) -> Totals
         ensures { result ≡ self.now.made }
     {
         self.history.made()
     }
 
-    /// The version of the store: how many changes of points' books were made.
+    /// Returns the version of the store: the number of changes of points' books.
     pub fn version(&self) -> u64
         ensures { result ≡ self.now.present.numbers.version }
     {
         self.present().version()
     }
 
-    /// How many requests for schedules are kept.
+    /// Returns the number of kept requests for schedules.
     pub fn open_requests(&self) -> usize
         ensures { result ≡ length self.now.present.requests }
     {
         self.present().open_requests()
     }
 
-    /// How many calls of the point of an identity aren't confirmed, 0 where the site has no such
-    /// point.
+    /// Returns the number of unconfirmed calls of the point of an identity, 0 if the site has no
+    /// such point.
     pub fn outbox_len(&self, point: &str) -> usize
         ensures { result ≡ outbox_len self.now.present point.now }
     {
         self.present().outbox_len(point)
     }
 
-    /// The present link of the point of an identity, if it has one.
+    /// Returns the present link of the point of an identity, if it has one.
     pub fn link_of(&self, point: &str) -> Option<u64>
         ensures { result ≡ link_of self.now.present point.now }
     {
         self.present().link_of(point)
     }
 
-    /// The link over which a call is to be sent now to the point of an identity, if there is such a
-    /// call.
+    /// Returns the link over which a call can be sent now to the point of an identity, if there is
+    /// such a call.
     pub fn link_to_send(&self, point: &str) -> Option<u64>
         ensures { result ≡ link_to_send self.now.present point.now }
     {

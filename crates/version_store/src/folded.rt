@@ -1,4 +1,4 @@
-//! What a fold leaves behind, and the memory of events that is kept from fold to fold.
+//! The remains of a fold, and the memory of events that is kept from fold to fold.
 
 ghost use Rattle.std.specs.Prelude.{◌≡◌, ◌≤◌, [], IfOk, vec_capacity};
 ghost use Rattle.version_store.specs.Limits.{room};
@@ -8,10 +8,12 @@ use site_core::Machine;
 use std::alloc::{AllocError, Global};
 use std::marker::Model;
 
-/// So many events have their room from the beginning.
+/// The number of events for which there is memory from the beginning.
+// The rest above `FOLD_FROM` is for posts, collects and the finish, which add events without
+// folding: at most two for each kept request, and one.
 pub(crate) const ROOM: usize = 4_096;
 
-/// The memory of as many events as may be stored, with none in it.
+/// The memory of as many events as can be stored, with none in it.
 #[derive(Drop)]
 pub struct EventRoom {
     events: Vec<StoredEvent>,
@@ -36,7 +38,7 @@ impl EventRoom {
         })
     }
 
-    /// The memory that was given back, or else new.
+    /// Takes the memory that was given back, or allocates it.
     pub(crate) fn take(
         given: &mut Option<EventRoom>,
         alloc: Global,
@@ -55,8 +57,8 @@ impl EventRoom {
     }
 }
 
-/// What a fold leaves behind: the old base and the events since. Nothing is read from it any more,
-/// but to drop it takes longer than the fold, since the points' books have mostly changed since.
+/// The remains of a fold: the old base and the events since. Nothing reads them any more, but
+/// dropping them takes longer than the fold, since most points' books have changed since.
 #[derive(Drop)]
 pub struct Folded {
     base: Machine,
@@ -82,7 +84,7 @@ impl Folded {
         Folded { base, events }
     }
 
-    /// Drops the old base and the events, and leaves the memory of the events to a later fold.
+    /// Drops the old base and the events, and returns the memory of the events for a later fold.
     pub fn into_room(self) -> EventRoom {
         let Folded { base, mut events } = self;
         drop(base);

@@ -25,7 +25,7 @@ use std::marker::Model;
 use std::mem::replace;
 use sweep_compiler::Compiled;
 
-/// With this many events or more, a call that is to add one folds the history first.
+/// With this many events or more, a call that adds one folds the history first.
 const FOLD_FROM: usize = 3_900;
 
 /// The state of the central system with the history that led to it.
@@ -34,14 +34,14 @@ pub(crate) struct History {
     alloc: Global,
     /// The state that the stored events begin with.
     base: Machine,
-    /// The changes and answers until then.
+    /// The numbers of changes and answers until then.
     based: Totals,
     events: Vec<StoredEvent>,
     present: Machine,
     made: Totals,
-    /// What the last fold left behind, until it is taken.
+    /// The remains of the last fold, until they are taken.
     folded: Option<Folded>,
-    /// The memory of the events after the next fold, once it was given back.
+    /// The memory for the events after the next fold, once it was given back.
     spare: Option<EventRoom>,
 }
 
@@ -78,10 +78,11 @@ impl Model for History {
 }
 
 impl History {
-    /// The history of a site where nothing was done yet.
+    /// Makes the history of a site at its opening.
     pub fn new(alloc: Global, site: Site) -> Result<History, AllocError>
         ensures { IfOk result (λ history. history ≡ opening_store site) }
     {
+        // This and other calls of `machine_laws` do nothing at run time: proofs need their clauses.
         machine_laws();
         let present = Machine::new(alloc, site)?;
         let base = present.copy()?;
@@ -122,22 +123,22 @@ impl History {
         self.made
     }
 
-    /// What the last fold left behind, if it wasn't taken yet.
+    /// Takes the remains of the last fold, if they weren't taken yet.
     pub fn take_folded(&mut self) -> Option<Folded>
         ensures { self.new ≡ self.old }
     {
         self.folded.take()
     }
 
-    /// Gives memory of events back, for the next fold.
+    /// Gives memory of events back for the next fold.
     pub fn give_room(&mut self, room: EventRoom)
         ensures { self.new ≡ self.old }
     {
         self.spare = Some(room);
     }
 
-    /// Makes a step that brings no answer, and adds its event, if it is one. On a refusal the step
-    /// comes back.
+    /// Makes a step that brings no answer, and adds it if it is an event. On a refusal the step comes
+    /// back.
     pub fn make(&mut self, step: Step) -> Result<Reply, Refused>
         requires { may_fold step ≡ true }
         ensures makes { IfOk result (λ reply. Makes self.old step reply self.new) }
@@ -151,6 +152,8 @@ impl History {
         if self.events.len() < FOLD_FROM {
             return self.make_in_room(step);
         }
+        // Only an event folds: a refused step must change nothing, and an answer alone takes no
+        // memory.
         match self.present.outlook(&step) {
             Ok(true) => {
                 self.gather_calls();
@@ -162,13 +165,14 @@ impl History {
     }
 
     /// Gathers the calls to each point, so that the new base shares them.
+    // Otherwise each fold would copy all waiting calls under the lock.
     fn gather_calls(&mut self)
         ensures { self.new ≡ self.old }
     {
         self.present.gather_calls();
     }
 
-    /// Makes a step, for the event of which there is room.
+    /// Makes a step and adds its event, for which there is room.
     fn make_in_room(&mut self, step: Step) -> Result<Reply, Refused>
         requires can_fold { may_fold step ≡ true }
         requires few { length self.old.events < fold_from }
@@ -195,7 +199,7 @@ impl History {
         Ok(reply)
     }
 
-    /// Makes a step that is no event.
+    /// Makes a step that isn't an event.
     fn reply_alone(&mut self, step: Step) -> Reply
         requires can_fold { may_fold step ≡ true }
         requires no_event { outlook self.old.present step ≡ Ok false }
@@ -224,6 +228,8 @@ impl History {
         ensures back { IfErr result (λ refused. refused.step ≡ step) }
     {
         machine_laws();
+        // The base is the state before the step, which then is the first event after the fold. All
+        // memory comes first, so that a refusal leaves the old history.
         let Ok(base) = self.present.copy() else {
             return Err(without_memory(step));
         };
@@ -233,7 +239,7 @@ impl History {
         let reply = match self.present.make(&step) {
             Ok(reply) => reply,
             Err(refusal) => {
-                // The room is there for the next fold.
+                // The memory stays for the next fold.
                 self.spare = Some(room);
                 return Err(Refused { refusal, step });
             }
@@ -241,6 +247,7 @@ impl History {
         self.present.open_requests();
         let old_base = replace(&mut self.base, base);
         let old_events = replace(&mut self.events, room.into_events());
+        // Kept to be dropped without the book's lock, which this call runs under.
         self.folded = Some(Folded::new(old_base, old_events));
         self.based = self.made;
         self.made = self.made.after(&reply);
@@ -248,8 +255,8 @@ impl History {
         Ok(reply)
     }
 
-    /// Compiles the request of a number with an answer that is brought, and adds the event. On a
-    /// refusal the answer comes back.
+    /// Compiles the request of a number with a brought answer, and adds the event. On a refusal the
+    /// answer comes back.
     pub fn post(&mut self, number: u64, brought: Compiled) -> Result<(), (Refusal, Compiled)>
         ensures posts { IfOk result (λ _. PostsTo self.old number brought self.new) }
         ensures refused { IfErr result (λ refused.
@@ -265,7 +272,7 @@ impl History {
         Ok(())
     }
 
-    /// Hands out the answer to the request of a number, and adds the event, if it has one.
+    /// Hands out the answer to the request of a number, and adds the event if there is one.
     pub fn hand_out(&mut self, number: u64) -> Result<Reply, Refusal>
         ensures makes { IfOk result (λ reply. Makes self.old (steps.Answer number) reply self.new) }
         ensures own { IfOk result (λ reply. is_reply_to (steps.Answer number) reply ≡ true) }
@@ -291,7 +298,7 @@ impl History {
         Ok(reply)
     }
 
-    /// Stops the central system, and adds the event, if it wasn't stopped.
+    /// Stops the central system, and adds the event if it wasn't stopped.
     pub fn finish(&mut self)
         ensures { Makes self.old steps.Finish Reply.Finished self.new }
     {

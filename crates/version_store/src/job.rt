@@ -1,4 +1,4 @@
-//! What is to be compiled.
+//! Jobs to compile.
 
 ghost use Rattle.std.specs.Prelude.{◌≡◌, ◌≤◌, IfOk, length};
 ghost use Rattle.std.specs.Arc.{arc_value};
@@ -10,8 +10,8 @@ use std::alloc::AllocError;
 use std::marker::Model;
 use std::sync::Arc;
 
-/// A request for a composite schedule (chapter 5.7) that was taken: its number, what its point had
-/// then, and the `Ask`. The point has the connector that is asked.
+/// A taken request for a composite schedule (chapter 5.7): its number, its point's book at that
+/// time, and the `Ask`. The point has the connector of the `Ask`.
 #[derive(Drop)]
 pub struct Job {
     number: u64,
@@ -45,28 +45,29 @@ impl Job {
         }
     }
 
-    /// The request's number.
+    /// Returns the request's number.
     pub fn number(&self) -> u64
         ensures { result ≡ self.now.number }
     {
         self.number
     }
 
-    /// What its point had when the request was taken, shared with who compiles it. Copies nothing.
+    /// Returns the book that its point had when the request was taken, with one more owner. Copies
+    /// nothing.
     pub fn share_book(&self) -> Result<Arc<PointBook>, AllocError>
         ensures { IfOk result (λ book. arc_value book ≡ self.now.book) }
     {
         Arc::try_clone(&self.book)
     }
 
-    /// What is asked.
+    /// Returns the `Ask`.
     pub fn ask(&self) -> &Ask
         ensures { result.now ≡ self.now.ask }
     {
         &self.ask
     }
 
-    /// The request's number, what its point had when it was taken, and the `Ask`.
+    /// Returns the request's number, the book that its point had when it was taken, and the `Ask`.
     pub fn into_parts(self) -> (u64, Arc<PointBook>, Ask)
         ensures number { result.0 ≡ self.number }
         ensures book { arc_value result.1 ≡ self.book }

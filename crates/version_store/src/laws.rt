@@ -1,4 +1,4 @@
-//! The laws of the machine, for who proves what it keeps.
+//! The laws of the machine, for proofs of the stored history.
 
 ghost use Rattle.version_store.specs.ByCases.Laws.{Laws};
 
@@ -8,7 +8,7 @@ use site_core::{
     verdicts_stay_right,
 };
 
-/// The laws of the machine that the stored history stands on.
+/// The laws of the machine that the proofs of the stored history use.
 pub(crate) fn machine_laws()
     ensures { Laws }
 {

@@ -1,4 +1,4 @@
-//! The counting of changes and answers over all sessions.
+//! Counts of changes and answers over all sessions.
 
 ghost use Rattle.std.specs.Prelude.{◌≡◌, ◌≤◌, length};
 ghost use Rattle.version_store.specs.Passes.{no_totals, totals_after, pass_after, totals_together};
@@ -10,12 +10,12 @@ use std::marker::Model;
 use std::sync::ledger;
 use std::sync::ledger::{Blank, Ledger, Share};
 
-/// The changes and answers of all passes, which have their parts of both. Takes no memory.
+/// The changes and answers of all passes, each of which has its part of both. Takes no memory.
 #[derive(Drop)]
 pub(crate) struct Ledgers<C: Ledger, A: Ledger> {
     changed: ledger::Book<C>,
     answered: ledger::Book<A>,
-    /// Of no part: in the end they take in those of the passes.
+    /// Shares of no part. In the end they take in those of the passes.
     no_changes: Share<C>,
     no_answers: Share<A>,
 }
@@ -33,7 +33,7 @@ impl<C: Ledger, A: Ledger> Model for Ledgers<C, A> {
 }
 
 impl<C: Ledger, A: Ledger> Ledgers<C, A> {
-    /// With nothing counted, and all parts of both.
+    /// Opens the ledgers with nothing counted, and returns all parts of both.
     pub fn open(changes: Blank, answers: Blank) -> (Ledgers<C, A>, Share<C>, Share<A>)
         requires changes { (changes.name ≡ C.name) × (changes.parts ≡ C.parts) }
         requires answers { (answers.name ≡ A.name) × (answers.parts ≡ A.parts) }
@@ -52,22 +52,25 @@ impl<C: Ledger, A: Ledger> Ledgers<C, A> {
         (ledgers, all_changed, all_answered)
     }
 
-    /// Counts a call of a session in its pass, after which the totals are these, at this version.
+    /// Counts a call of a session in its pass. After it, the totals and the version are these.
     pub fn count(&mut self, pass: &mut Pass<C, A>, reply: &Reply, totals: Totals, version: u64)
         requires { totals ≡ totals_after self.old reply.now }
         ensures totals { self.new ≡ totals }
         ensures counts { pass.new ≡ pass_after pass.old reply.now version }
     {
         let counted = Totals::of(reply);
+        // The audits do nothing at run time: they show the prover that a pass counts no more than
+        // the total, so that adding can't overflow.
         self.changed.audit(&mut pass.changed);
         self.answered.audit(&mut pass.answered);
         self.changed.add(&mut pass.changed, counted.changes);
         self.answered.add(&mut pass.answered, counted.answers);
         pass.totals = pass.totals.after(reply);
+        // A maximum, since a pass used at an older store must keep the newer version it has seen.
         pass.seen = pass.seen.max(version);
     }
 
-    /// Ends the counting: all passes together count the totals.
+    /// Ends the counts: the sums of all passes are the totals.
     pub fn settle(self, passes: Vec<Pass<C, A>>)
         requires changes { C.parts ≤ length passes.items }
         requires answers { A.parts ≤ length passes.items }

@@ -1,7 +1,7 @@
 //! The central system as sessions use it: the state of a site with the history that led to it,
-//! under a lock where threads share it. Each change is one event of the history. Where the history
-//! has grown long it begins anew with the present state, so it never fills up. What a call makes of
-//! the store stands in `specs/Calls.antt`, what is always so of it in `specs/Store.antt`.
+//! under a lock if threads share it. Each change is one event of the history. A long history is
+//! folded: it begins again with the present state, so it never fills up. `specs/Calls.antt` defines
+//! the effect of a call on the store, `specs/Store.antt` the store's invariant.
 #![tactic(auto)]
 
 mod answer;

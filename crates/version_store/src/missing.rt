@@ -1,4 +1,4 @@
-//! That passes are missing.
+//! The error of missing passes.
 
 /// Fewer passes were given than were made.
 #[derive(Clone, Copy, PartialEq, Eq)]

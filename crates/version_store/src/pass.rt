@@ -1,4 +1,4 @@
-//! What a session's calls have made and been answered.
+//! The counts of a session's own calls.
 
 ghost use Rattle.std.specs.Prelude.{◌≡◌, IfOk, All, length};
 ghost use Rattle.version_store.specs.Passes.{unused_pass};
@@ -8,8 +8,8 @@ use std::alloc::{AllocError, Global};
 use std::marker::Model;
 use std::sync::ledger::{Ledger, Share};
 
-/// What one session counts: the changes and the answers of its own calls, and the newest version of
-/// the store that it has seen. It fits only the book that it was made with.
+/// The counts of one session: the changes and the answers of its own calls, and the newest version
+/// of the store that it has seen. It fits only the book that it was made with.
 #[derive(Drop)]
 pub struct Pass<C: Ledger, A: Ledger> {
     /// Its part of the book's changes, and of its answers.
@@ -33,7 +33,7 @@ impl<C: Ledger, A: Ledger> Model for Pass<C, A> {
 }
 
 impl<C: Ledger, A: Ledger> Pass<C, A> {
-    /// Of a session that has made no call yet.
+    /// Makes the pass of a session that has made no call yet.
     pub(crate) fn new(changed: Share<C>, answered: Share<A>) -> Pass<C, A>
         requires parts { (changed.parts ≡ 1) × (answered.parts ≡ 1) }
         requires amounts { (changed.amount ≡ 0) × (answered.amount ≡ 0) }
@@ -47,7 +47,7 @@ impl<C: Ledger, A: Ledger> Pass<C, A> {
         }
     }
 
-    /// Its parts of the book's changes and answers, each with what it counts of them.
+    /// Returns its parts of the book's changes and answers, each with its count.
     pub(crate) fn into_shares(self) -> (Share<C>, Share<A>)
         ensures parts { (result.0.parts ≡ 1) × (result.1.parts ≡ 1) }
         ensures changes { result.0.amount ≡ self.totals.changes }
@@ -56,14 +56,14 @@ impl<C: Ledger, A: Ledger> Pass<C, A> {
         (self.changed, self.answered)
     }
 
-    /// How many changes its calls made, and how many answers were handed out to them.
+    /// Returns the numbers of changes that its calls made, and of answers handed out to them.
     pub fn totals(&self) -> Totals
         ensures { result ≡ self.now.totals }
     {
         self.totals
     }
 
-    /// The newest version of the store that it has seen, 0 for none.
+    /// Returns the newest version of the store that the session has seen, 0 for none.
     pub fn seen(&self) -> u64
         ensures { result ≡ self.now.seen }
     {
@@ -71,7 +71,7 @@ impl<C: Ledger, A: Ledger> Pass<C, A> {
     }
 }
 
-/// Passes for this many sessions, which have all the parts.
+/// Makes passes for this many sessions, which together have all the parts.
 pub(crate) fn passes_of<C: Ledger, A: Ledger>(
     alloc: Global,
     mut changed: Share<C>,

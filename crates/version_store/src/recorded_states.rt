@@ -1,4 +1,4 @@
-//! The states that a book had, as its journal has to account for them.
+//! The states that a book had, for which its journal must account.
 
 ghost use Rattle.std.specs.Prelude.{◌≡◌, true, false};
 ghost use mathlib.Core.List.{IsPrefix};
@@ -10,7 +10,7 @@ use site_core::Machine;
 use site_rules::Site;
 use std::marker::Model;
 
-/// The name of no ghost list, for books whose states aren't recorded.
+/// A name without a ghost list, for books whose states aren't recorded.
 pub struct NoName;
 
 impl ListName for NoName {
@@ -23,25 +23,26 @@ impl ListName for NoName {
     ghost is_recorded = { false };
 }
 
-/// A state without its requests for schedules.
+/// The entry is a state without its requests for schedules.
 struct Forgotten;
 
 impl EntryFrom<Machine, Machine> for Forgotten {
     ghost entry = { forget };
 }
 
-/// The state of a site where nothing was done yet.
+/// The entry is the state of a site at its opening.
 struct Opened;
 
 impl EntryFrom<Site, Machine> for Opened {
     ghost entry = { λ site. forget (opening site) };
 }
 
-/// Records the states of a book in the ghost list N: the first one, and that after each change. At
-/// run time it counts them. Or it records nothing.
+/// The recorder of a book's states in the ghost list N: the first one, and that after each change.
+/// At run time it counts them. It may also record nothing.
 #[derive(Drop)]
 pub(crate) struct StateRecorder<N: ListName> {
     states: Option<GhostList<Machine, N>>,
+    // States take no memory, so two lists can only be compared by their lengths.
     count: u64,
 }
 
@@ -58,7 +59,7 @@ impl<N: ListName> Model for StateRecorder<N> {
         × IsCountOf (or_none (option_map (λ c. c.entries) r.states)) r.count };
 }
 
-/// What was recorded of a book by some moment.
+/// The states of a book that were recorded by some moment.
 #[derive(Drop)]
 pub struct RecordedStates<N: ListName> {
     states: Option<Front<Machine, N>>,
@@ -79,7 +80,7 @@ impl<N: ListName> Model for RecordedStates<N> {
 }
 
 impl<N: ListName> StateRecorder<N> {
-    /// Records nothing.
+    /// Makes a recorder that records nothing.
     pub(crate) fn nothing() -> StateRecorder<N>
         requires { N.is_recorded ≡ false }
     {
@@ -89,7 +90,7 @@ impl<N: ListName> StateRecorder<N> {
         }
     }
 
-    /// Has the state of a site where nothing was done yet.
+    /// Makes a recorder with the state of a site at its opening.
     pub(crate) fn new(unnamed: Unnamed, site: &Site) -> StateRecorder<N>
         requires name { unnamed.name ≡ N.name }
         requires recorded { N.is_recorded ≡ true }
@@ -109,11 +110,12 @@ impl<N: ListName> StateRecorder<N> {
     {
         if let Some(states) = &mut self.states {
             states.add_from::<Machine, Forgotten>(present);
+            // Saturates: at the largest number no comparison holds any more, instead of a false one.
             self.count = self.count.saturating_add(1);
         }
     }
 
-    /// What was recorded by now.
+    /// Returns the states that were recorded by now.
     pub(crate) fn recorded(&self) -> RecordedStates<N>
         ensures { result ≡ self.now }
     {
@@ -138,7 +140,7 @@ impl<N: ListName> RecordedStates<N> {
         self.states.is_some()
     }
 
-    /// A copy.
+    /// Copies the recorded states.
     pub fn copy(&self) -> RecordedStates<N>
         ensures { result ≡ self.now }
     {
@@ -154,7 +156,7 @@ impl<N: ListName> RecordedStates<N> {
         }
     }
 
-    /// Whether states are recorded, and these are the other ones, and perhaps more.
+    /// Whether states are recorded, and these begin with the other ones.
     pub fn is_at_least(&self, other: &RecordedStates<N>) -> bool
         ensures { result ≡ true → IsPrefix other.now self.now }
     {
@@ -166,6 +168,7 @@ impl<N: ListName> RecordedStates<N> {
     }
 
     /// Whether states are recorded, and these are the other ones and one more.
+    // False at the largest count, which saturates and so may stand for more states.
     pub fn is_next_of(&self, other: &RecordedStates<N>) -> bool
         ensures next { result ≡ true → IsNextOf other.now self.now }
         ensures recorded { result ≡ true → N.is_recorded ≡ true }
@@ -177,7 +180,7 @@ impl<N: ListName> RecordedStates<N> {
         other.count < self.count && self.count - other.count == 1 && self.count < u64::MAX
     }
 
-    /// Whether states are recorded, and these are the other ones: as many, as far as a number counts.
+    /// Whether states are recorded, and these are the other ones. False at the largest count.
     pub fn is_same(&self, other: &RecordedStates<N>) -> bool
         ensures same { result ≡ true → self.now ≡ other.now }
         ensures recorded { result ≡ true → N.is_recorded ≡ true }

@@ -12,7 +12,7 @@ use crate::recorded_states::StateRecorder;
 use ghost_list::ListName;
 use site_core::{Refused, Reply, Step};
 
-/// Makes a step that brings no answer, and records the state that it leads to, if it is a change.
+/// Makes a step that brings no answer, and records the state after it, if it is a change.
 pub(crate) fn make_recorded<N: ListName>(
     history: &mut History,
     recorder: &mut StateRecorder<N>,
@@ -31,8 +31,10 @@ pub(crate) fn make_recorded<N: ListName>(
     ensures back { IfErr result (λ refused. refused.step ≡ step) }
 {
     let was_stopped = history.present().is_stopped();
+    // Read before the step is consumed.
     let is_request = is_of_request(&step);
     let reply = history.make(step)?;
+    // Requests aren't restored from a journal, so its entries needn't account for them.
     if !is_request && reply.is_event(was_stopped) {
         recorder.record(history.present());
     }

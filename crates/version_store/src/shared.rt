@@ -20,17 +20,18 @@ use std::sync::ledger::{Blank, Ledger};
 use std::sync::{Condvar, Mutex, MutexGuard, Wait};
 use std::time::Duration;
 
-/// The book of the central system, which one thread at a time has. Each of its calls is made by
-/// whoever has it, so all that is said of a book holds between any calls of any threads.
+/// The book of the central system, which one thread at a time has. Only that thread calls its
+/// methods, so the invariant of a book holds between any calls of any threads.
 #[derive(Drop)]
 pub struct Shared<C: Ledger, A: Ledger, N: ListName = NoName> {
     book: Mutex<Book<C, A, N>>,
-    /// Those wait here who wait for an answer, each where the number of its request says.
+    /// The condition variables of threads that wait for an answer, chosen by the request's number.
     places: Vec<Condvar>,
     sessions: u64,
 }
 
-/// So many places there are to wait at: as many as requests may be kept, so that few share one.
+/// The number of condition variables: as many as kept requests, so that few requests share one.
+// With one for all, each answer would wake every session that waits.
 const PLACES: u64 = 64;
 
 impl<C: Ledger, A: Ledger, N: ListName> Model for Shared<C, A, N> {
@@ -45,8 +46,7 @@ impl<C: Ledger, A: Ledger, N: ListName> Model for Shared<C, A, N> {
 }
 
 impl<C: Ledger, A: Ledger> Shared<C, A> {
-    /// The book of a site where nothing was done yet, with a pass for each session, which counts
-    /// nothing yet.
+    /// Makes the book of a site at its opening, with an unused pass for each session.
     pub fn make(
         alloc: Global,
         changes: Blank,
@@ -70,7 +70,7 @@ impl<C: Ledger, A: Ledger> Shared<C, A> {
 }
 
 impl<C: Ledger, A: Ledger, N: ListName> Shared<C, A, N> {
-    /// The same, whose book's states are recorded in a ghost list.
+    /// Makes the same, with the book's states recorded in a ghost list.
     pub fn make_with(
         alloc: Global,
         changes: Blank,
@@ -95,7 +95,7 @@ impl<C: Ledger, A: Ledger, N: ListName> Shared<C, A, N> {
         Ok((shared, passes))
     }
 
-    /// A book with so many passes, as threads share it.
+    /// Makes a book with this many passes shareable by threads.
     fn of_book(
         alloc: Global,
         book: Book<C, A, N>,
@@ -111,8 +111,8 @@ impl<C: Ledger, A: Ledger, N: ListName> Shared<C, A, N> {
         })
     }
 
-    /// Ends the book. With all passes that were made, the numbers of changes that were made and of
-    /// answers that were handed out, which are what their passes count together.
+    /// Ends the book with all passes that were made. Returns the numbers of changes made and of
+    /// answers handed out, which are the sums of the passes.
     pub fn settle(self, passes: Vec<Pass<C, A>>) -> Result<Totals, Missing>
         ensures together { IfOk result (λ totals. totals ≡ totals_together passes.items) }
         ensures whole { IfOk result (λ totals. self ≤ length passes.items) }
@@ -133,15 +133,15 @@ impl<C: Ledger, A: Ledger, N: ListName> Shared<C, A, N> {
 }
 
 impl<C: Ledger, A: Ledger, N: ListName> Shared<C, A, N> {
-    /// How many sessions have a pass.
+    /// Returns the number of sessions that have a pass.
     pub fn sessions(&self) -> u64
         ensures { result ≡ self.now }
     {
         self.sessions
     }
 
-    /// The book, once no other thread has it. Whatever was done to it meanwhile, all that is always
-    /// so of a book is so of this one.
+    /// Locks the book, once no other thread has it. The invariant of a book holds, whatever other
+    /// threads did meanwhile.
     pub fn lock<R: Wait>(&self, rt: &R) -> MutexGuard<'_, Book<C, A, N>>
         ensures { IsStore (mutex_guard_value result) }
     {
@@ -150,7 +150,7 @@ impl<C: Ledger, A: Ledger, N: ListName> Shared<C, A, N> {
         book
     }
 
-    /// The book. What a fold left behind is dropped while it is unlocked, so that nobody waits for
+    /// Locks the book. Drops the remains of a fold while it is unlocked, so that no thread waits for
     /// that.
     fn lock_unfolded<R: Wait>(&self, rt: &R) -> MutexGuard<'_, Book<C, A, N>> {
         let mut book = self.book.lock(rt);
@@ -164,37 +164,38 @@ impl<C: Ledger, A: Ledger, N: ListName> Shared<C, A, N> {
         book
     }
 
-    /// Wakes all who wait for an answer. Whoever has called `finish` calls it then.
+    /// Wakes all threads that wait for an answer. A thread calls it after `finish`.
     pub fn wake(&self) {
         for place in &self.places {
             place.notify_all();
         }
     }
 
-    /// Wakes those who wait for the answer to the request of a number. Whoever has posted it calls
-    /// it then.
+    /// Wakes the threads that wait for the answer to the request of a number. A thread calls it after
+    /// it has posted the answer.
     pub fn wake_for(&self, number: u64) {
         self.place_of(number).notify_all();
     }
 
-    /// Where it is waited for the answer to the request of a number.
+    /// Returns the condition variable for the request of a number.
     fn place_of(&self, number: u64) -> &Condvar {
         &self.places[(number % PLACES) as usize]
     }
 
-    /// The book, once the request of a number has its answer, or isn't kept.
+    /// Waits until the request of a number has its answer, or isn't kept, and locks the book.
     pub fn until_answered<R: Wait>(&self, rt: &R, number: u64) -> MutexGuard<'_, Book<C, A, N>>
         ensures store { IsStore (mutex_guard_value result) }
         ensures answered { awaits (mutex_guard_value result).present number ≡ false }
     {
         let book = self.lock(rt);
         let place = self.place_of(number);
+        // Tested again at each wake-up, since several requests may share a condition variable.
         let book = place.wait_while(rt, book, |book| book.awaits(number));
         book.stored();
         book
     }
 
-    /// The same, where it is so within a time.
+    /// Does the same for at most a given time. Returns none if that passes first.
     pub fn until_answered_within<R: Wait + Clock>(
         &self,
         rt: &R,

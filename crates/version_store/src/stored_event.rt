@@ -8,12 +8,11 @@ use ocpp_scalars::Refusal;
 use site_core::Step;
 use std::marker::Model;
 
-/// An event of a stored history: a step that was made, and for a Compile the answer that it
-/// brought.
+/// An event of a stored history: a step that was made, and for a Compile the answer that it brought.
 #[derive(Drop)]
 pub struct StoredEvent {
     step: Step,
-    /// Out of memory, where the step isn't a Compile.
+    /// `OutOfMemory` if the step isn't a Compile.
     answer: Result<Composite, Refusal>,
 }
 
@@ -26,7 +25,7 @@ impl Model for StoredEvent {
 }
 
 impl StoredEvent {
-    /// The event of a step that brings no answer.
+    /// Makes the event of a step that brings no answer.
     pub(crate) fn alone(step: Step) -> StoredEvent
         ensures { result ≡ event_alone step }
     {
@@ -36,7 +35,7 @@ impl StoredEvent {
         }
     }
 
-    /// The request of this number was compiled with this answer.
+    /// Makes the event that the request of this number was compiled with this answer.
     pub(crate) fn compiled(number: u64, answer: Result<Composite, Refusal>) -> StoredEvent
         ensures { result ≡ compile_event number answer }
     {
@@ -46,7 +45,7 @@ impl StoredEvent {
         }
     }
 
-    /// Its step.
+    /// Returns the step.
     pub fn step(&self) -> &Step
         ensures { result.now ≡ self.now.step }
     {

@@ -1,4 +1,4 @@
-//! How many changes were made and answers handed out.
+//! The numbers of changes made and answers handed out.
 
 ghost use Rattle.std.specs.Prelude.{◌≡◌, ◌+◌, ◌<◌, ◌^◌};
 ghost use Rattle.site_core.specs.Step.{counted};
@@ -6,7 +6,7 @@ ghost use Rattle.version_store.specs.Passes.{no_totals, totals_after};
 
 use site_core::{Counted, Reply};
 
-/// How many changes of points' books were made, and how many answers to requests were handed out.
+/// The numbers of changes of points' books that were made, and of answers that were handed out.
 #[derive(Clone, Copy, PartialEq, Eq)]
 pub struct Totals {
     pub changes: u64,
@@ -23,7 +23,7 @@ impl Totals {
         }
     }
 
-    /// What a reply alone counts.
+    /// Returns the counts of one reply.
     pub(crate) fn of(reply: &Reply) -> Totals
         ensures { result ≡ totals_after no_totals reply.now }
     {
@@ -35,7 +35,7 @@ impl Totals {
         Totals { changes, answers }
     }
 
-    /// With what a reply counts.
+    /// Returns the totals with the counts of one more reply.
     pub(crate) fn after(self, reply: &Reply) -> Totals
         requires changes { self.changes + (counted reply.now).changes < 2 ^ 64 }
         requires answers { self.answers + (counted reply.now).answers < 2 ^ 64 }

@@ -12,9 +12,10 @@ use site_core::{
 /// The laws of a book over its whole history: that until its base, and that since. It is the
 /// history from the opening of its site on, however often it was folded. It is legal, and the
 /// totals are those of its changes and its answers. The calls that were sent to a point are in
-/// sending order. No request is lost, and none is answered twice. Each answer that is collected is
-/// the headline's. And each audit of a point is held against what the point had when it was begun,
-/// and has no verdict but one for that and something that the point said, or Unsettled.
+/// sending order. No request is lost, and none is answered twice. Each collected answer is right, as
+/// in the headline. Each audit of a point is compared with the book that the point had when it was
+/// begun. Its verdict is Unsettled, or one on that book and something that the point may have
+/// replied.
 pub fn books_have_whole_histories()
     ensures reached { StoresAreReached }
     ensures counts { StoresCountAll }
@@ -31,7 +32,7 @@ pub fn books_have_whole_histories()
 
 /// The law of the calls to a point since the base. If `c` calls of the point were confirmed until
 /// then, the base keeps its calls from number `c` on. The stored Sends begin with call `c` or the
-/// next one: no fold loses a call or sends an older one.
+/// next one: no fold loses a call, or makes an older one go out again.
 pub fn stored_calls_go_on()
     ensures { StoresSendOn }
 {

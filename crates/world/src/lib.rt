@@ -1,8 +1,10 @@
 //! What sessions are generic in: the types of their site, and the stream of their socket.
 #![tactic(auto)]
 
+mod shareable;
 mod watched;
 mod world;
 
+pub use shareable::Shareable;
 pub use watched::Watched;
 pub use world::{Unrecorded, World};

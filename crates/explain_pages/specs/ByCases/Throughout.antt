@@ -1,4 +1,4 @@
--- Of private clauses: up to when what is said of a row for a connector stays so.
+-- Of private clauses: how long a reason continues to hold for a row at a connector.
 use Rattle.std.specs.Prelude.{◌≡◌, ℕ, ◌+◌, ◌<◌, ◌≤◌, true, Option, Some, None}
 use Rattle.meaning.specs.View.{point_state}
 use Rattle.meaning.specs.Cause.{RowLimit, level_of}
@@ -9,7 +9,7 @@ use Rattle.explain_pages.specs.declared.looked.RowAsked.{RowAsked}
 use Rattle.explain_pages.specs.declared.looked.Looked.{Looked}
 use Rattle.explain_pages.specs.NotCounted.{holds_for, SaysAt, LooksAt, PrevailsOnce}
 
--- a fact of each number from one on up to another, which is left out
+-- a fact about each number from one up to another, which is excluded
 pub record IsSoUntil (fact : ℕ → Type 0) (from until : ℕ) : Type 0 where
   pub later : from < until
   pub each : (k : ℕ) → from ≤ k → k < until → fact k
@@ -19,22 +19,23 @@ abbrev pub Holds : WhyNot → Looked → ℕ → Type 0
 Holds why looked second =
     holds_for why (point_state looked.view) looked.at looked.ask.start second looked.row.now ≡ true
 
--- a row prevails among those of a purpose, of this level at least
+-- a row of a purpose prevails, and has at least this stack level
 pub record Reaches (least : ℕ) (given : Option RowLimit) : Type 0 where
   pub best : RowLimit
   pub is : given ≡ Some best
   pub high : least ≤ level_of best
 
--- what a reason says of a row for the connector for which it is looked at
+-- a reason holds for a row at the connector for which it is checked
 abbrev pub Says : NoPart → Looked → ℕ → Type 0
 Says reason looked second =
     SaysAt reason (point_state looked.view) looked.connector looked.ask.start second looked.row.now
 
--- what a reason says isn't so at an instant; where that is that others come first, the row prevails
+-- a reason may fail at an instant: if it is BehindOthers, the row prevails then; nothing is claimed
+-- of other reasons
 abbrev pub Fails : NoPart → Looked → ℕ → Type 0
 Fails reason looked second = reason ≡ BehindOthers → Says NotLeast looked second
 
--- the first second of a request at which it isn't so, or that it is so at each
+-- a second of a request at which a reason may fail, or the fact that it holds at each
 pub record IsFailing (reason : NoPart) (looked : Looked) (second : ℕ) : Type 0 where
   pub from : looked.ask.start ≤ second
   pub before : second < looked.ask.start + looked.ask.duration
@@ -46,30 +47,30 @@ FirstFailing reason looked None =
     → Says reason looked second
 FirstFailing reason looked (Some second) = IsFailing reason looked second
 
--- ---- over the connectors that are looked at
+-- ---- over the connectors for which a row is checked
 
--- what a reason says of a row for a connector
+-- a reason holds for a row at a connector
 abbrev pub SaysOf : NoPart → RowAsked → ℕ → ℕ → Type 0
 SaysOf reason row connector second =
     SaysAt reason (point_state row.view) connector row.ask.start second row.row.now
 
--- the row as it is looked at for a connector: what is said of it is said there
+-- the row as it is checked for a connector: a reason that holds for it holds at that connector
 pub record IsOf (asked : RowAsked) (number : ℕ) (looked : Looked) : Type 0 where
   pub ask : looked.ask ≡ asked.ask
   pub says :
       (reason : NoPart) (second : ℕ) → Says reason looked second
       → SaysOf reason asked number second
 
--- a connector at which a row is looked at
+-- a connector for which a row is checked
 abbrev pub IsLookedAt : RowAsked → ℕ → Type 0
 IsLookedAt row connector = LooksAt (point_state row.view) row.ask.connector row.row.now connector
 
--- the first of them, or that there is none
+-- one of them, or the fact that there is none
 abbrev pub FoundConnector : RowAsked → Option ℕ → Type 0
 FoundConnector row None = (connector : ℕ) → ¬ (IsLookedAt row connector)
 FoundConnector row (Some connector) = IsLookedAt row connector
 
--- a connector at which it isn't so at a second
+-- a connector for which a reason may fail at a second
 pub record FailsOnce (reason : NoPart) (row : RowAsked) (second : ℕ) : Type 0 where
   pub connector : ℕ
   pub looked : IsLookedAt row connector
@@ -77,19 +78,19 @@ pub record FailsOnce (reason : NoPart) (row : RowAsked) (second : ℕ) : Type 0 
   pub before : second < row.ask.start + row.ask.duration
   pub fails : reason ≡ BehindOthers → SaysOf NotLeast row connector second
 
--- it is so at each second for each connector that is looked at
+-- a reason holds at each second for each connector for which the row is checked
 abbrev pub IsThroughout : NoPart → RowAsked → Type 0
 IsThroughout reason row =
     (connector second : ℕ) → IsLookedAt row connector
     → row.ask.start ≤ second → second < row.ask.start + row.ask.duration
     → SaysOf reason row connector second
 
--- at some second it isn't; where that is that others come first, the row prevails there
+-- a reason may fail at some second: if it is BehindOthers, the row prevails there
 abbrev pub FailsSomewhere : NoPart → RowAsked → Type 0
 FailsSomewhere reason row =
     reason ≡ BehindOthers → PrevailsOnce (point_state row.view) row.ask row.row.now
 
--- or that it is so throughout
+-- a connector and a second at which a reason may fail, or the fact that it holds throughout
 abbrev pub FoundFailing : NoPart → RowAsked → Option ℕ → Type 0
 FoundFailing reason row None = IsThroughout reason row
 FoundFailing reason row (Some second) = FailsOnce reason row second

@@ -1,4 +1,4 @@
--- The request of numbers that may be asked, as a value. The clause `fields` of `Ask::try_new` says what it is.
+-- The request of allowed numbers, as a value. The clause `fields` of `Ask::try_new` defines it.
 use Rattle.std.specs.Prelude.{◌≡◌, ℕ, ◌+◌, nat_le, nat_lt, true}
 use Rattle.std.proofs.Common.{leb-true, ltb-true}
 use Rattle.ocpp_scalars.specs.Limits.{last_second}

@@ -1,5 +1,6 @@
--- A row with its limit as a ProfileLimit, and what prevails as one. The lemmas `higher_is` and `lesser_is` of
--- `proofs/Bounds.antt` tie these forms to `prevailing_row` and `lesser_of` of `specs/Cause.antt`.
+-- A row with its limit as a ProfileLimit, and the row that prevails as one. The lemmas `higher_is`
+-- and `lesser_is` of `proofs/Bounds.antt` tie these forms to `prevailing_row` and `lesser_of` of
+-- `specs/Cause.antt`.
 use Rattle.std.specs.Prelude.{ℕ, Option, Some, None, option_map}
 use Rattle.profile.specs.declared.purpose.Purpose.{Purpose}
 use Rattle.meaning.specs.declared.bound.ProfileLimit.{ProfileLimit}

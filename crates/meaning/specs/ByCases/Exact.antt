@@ -1,5 +1,5 @@
--- The exact schedule of a limit, computed. The law `exact_schedules` ties it to IsExact of Exact.antt and to
--- what a compiler returns by Compiled.antt.
+-- The exact schedule of a limit, computed. The law `exact_schedules` ties it to IsExact of
+-- Exact.antt, and to the results of a compiler in Compiled.antt.
 use Rattle.std.specs.Prelude.{ℕ, ◌==◌, zero, suc, nat_lt, Bool, true, not, List, length, map, filter, Result, Ok, Err, if◌then◌else◌}
 use Rattle.std.specs.List.{range_with_len}
 use Rattle.ocpp_scalars.specs.declared.refusal.Refusal.{Refusal}
@@ -8,7 +8,7 @@ use Rattle.meaning.specs.declared.composite.CompositePeriod.{CompositePeriod}
 use Rattle.meaning.specs.Limits.{max_composite_periods}
 use Rattle.meaning.specs.Composite.{CompositeSchedule}
 
--- a period begins at the first second, and at each whose limit differs from that of the second before
+-- a period begins at the first second, and at each second with another limit than the one before
 abbrev pub begins_period : (ℕ → ℕ) → ℕ → Bool
 begins_period limit zero = true
 begins_period limit (suc before) = not (limit before == limit (suc before))
@@ -22,7 +22,8 @@ abbrev pub exact_periods : (ℕ → ℕ) → ℕ → List CompositePeriod
 exact_periods limit duration =
     map (period_from limit) (filter (begins_period limit) (range_with_len 0 duration))
 
--- the exact schedule of a limit over a number of seconds, or that it is too long to be an answer
+-- the exact schedule of a limit over a number of seconds, or ResultTooLong if it is too long to be
+-- an answer
 abbrev pub exact_schedule : (ℕ → ℕ) → ℕ → Result CompositeSchedule Refusal
 exact_schedule limit duration =
     if nat_lt max_composite_periods (length (exact_periods limit duration))

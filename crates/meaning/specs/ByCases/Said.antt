@@ -1,5 +1,5 @@
--- Whether periods that a point said make a schedule, computed. The law `said_schedules` ties it to
--- IsSaidSchedule of Said.antt.
+-- Whether periods that a point reported make a schedule, computed. The law `said_schedules` ties it
+-- to IsSaidSchedule of Said.antt.
 use Rattle.std.specs.Prelude.{ℕ, ◌==◌, nat_lt, nat_le, Bool, true, false, ◌&&◌, List, [], ◌∷◌, length, Option, Some, None}
 use Rattle.meaning.specs.declared.composite.CompositePeriod.{CompositePeriod}
 use Rattle.meaning.specs.Limits.{max_composite_periods}
@@ -9,7 +9,7 @@ abbrev pub is_next : Option ℕ → ℕ → Bool
 is_next None start = start == 0
 is_next (Some before) start = nat_lt before start
 
--- periods behind a start, where there is one, go on to the end of a duration
+-- periods after a start, if there is one, continue a schedule within a duration
 abbrev pub go_on : Option ℕ → ℕ → List CompositePeriod → Bool
 go_on before duration [] = true
 go_on before duration (p ∷ ps) =

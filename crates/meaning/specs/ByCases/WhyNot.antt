@@ -1,5 +1,5 @@
--- Whether a row stands above a stack level. The lemma `higher_counts` of `proofs/Higher.antt` ties
--- it to `is_above` of `specs/WhyNot.antt`.
+-- Whether a row is above a stack level. The lemma `higher_counts` of `proofs/Higher.antt` ties it
+-- to `is_above` of `specs/WhyNot.antt`.
 use Rattle.std.specs.Prelude.{ℕ, nat_lt, Bool, ◌&&◌, is_some}
 use Rattle.profile.specs.declared.purpose.Purpose.{Purpose}
 use Rattle.profile.specs.declared.row.Row.{Row}

@@ -1,5 +1,5 @@
 -- Lemmas that crates above cite: nothing here has to be believed.
--- The schedule that is computed is an exact answer.
+-- The computed schedule is an exact answer.
 use Rattle.std.proofs.Common.{◌≡◌, ℕ, ◌<◌, ◌≤◌, nat_lt, length, Bool, true, false, cond, List, Result, Ok, Err, refl, sym, arith}
 use Rattle.std.proofs.lemmas.Bool.Decides.{nat_tests}
 use Rattle.ocpp_scalars.specs.declared.refusal.Refusal.{Refusal}
@@ -24,7 +24,7 @@ is_schedule limit duration periods some same =
     let exact = exact_are limit duration some in
     rw same exact.schedule
 
--- the schedule that is computed
+-- the computed schedule
 abbrev pub made : (ℕ → ℕ) → ℕ → CompositeSchedule
 made limit duration = record { duration = duration; periods = exact_periods limit duration }
 

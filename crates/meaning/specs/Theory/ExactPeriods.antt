@@ -1,5 +1,5 @@
 -- Lemmas that crates above cite: nothing here has to be believed.
--- Exact periods are those that are computed, and there are such.
+-- Exact periods are the computed ones, and they exist.
 use Rattle.std.proofs.Common.{◌≡◌, ◌≢◌, ℕ, ◌+◌, ◌<◌, ◌≤◌, ◌==◌, zero, suc, Bool, true, false, List, [], ◌∷◌, ◌++◌, length, map, filter, cond, Some, nat_le, refl, ap, sym, ◌∙◌, inl, inr, arith}
 use Rattle.std.specs.List.{AllByRecursion, range_with_len}
 use Rattle.std.proofs.lemmas.List.{map-append, length-append}
@@ -70,8 +70,8 @@ after_is limit second (suc n) =
 periods_are : (limit : ℕ → ℕ) (n : ℕ) → exact_periods limit (suc n) ≡ period_from limit 0 ∷ after limit 0 n
 periods_are limit n = ap (λ (ps : List CompositePeriod). period_from limit 0 ∷ ps) (after_is limit 0 n)
 
--- A period that gives the limit at a second, and periods after it, are exact for a number of seconds from
--- there on.
+-- A period that gives the limit at a second, with the periods after it, is exact for a number of
+-- seconds from there on.
 record Continues (limit : ℕ → ℕ) (second n : ℕ) (p : CompositePeriod) (ps : List CompositePeriod) : Type 0 where
   increasing : AreStrictlyIncreasing (p ∷ ps)
   change : Change (p ∷ ps)
@@ -195,7 +195,7 @@ period_is q start limit h k = ap (λ (n : ℕ). of n q.limit) h ∙ ap (λ (n : 
     of : ℕ → ℕ → CompositePeriod
     of start limit = record { start = start; limit = limit }
 
--- Periods that continue are those after the second at which the limit changes.
+-- Periods that continue are those that begin at a later change of the limit.
 continued : (limit : ℕ → ℕ) (second n : ℕ) (p : CompositePeriod) (ps : List CompositePeriod) → p.start ≤ second → p.limit ≡ limit second
     → AllAfter second ps → Continues limit second n p ps → ps ≡ after limit second n
 continued limit second zero p [] h e later c = refl
@@ -221,7 +221,7 @@ continued limit second (suc n) p (q ∷ ps) h e later c =
           continued limit (suc second) n p (q ∷ ps) (omega arith) d.1 all d.2 ∙ sym (after_same limit second n d.0)
     ]
 
--- exact periods are these alone
+-- only these periods are exact
 pub exact_is : (limit : ℕ → ℕ) (duration : ℕ) (periods : List CompositePeriod) → IsExact limit duration periods
     → periods ≡ exact_periods limit duration
 exact_is limit duration [] exact = absurd exact.schedule.first
@@ -240,7 +240,7 @@ exact_is limit (suc n) (p ∷ ps) exact =
     let both : p ∷ ps ≡ period_from limit 0 ∷ after limit 0 n = cc in
     both ∙ sym (periods_are limit n)
 
--- the periods of one second more
+-- the periods with one more second
 pub periods_more : (limit : ℕ → ℕ) (n : ℕ)
     → exact_periods limit (n + 1) ≡ exact_periods limit n ++ cond (begins_period limit n) (period_from limit n ∷ []) []
 periods_more limit n =

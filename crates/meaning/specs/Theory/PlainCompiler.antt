@@ -1,5 +1,5 @@
 -- Lemmas that crates above cite: nothing here has to be believed.
--- What one second more adds to the exact periods, and when they are too many.
+-- The period that one more second adds to the exact periods, and when they are too many.
 use Rattle.std.proofs.Common.{◌≡◌, ℕ, ◌+◌, ◌-◌, ◌<◌, ◌≤◌, zero, suc, Bool, List, [], ◌∷◌, ◌++◌, length, cond, Option, Some, None, refl, ap, sym, ◌∙◌, arith}
 use Rattle.std.proofs.lemmas.List.{length-append}
 use Rattle.ocpp_scalars.specs.declared.refusal.Refusal.{Refusal}
@@ -11,7 +11,7 @@ use Rattle.meaning.specs.Compiled.{IsTooLong, IsPermitted}
 use Rattle.meaning.specs.ByCases.PlainCompiler.{differs, period_added, IsAddRefused}
 use Rattle.meaning.specs.Theory.ExactPeriods.{exact_is, periods_more, periods_grow}
 
--- the limit at the second before, where there is one
+-- the limit at the second before, if there is one
 abbrev pub limit_before : (ℕ → ℕ) → ℕ → Option ℕ
 limit_before limit zero = None
 limit_before limit (suc before) = Some (limit before)
@@ -20,7 +20,7 @@ differs_is : (limit : ℕ → ℕ) (n : ℕ) → differs (limit_before limit n) 
 differs_is limit zero = refl
 differs_is limit (suc before) = refl
 
--- what one second adds
+-- the period that one second adds
 pub periods_added : (limit : ℕ → ℕ) (n : ℕ) (periods : List CompositePeriod) (before : Option ℕ) (value : ℕ)
     → periods ≡ exact_periods limit n → before ≡ limit_before limit n → value ≡ limit n
     → periods ++ period_added before (record { start = n; limit = value }) ≡ exact_periods limit (n + 1)

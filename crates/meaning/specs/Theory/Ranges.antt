@@ -1,5 +1,5 @@
 -- Lemmas that crates above cite: nothing here has to be believed.
--- A range with one number more.
+-- A range with one more number.
 use Rattle.std.proofs.Common.{◌≡◌, ℕ, ◌+◌, zero, suc, List, [], ◌∷◌, ◌++◌, ap, arith}
 use Rattle.std.specs.List.{range_with_len}
 

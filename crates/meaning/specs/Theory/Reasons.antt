@@ -48,7 +48,7 @@ greatest_paired (x ∷ bests) =
     ap (λ (best : Option (ℕ × ℕ)). Some (greater (λ (best : ℕ × ℕ). best.0) (pair x) best)) (greatest_paired bests)
     ∙ ap (λ (best : ℕ × ℕ). Some best) (greater_paired x (greatest level_of bests))
 
--- the limit of the row that prevails is the limit that prevails
+-- the limit of the row that prevails is the prevailing limit
 pub prevailing_is : (purpose : Purpose) (state : PointState) (connector asked instant : ℕ)
     → prevailing purpose state connector asked instant ≡ option_map limit_of (prevailing_row purpose state connector asked instant)
 prevailing_is purpose state connector asked instant =
@@ -75,7 +75,7 @@ either_limit : (first other : Option RowLimit) → option_map limit_of (row_or_e
 either_limit None other = refl
 either_limit (Some first) other = refl
 
--- the limit of what sets a connector's own limit is that limit
+-- the limit of a connector's own bound is its own limit
 pub own_is : (state : PointState) (connector asked instant : ℕ) → (own_bound state connector asked instant).limit ≡ own_limit state connector asked instant
 own_is state connector asked instant =
     let tx = prevailing_row TxProfile state connector asked instant in

@@ -1,4 +1,4 @@
--- Of private clauses: the values of a call's fields that are no object and no list, as they are written.
+-- For private clauses: the texts of a call's fields that are neither objects nor lists.
 use Rattle.std.specs.Prelude.{ℕ, List}
 use Rattle.std.specs.Fmt.{decimal, signed_decimal}
 use Rattle.ocpp_scalars.specs.Writing.{tenths_text}

@@ -1,4 +1,4 @@
--- Of private clauses: a whole number that is no farther from zero than so much.
+-- For private clauses: an integer whose absolute value is at most a bound.
 use Rattle.std.specs.Prelude.{ℕ, ℤ, pos, neg_ℤ, ◌≤ℤ◌}
 
 abbrev pub IsWithin : ℕ → ℤ → Type 0

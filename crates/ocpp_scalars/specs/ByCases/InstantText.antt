@@ -1,4 +1,5 @@
--- What an instant's text is worth, or the fault. By the law `instant_texts` it is what `InstantText` says.
+-- The reading of an instant's text: the instant or the fault. By the law `instant_texts` it is the
+-- reading of `InstantText`.
 use Rattle.std.specs.Prelude.{ℕ, ◌+◌, ◌-◌, ◌*◌, Bool, ◌==◌, ◌&&◌, ◌||◌, nat_le, nat_lt, int_le, if◌then◌else◌, List, [], ◌∷◌, length, ℤ, pos, neg_ℤ, ◌+ℤ◌, ◌-ℤ◌, ◌*ℤ◌, unsigned_abs, Option, Some, None, option_map, Result, Ok, Err}
 use Rattle.std.specs.Char.{is_ascii_digit}
 use Rattle.jiff_core.specs.Calendar.{days_from_civil, days_in_month}
@@ -9,7 +10,7 @@ use Rattle.ocpp_scalars.specs.ByCases.Digits.{digits_of, after_digits, is_empty}
 use Rattle.ocpp_scalars.specs.Limits.{last_second, max_fraction_digits}
 use Rattle.ocpp_scalars.specs.OptionSteps.{◌>>=◌}
 
--- the value of what a text begins with, and what follows it
+-- the value of the beginning of a text, and the rest of it
 abbrev pub Part : Type 0 → Type 0
 Part A = Option (A × List ℕ)
 
@@ -29,7 +30,7 @@ four_at text = do
   (ones, rest) ← two_at after_hundreds
   Some (hundreds * 100 + ones, rest)
 
--- what follows one of these bytes
+-- the rest after one of some bytes
 abbrev pub after_byte : (ℕ → Bool) → List ℕ → Option (List ℕ)
 after_byte test [] = None
 after_byte test (b ∷ bs) = if test b then Some bs else None
@@ -40,7 +41,7 @@ after_dash text = after_byte (λ b. b == minus) text
 abbrev pub after_colon : List ℕ → Option (List ℕ)
 after_colon text = after_byte (λ b. b == colon) text
 
--- what follows `T`, `t` or a space
+-- the rest after `T`, `t` or a space
 abbrev pub after_separator : List ℕ → Option (List ℕ)
 after_separator text = after_byte (λ b. (b == upper_t) || ((b == lower_t) || (b == space))) text
 
@@ -81,18 +82,18 @@ time_at text = do
   (second, rest) ← two_at second_text
   if nat_lt second 60 then Some (minutes * 60 + second, rest) else None
 
--- what follows a number of digits of a fraction
+-- the rest after a number of digits of a fraction
 abbrev pub after_some_digits : ℕ → List ℕ → Option (List ℕ)
 after_some_digits count rest = if nat_le 1 count && nat_le count max_fraction_digits then Some rest else None
 
--- what follows a point with digits, or no point
+-- the rest after a point with digits, or after no point
 abbrev pub after_fraction : List ℕ → Option (List ℕ)
 after_fraction [] = Some []
 after_fraction (b ∷ bs) =
     if b == dot then after_some_digits (length (digits_of bs)) (after_digits bs)
     else Some (b ∷ bs)
 
--- `hh:mm` to the end of the text, in seconds
+-- `hh:mm` that ends the text, in seconds
 abbrev pub clock_in : List ℕ → Option ℕ
 clock_in text = do
   (minutes, rest) ← minutes_at text
@@ -101,7 +102,7 @@ clock_in text = do
 abbrev pub zulu_in : List ℕ → Option ℤ
 zulu_in text = if is_empty text then Some (pos 0) else None
 
--- the offset to the end of the text, in seconds
+-- the offset that ends the text, in seconds
 abbrev pub offset_in : List ℕ → Option ℤ
 offset_in [] = Some (pos 0)
 offset_in (b ∷ bs) =
@@ -132,6 +133,6 @@ abbrev pub reading : Option ℤ → Result ℕ InstantFault
 reading None = Err Form
 reading (Some z) = in_range z
 
--- the instant that a text is worth
+-- the reading of a text as an instant
 unfoldable pub instant_of : List ℕ → Result ℕ InstantFault
 instant_of text = reading (seconds_of text)

@@ -1,4 +1,4 @@
--- A number's text cut into its parts. By the law `number_texts` it is what `NumberText` says.
+-- A number's text split into its parts. By the law `number_texts` they are those of `NumberText`.
 use Rattle.std.specs.Prelude.{ℕ, ◌+◌, ◌≤◌, length, Bool, true, false, not, ◌||◌, ◌==◌, if◌then◌else◌, List, [], ◌∷◌, Option, Some, None, is_some}
 use Rattle.ocpp_scalars.specs.declared.number_text.NumberParts.{NumberParts}
 use Rattle.ocpp_scalars.specs.Ascii.{plus, minus, dot, digit_zero, upper_e, lower_e}
@@ -6,7 +6,8 @@ use Rattle.ocpp_scalars.specs.ByCases.Digits.{digits_of, after_digits, is_empty}
 use Rattle.ocpp_scalars.specs.Digits.{AreDigits}
 use Rattle.ocpp_scalars.specs.OptionSteps.{◌>>=◌}
 
--- minus or not, the digits of the whole part and of the fraction, a negative exponent or not and its digits
+-- whether there is a minus, the digits of the whole part and of the fraction, whether the exponent
+-- has a minus, and its digits
 pub record Parts : Type 0 where
   pub negative : Bool
   pub whole : List ℕ
@@ -14,7 +15,7 @@ pub record Parts : Type 0 where
   pub negative_exponent : Bool
   pub exponent : List ℕ
 
--- the parts as the code has them
+-- the parts of the code's struct
 abbrev pub parts_seen : NumberParts → Parts
 parts_seen p =
     record {
@@ -25,37 +26,37 @@ parts_seen p =
       exponent = p.exponent.now;
     }
 
--- each of the parts has digits alone, and they are no longer than so much
+-- each part consists of digits, at most `size` of them
 pub record FitIn (size : ℕ) (p : Parts) : Type 0 where
   pub whole_digits : AreDigits p.whole
   pub fraction_digits : AreDigits p.fraction
   pub exponent_digits : AreDigits p.exponent
   pub lengths : length p.whole + length p.fraction + length p.exponent ≤ size
 
--- a sign, and what follows it
+-- a sign, and the rest of the text
 abbrev pub sign_at : List ℕ → Bool × List ℕ
 sign_at [] = (false, [])
 sign_at (b ∷ bs) = if b == minus then (true, bs) else (false, b ∷ bs)
 
--- digits without a needless zero in front
+-- digits without leading zeros
 abbrev pub is_whole : List ℕ → Bool
 is_whole [] = false
 is_whole (b ∷ bs) = not (b == digit_zero) || is_empty bs
 
--- the digits of the whole part, and what follows them
+-- the digits of the whole part, and the rest of the text
 abbrev pub whole_at : List ℕ → Option (List ℕ × List ℕ)
 whole_at text = if is_whole (digits_of text) then Some (digits_of text, after_digits text) else None
 
--- at least one digit, and what follows
+-- at least one digit, and the rest of the text
 abbrev pub digits_at : List ℕ → Option (List ℕ × List ℕ)
 digits_at text = if is_empty (digits_of text) then None else Some (digits_of text, after_digits text)
 
--- the digits of the fraction, none where there is no point, and what follows them
+-- the digits of the fraction, none without a point, and the rest of the text
 abbrev pub fraction_at : List ℕ → Option (List ℕ × List ℕ)
 fraction_at [] = Some ([], [])
 fraction_at (b ∷ bs) = if b == dot then digits_at bs else Some ([], b ∷ bs)
 
--- an exponent's sign, and what follows it
+-- an exponent's sign, and the rest of the text
 abbrev pub exponent_sign_at : List ℕ → Bool × List ℕ
 exponent_sign_at [] = (false, [])
 exponent_sign_at (b ∷ bs) =
@@ -69,7 +70,7 @@ exponent_digits (negative, text) = do
   (digits, rest) ← digits_at text
   if is_empty rest then Some (negative, digits) else None
 
--- an exponent to the end of the text: negative or not, and its digits, none where there is no exponent
+-- an exponent that ends the text: whether it has a minus, and its digits, none without an exponent
 abbrev pub exponent_in : List ℕ → Option (Bool × List ℕ)
 exponent_in [] = Some (false, [])
 exponent_in (b ∷ bs) =

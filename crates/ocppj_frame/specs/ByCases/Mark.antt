@@ -4,7 +4,7 @@ use Rattle.json.specs.Ascii.{backslash}
 use Rattle.ocpp_scalars.specs.Ascii.{quote}
 use Rattle.ocppj_frame.specs.Mark.{text_mark, number_mark, begins_number, continues_number}
 
--- where a byte stands: outside strings and numbers, inside a string, inside a string after a
+-- the place of a byte: outside strings and numbers, inside a string, inside a string after a
 -- backslash, or in a number
 pub data Place : Type 0 where
   outside : Place
@@ -16,8 +16,8 @@ pub data Place : Type 0 where
 abbrev pub place_outside : ℕ → Place
 place_outside b = if b == quote then inside else if begins_number b then in_number else outside
 
--- where the text goes on after a byte: a backslash takes the next byte along, a quote that it did
--- not take ends the string, and a number is the longest run of its bytes
+-- the place of the next byte: a backslash escapes that byte, a quote that isn't escaped ends the
+-- string, and a number is the longest run of its bytes
 abbrev pub place_after : Place → ℕ → Place
 place_after outside b = place_outside b
 place_after inside b = if b == backslash then escaped else if b == quote then outside else inside
@@ -31,14 +31,14 @@ marked_outside b =
     else if begins_number b then quote ∷ number_mark ∷ b ∷ []
     else b ∷ []
 
--- what is written for a byte; the first byte after a number closes the number's quote
+-- the bytes written for a byte; before the first byte after a number they have its closing quote
 abbrev pub marked_byte : Place → ℕ → List ℕ
 marked_byte outside b = marked_outside b
 marked_byte inside b = b ∷ []
 marked_byte escaped b = b ∷ []
 marked_byte in_number b = if continues_number b then b ∷ [] else quote ∷ marked_outside b
 
--- what is written at the end of the text
+-- the bytes written at the end of the text
 abbrev pub marked_end : Place → List ℕ
 marked_end outside = []
 marked_end inside = []

@@ -1,4 +1,4 @@
--- A member of an object of the marked text, by its name. Of private clauses.
+-- A member of an object of the marked text, by its name. For private clauses.
 use Rattle.std.specs.Prelude.{ℕ, List, Bool, Option, Some, None, false, if◌then◌else◌}
 use Rattle.std.specs.Option.{option_map_or}
 use Rattle.std.specs.Str.{bytes_eq}

@@ -1,4 +1,4 @@
--- What a tree is as a message, element by element: a CALL `[2, id, action, payload]`, a CALLRESULT
+-- A tree as a message, element by element: a CALL `[2, id, action, payload]`, a CALLRESULT
 -- `[3, id, payload]` or a CALLERROR `[4, id, code, description, details]`. Equal to the table of
 -- `Message` by the law `frame_messages`.
 use Rattle.std.specs.Prelude.{ℕ, ℤ, pos, negsuc, ◌==◌, length, List, Option, Some, None, option_map, option_and_then, unwrap_or, nat_le, nat_lt, slice_get, Result, Ok, Err, if◌then◌else◌}
@@ -38,12 +38,12 @@ unless_long id = if nat_le (length (chars id)) max_id_characters then Some id el
 abbrev pub message_id : Option Tree → Option (List ℕ)
 message_id element = option_and_then unless_long (option_and_then as_text element)
 
--- a payload is an object; where it is absent or null it is the empty one
+-- a payload is an object; if it is absent or null, the empty one
 abbrev pub payload_of : Option Tree → Option Tree
 payload_of None = Some empty_object
 payload_of (Some element) = if is_null element then Some empty_object else as_object element
 
--- a CALL whose action is no text or whose payload is malformed is answered with its id
+-- a CALL is answered with its id if its action isn't a text or its payload is malformed
 abbrev pub call_of : List ℕ → Option (List ℕ) → Option Tree → Result Message FrameFault
 call_of id (Some action) (Some payload) = Ok (call id action payload)
 call_of id (Some action) None = Err (Formation id)
@@ -71,11 +71,11 @@ message_of_elements elements =
     (slice_get elements 2)
     (slice_get elements 3)
 
--- a tree that is no list is dropped
+-- a tree that isn't a list is dropped
 abbrev pub message_of_tree : Tree → Result Message FrameFault
 message_of_tree tree = option_map_or message_of_elements (as_list tree) (Err Dropped)
 
--- a text of too many bytes is dropped, as is one that is refused
+-- a text of too many bytes is dropped, and so is a refused one
 abbrev pub message_of_text : List ℕ → Result Message FrameFault
 message_of_text text =
     if nat_lt max_frame_bytes (length text) then Err Dropped

@@ -1,4 +1,4 @@
--- Tokens without numbers. Of private clauses.
+-- Tokens without numbers. For private clauses.
 use Rattle.std.specs.Prelude.{List, [], ◌∷◌}
 use Rattle.json.specs.Token.{Token, begin_object, end_object, begin_array, end_array, key, string, number, boolean, null, bad}
 

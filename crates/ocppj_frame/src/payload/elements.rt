@@ -1,4 +1,4 @@
-//! The elements of a list, moved out of it as a frame is taken apart; their texts stay borrowed.
+//! The elements of a list, moved out of it when a frame is read. Their texts stay borrowed.
 ghost use Rattle.std.specs.Prelude.{◌≡◌, is_some, true};
 ghost use Rattle.std.specs.Vec.Iter.{into_iter_items};
 ghost use Rattle.ocppj_frame.specs.Read.{trees_of};
@@ -11,10 +11,10 @@ use bumpalo::Bump;
 use std::collections::BTreeMap;
 use std::vec::IntoIter;
 
-/// The elements of a list that are left to visit, in order.
+/// The remaining elements of a list, in order.
 #[derive(Drop)]
 pub(crate) struct Elements<'memory> {
-    /// The arena that the list stands in.
+    /// The arena of the list.
     arena: &'memory Bump,
     values: IntoIter<MarkedValue<'memory>, &'memory Bump>,
     ghost marked: { is_some (trees_of (items_view (into_iter_items values))) ≡ true },
@@ -24,12 +24,12 @@ impl<'memory> Elements<'memory> {
     ghost use Rattle.std.specs.Prelude.{◌≡◌, drop, option_map, slice_get};
     ghost use Rattle.ocppj_frame.specs.Payload.{elements_left, tree_in};
 
-    /// The arena that the list stands in, for a payload that is made anew.
+    /// Returns the arena of the list, in which an empty payload can be made.
     pub(crate) fn arena(&self) -> &'memory Bump {
         self.arena
     }
 
-    /// Returns the next element, where there is one, and moves past it.
+    /// Returns the next element, if there is one, and moves past it.
     pub(crate) fn next(&mut self) -> Option<Payload<'memory>>
         ensures element { option_map tree_in result ≡ slice_get (elements_left self.old) 0 }
         ensures left { elements_left self.new ≡ drop 1 (elements_left self.old) }
@@ -46,7 +46,7 @@ impl<'memory> Payload<'memory> {
     ghost use Rattle.ocppj_frame.specs.Payload.{elements_left, tree_in};
     ghost use Rattle.ocppj_frame.specs.Tree.{as_list, as_text, no_fields, object};
 
-    /// The object without fields. Needs no memory.
+    /// Returns the object without fields. Allocates nothing.
     pub(crate) fn empty(arena: &'memory Bump) -> Payload<'memory>
         ensures { tree_in result ≡ object no_fields }
     {
@@ -55,7 +55,7 @@ impl<'memory> Payload<'memory> {
         }
     }
 
-    /// The elements, where the tree is a list.
+    /// Returns the elements if the tree is a list.
     pub(crate) fn into_elements(self) -> Option<Elements<'memory>>
         ensures { option_map elements_left result ≡ as_list (tree_in self.entry) }
     {
@@ -69,7 +69,7 @@ impl<'memory> Payload<'memory> {
         }
     }
 
-    /// The text, where the tree is one.
+    /// Returns the text if the tree is one.
     pub(crate) fn into_text(self) -> Option<&'memory str>
         ensures { option_map (λ t. t.now) result ≡ as_text (tree_in self.entry) }
     {

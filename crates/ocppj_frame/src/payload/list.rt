@@ -6,21 +6,21 @@ ghost use Rattle.ocppj_frame.specs.Payload.{entries_in, entries_left, tree_at};
 use super::{Entries, Node};
 
 impl<'tree, 'memory> Entries<'tree, 'memory> {
-    /// How many entries there are.
+    /// Returns the number of entries.
     pub fn len(self) -> usize
         ensures { result ≡ length (entries_in self.entry) }
     {
         self.values.len()
     }
 
-    /// Whether there are none.
+    /// Returns whether there are no entries.
     pub fn is_empty(self) -> bool
         ensures { result ≡ (length (entries_in self.entry) == 0) }
     {
         self.values.is_empty()
     }
 
-    /// The entry at this index, from 0.
+    /// Returns the entry at this index, from 0.
     #[tactic(auto, using(crate::proofs::TreeParts::entry_is_tree, crate::proofs::TreeParts::entry_tree, crate::proofs::TreeParts::entry_past))]
     pub fn get(self, index: usize) -> Option<Node<'tree, 'memory>>
         ensures { option_map tree_at result ≡ slice_get (entries_in self.entry) index }
@@ -34,7 +34,7 @@ impl<'tree, 'memory> Entries<'tree, 'memory> {
         }
     }
 
-    /// The entries in order.
+    /// Returns an iterator over the entries, in order.
     pub fn iter(self) -> EntriesIter<'tree, 'memory>
         ensures { entries_left result ≡ entries_in self.entry }
     {
@@ -42,7 +42,7 @@ impl<'tree, 'memory> Entries<'tree, 'memory> {
     }
 }
 
-/// The entries of a list that are left to visit, in order.
+/// The remaining entries of a list, in order.
 #[derive(Drop)]
 pub struct EntriesIter<'tree, 'memory> {
     left: Entries<'tree, 'memory>,

@@ -1,4 +1,4 @@
-//! From a JSON text to a tree.
+//! Reads a JSON text as a tree.
 ghost use Rattle.std.specs.Prelude.{ok_or};
 ghost use Rattle.ocpp_scalars.specs.Reading.{ReadsUnless};
 ghost use Rattle.ocppj_frame.specs.Fault.{is_memory};
@@ -13,18 +13,20 @@ use crate::read_fault::ReadFault;
 use crate::reading_memory::ReadingMemory;
 use crate::tree::is_tree;
 
-/// Reads a JSON text of any length as a tree, in the place of what `memory` held before. A refused
-/// text is `Dropped`, a failed allocation is `OutOfMemory`; there is never a `Formation`. `memory` is
-/// borrowed until the tree is gone, and fit for the next text whatever came of this one.
+/// Reads a JSON text of any length as a tree, which replaces the contents of `memory`. A refused
+/// text is `Dropped`, a failed allocation is `OutOfMemory`; there is never a `Formation`. `memory`
+/// stays borrowed until the tree is dropped, and can take the next text whatever the result.
 pub fn read_tree<'a>(memory: &'a mut ReadingMemory, text: &str) -> Result<Payload<'a>, FrameFault>
     ensures { ReadsUnless is_memory tree_in result
         (ok_or (tree_of_text text.now) FrameFault.Dropped) }
 {
-    // Fails only where an earlier tree was forgotten and not dropped. Its blocks then stay where they are.
+    // Fails only if an earlier tree was forgotten rather than dropped. Its blocks then stay
+    // allocated.
     let _ = memory.arena.reset();
     let marked = mark_text(text, &mut memory.marked)?;
     match read_marked(&memory.arena, marked, &mut memory.scratch) {
-        // Whether each number was one is tested only now, and of repeated keys only for the last.
+        // Numbers are checked only now, and not in the earlier values of a duplicate key:
+        // `serde_json` keeps only the last.
         Ok(value) if is_tree(&value) => Ok(Payload { value }),
         Ok(_) | Err(ReadFault::NotJson) => Err(FrameFault::Dropped),
         Err(ReadFault::OutOfMemory) => Err(FrameFault::OutOfMemory),

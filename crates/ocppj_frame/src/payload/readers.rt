@@ -1,4 +1,4 @@
-//! What a node is and what it holds.
+//! Readers of a node: its kind and its contents.
 ghost use Rattle.std.specs.Prelude.{◌≡◌, option_map};
 ghost use Rattle.ocppj_frame.specs.ByCases.Member.{is_key_of, member_named};
 ghost use Rattle.ocppj_frame.specs.Payload.{entries_in, tree_at, tree_in};
@@ -12,7 +12,7 @@ use bumpalo::Bump;
 use std::collections::BTreeMap;
 
 impl<'memory> Payload<'memory> {
-    /// The whole tree, borrowed.
+    /// Borrows the whole tree.
     pub fn root(&self) -> Node<'_, 'memory>
         ensures { tree_at result ≡ tree_in self.now }
     {
@@ -21,21 +21,21 @@ impl<'memory> Payload<'memory> {
 }
 
 impl<'tree, 'memory> Node<'tree, 'memory> {
-    /// Whether the node is an object.
+    /// Returns whether the node is an object.
     pub fn is_object(self) -> bool
         ensures { result ≡ is_object (tree_at self.entry) }
     {
         matches!(self.value, MarkedValue::Object(_))
     }
 
-    /// Whether the node is null.
+    /// Returns whether the node is null.
     pub fn is_null(self) -> bool
         ensures { result ≡ is_null (tree_at self.entry) }
     {
         matches!(self.value, MarkedValue::Null)
     }
 
-    /// The text, where the node is one.
+    /// Returns the text if the node is one.
     pub fn text(self) -> Option<&'memory str>
         ensures { option_map (λ t. t.now) result ≡ as_text (tree_at self.entry) }
     {
@@ -46,7 +46,7 @@ impl<'tree, 'memory> Node<'tree, 'memory> {
         }
     }
 
-    /// The number's text, where the node is a number.
+    /// Returns the number's text if the node is a number.
     pub fn number(self) -> Option<&'memory str>
         ensures { option_map (λ t. t.now) result ≡ as_number (tree_at self.entry) }
     {
@@ -57,7 +57,7 @@ impl<'tree, 'memory> Node<'tree, 'memory> {
         }
     }
 
-    /// The entries, where the node is a list.
+    /// Returns the entries if the node is a list.
     #[tactic(auto, using(crate::proofs::TreeParts::value_list))]
     pub fn list(self) -> Option<Entries<'tree, 'memory>>
         ensures { option_map entries_in result ≡ as_list (tree_at self.entry) }
@@ -71,7 +71,7 @@ impl<'tree, 'memory> Node<'tree, 'memory> {
         }
     }
 
-    /// The field of this name, where the node is an object that has it.
+    /// Returns the field of this name if the node is an object that has it.
     pub fn field(self, name: &str) -> Option<Node<'tree, 'memory>>
         ensures { option_map tree_at result ≡ field_of name.now (tree_at self.entry) }
     {
@@ -92,8 +92,8 @@ fn find_member<'tree, 'memory>(
     ensures { option_map (λ v. view v.now) result
         ≡ member_named name.now (members_view members.now.entries) }
 {
-    // The keys are marked and the name isn't: a look-up in the map would need memory for a marked name.
-    // Each call looks for few fields, among few members where the object is OCPP's.
+    // The keys are marked and the name isn't: a look-up in the map would need to allocate a marked
+    // name. Few fields are read of an object, and an object of OCPP has few members.
     for (key, value) in members {
         if is_key_of(name, key) {
             return Some(value);

@@ -11,7 +11,7 @@ use Rattle.profile.specs.Limits.{max_stack_level}
 use Rattle.profile.specs.Kind.{start_of}
 use Rattle.profile.specs.Purpose.{transaction_of}
 
--- what is dropped once stays dropped
+-- dropping a field twice is the same as dropping it once
 pub transaction_of_again : (purpose : Purpose) (transaction : Option ℤ)
     → transaction_of purpose (transaction_of purpose transaction) ≡ transaction_of purpose transaction
 transaction_of_again ChargePointMaxProfile transaction = refl
@@ -24,7 +24,7 @@ start_of_again Absolute start = refl
 start_of_again (Recurring recurrency) start = refl
 start_of_again Relative start = refl
 
--- the profile of these fields, of a kind, where their level is low enough
+-- the profile of these fields and this kind, if their stack level is low enough
 abbrev pub profile_with : (parts : ProfileParts) → Kind
     → nat_le parts.stack_level max_stack_level ≡ true → Profile
 profile_with parts kind low = record {

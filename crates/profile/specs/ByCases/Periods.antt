@@ -1,4 +1,4 @@
--- Of a private loop: periods in order, as it meets them one after the other.
+-- For the invariant of a private loop: the order of periods, checked one after another.
 use Rattle.std.specs.Prelude.{ℕ, nat_lt, Bool, true, ◌&&◌, List, [], ◌∷◌, Option, Some, None}
 use Rattle.profile.specs.declared.period.Period.{Period}
 

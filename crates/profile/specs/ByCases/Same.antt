@@ -1,4 +1,4 @@
--- Of private clauses: a few fields of two profiles, compared.
+-- For private clauses: equality of some fields of two profiles.
 use Rattle.std.specs.Prelude.{◌≡◌}
 use Rattle.profile.specs.declared.charging_profile.Profile.{Profile}
 

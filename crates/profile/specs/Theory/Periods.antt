@@ -1,5 +1,5 @@
 -- Lemmas that crates above cite: nothing here has to be believed.
--- Of periods in order, those that have begun at an offset stand first.
+-- In a list of periods in order, those that have begun at an offset come first.
 use Rattle.std.proofs.Common.{◌≡◌, ℕ, ◌+◌, ◌<◌, ◌≤◌, zero, suc, nat_lt, nat_le, true, List, [], ◌∷◌, length, get_or, arith}
 use Rattle.std.specs.List.Sorted.{IsPartitionedBy}
 use Rattle.std.proofs.lemmas.List.Sorted.{IsPartitionedBy-leb, IsNonDecreasingBy-from_all_adjacent}
@@ -19,7 +19,7 @@ adjacent (p ∷ (q ∷ ps)) ordered (suc k) d inside =
     let next : suc k + 1 ≡ suc (k + 1) = omega arith in
     rw next (adjacent (q ∷ ps) parts.1 k d (omega arith))
 
--- those that have begun at an offset stand first
+-- the periods that have begun at an offset come first
 pub partitioned : (ps : List Period) (o : ℕ) → are_in_order ps ≡ true → IsPartitionedBy (λ (p : Period). nat_le p.start o) ps
 partitioned ps o ordered =
     IsPartitionedBy-leb (λ (p : Period). p.start) ps o (IsNonDecreasingBy-from_all_adjacent (λ (p : Period). p.start) ps (adjacent ps ordered))

@@ -1,5 +1,5 @@
 -- Lemmas that crates above cite: nothing here has to be believed.
--- A step of a `do` that may refuse finds its cause, and else the steps after it are looked at.
+-- A step of a `do` that may refuse has its cause; otherwise the later steps decide.
 use Rattle.std.proofs.Common.{◌≡◌, Bool, true, false, List, ◌∷◌, inl, inr, Option, Some, None, Result, refl}
 use Rattle.std.specs.Result.{result_err}
 use Rattle.ocpp_scalars.specs.declared.refusal.Refusal.{Refusal}

@@ -1,4 +1,4 @@
--- Of private clauses: the first number after another that passes a test.
+-- For private clauses: the first number after another that passes a test.
 use Rattle.std.specs.Prelude.{◌≡◌, ℕ, ◌<◌, ◌==◌, Bool, true, false, List, Option, Some, None}
 use Rattle.std.specs.List.{list_any}
 use Rattle.profile.specs.declared.period.Period.{Period}
@@ -8,7 +8,7 @@ pub record IsFirstAfter (test : ℕ → Bool) (n first : ℕ) : Type 0 where
   pub passes : test first ≡ true
   pub fails_between : (k : ℕ) → n < k → k < first → test k ≡ false
 
--- the first number after another that passes, or that none does
+-- the first number after another that passes a test; with None, no later number passes
 abbrev pub IsNext : (ℕ → Bool) → ℕ → Option ℕ → Type 0
 IsNext test n None = (k : ℕ) → n < k → test k ≡ false
 IsNext test n (Some first) = IsFirstAfter test n first

@@ -1,4 +1,4 @@
--- Of private clauses: how far a profile is in an occurrence of its schedule.
+-- For private clauses: the progress of a profile in an occurrence of its schedule.
 use Rattle.std.specs.Prelude.{◌≡◌, ℕ, ◌-◌, ◌<◌, ◌≤◌, ◌&&◌, nat_le, Bool, true, false, List, ◌∷◌, Option, None, if◌then◌else◌}
 use Rattle.std.specs.List.Sorted.{IsPartitionPoint}
 use Rattle.profile.specs.declared.period.Period.{Period}
@@ -12,13 +12,13 @@ use Rattle.recurrence.specs.declared.occurrence.Occurrence.{Occurrence}
 use Rattle.recurrence.specs.Places.{places_after}
 use Rattle.recurrence.specs.ByCases.Next.{is_start}
 
--- so many periods have begun by an offset
+-- exactly the first `begun` periods have begun by an offset
 abbrev pub IsBegunUpTo : List Period → ℕ → ℕ → Type 0
 IsBegunUpTo periods offset begun =
     IsPartitionPoint (λ (p : Period). nat_le p.start offset ≡ true)
     (λ (p : Period). nat_le p.start offset ≡ false) periods begun
 
--- a period that has begun has its limit
+-- whether a period that has begun sets the limit: the duration isn't over, and the profile is valid
 abbrev pub is_live_at : Profile → ℕ → ℕ → Bool
 is_live_at profile offset instant =
     is_before offset profile.schedule.duration && is_valid_at profile instant
@@ -26,15 +26,15 @@ is_live_at profile offset instant =
 abbrev pub if_live : Bool → Option ℕ → Option ℕ
 if_live is_live limit = if is_live then limit else None
 
--- From a second up to a fence the profile is as valid as there, its duration ends nowhere, and it
--- stays in the occurrence that began at another second.
+-- From a second up to a fence, the validity of the profile doesn't change, its duration doesn't
+-- end, and it stays in the occurrence that began at `begin`.
 pub record IsFence (profile : Profile) (anchor begin second fence : ℕ) : Type 0 where
   pub from : (k : ℕ) → second < k → k < fence → is_at k profile.valid_from ≡ false
   pub to : (k : ℕ) → second < k → k < fence → is_at k profile.valid_to ≡ false
   pub end : (k : ℕ) → second < k → k < fence → is_at (k - begin) profile.schedule.duration ≡ false
   pub round : (k : ℕ) → second < k → k < fence → offset_after profile.kind (k - anchor) ≡ k - begin
 
--- From an instant up to the fence only the start of a period is a place, and the limit is that of
+-- From an instant up to the fence, only the start of a period is a place, and the limit is that of
 -- the period, or none.
 pub record IsOccurrence (profile : Profile) (base after : ℕ) (o : Occurrence) : Type 0 where
   pub begins : o.begin ≤ after

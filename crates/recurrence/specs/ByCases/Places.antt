@@ -1,9 +1,9 @@
--- Of private clauses: which of the places after an instant is the first.
+-- For private clauses: the first of the places after an instant.
 use Rattle.std.specs.Prelude.{◌≡◌, ℕ, [], ◌∷◌, Option, Some, None}
 use Rattle.profile.specs.declared.charging_profile.Profile.{Profile}
 use Rattle.recurrence.specs.Places.{place_at, places_after}
 
--- the first of the places, with those after it, or that there is none
+-- the first place; with None, there is none
 abbrev pub IsFirstPlace : Profile → ℕ → ℕ → ℕ → Option ℕ → Type 0
 IsFirstPlace profile base instant last None = places_after profile base instant last ≡ []
 IsFirstPlace profile base instant last (Some first) =

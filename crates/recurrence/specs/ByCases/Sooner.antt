@@ -1,9 +1,9 @@
--- The sooner of two, by cases: of the clause of `sooner` alone.
+-- The sooner of two, by cases: only for the clause of `sooner`.
 use Rattle.std.specs.Prelude.{Option, Some, None}
 use Rattle.std.specs.Ordering.{ord_min}
 use Rattle.std.specs.declared.cmp.Ordering.{Ordering}
 
--- by an order, the lesser of those that are there
+-- the lesser of two by an order, or the only one
 abbrev pub sooner : {X : Type 0} → (X → X → Ordering) → Option X → Option X → Option X
 sooner order None b = b
 sooner order (Some a) None = Some a

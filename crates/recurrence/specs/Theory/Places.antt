@@ -1,5 +1,5 @@
 -- Lemmas that crates above cite: nothing here has to be believed.
--- What the list of the places after an instant says of the rates.
+-- Rates between the places after an instant.
 use Rattle.std.proofs.Common.{◌≡◌, ℕ, ◌+◌, ◌-◌, ◌<◌, ◌≤◌, zero, suc, Bool, true, false, List, [], ◌∷◌, map, filter, cond, ⊎_elim, refl, ap, sym, ◌∙◌, arith}
 use Rattle.std.specs.List.{range_with_len}
 use Rattle.std.proofs.lemmas.Bool.{cases_lt}
@@ -62,7 +62,8 @@ none_passes test a (suc n) h k from below = go (test a) refl h (λ rest. none_pa
         (λ (above : a + 1 ≤ k). later h above (omega (arith, below)))
         (cases_lt k (a + 1))
 
--- the first of the places after an instant: up to it the rate stays, and the others are those after it
+-- the first of the places after an instant: the rate is constant up to it, and the others are those
+-- after it
 pub record IsNextOf (profile : Profile) (base instant last : ℕ) (place : Place) (others : List Place) : Type 0 where
   pub later : instant < place.instant
   pub within : place.instant ≤ last
@@ -98,7 +99,7 @@ next_of profile base instant last place others h = go (filter (is_place profile 
               ∙ ap (λ (m : ℕ). places_after profile base m last) here));
         }
 
--- where no place is left, the rate stays
+-- if no place is left, the rate is constant
 pub stays_on : (profile : Profile) (base instant last : ℕ) → places_after profile base instant last ≡ [] → (k : ℕ) → instant ≤ k → k ≤ last
     → rate profile base k ≡ rate profile base instant
 stays_on profile base instant last h k from upto =

@@ -1,5 +1,5 @@
 -- Lemmas that crates above cite: nothing here has to be believed.
--- That the rate of a profile stays from second to second where no place is.
+-- The rate of a profile is constant from second to second where there is no place.
 use Rattle.std.proofs.Common.{◌≡◌, ℕ, zero, suc, ◌+◌, ◌-◌, ◌%◌, ◌<◌, ◌≤◌, ◌==◌, nat_le, nat_lt, Bool, true, false, ◌||◌, List, [], ◌∷◌, filter, Option, Some, None, option_map, option_and_then, ⊎_elim, refl, sym, ap, ◌∙◌, mod-lt, mod-eq_of_lt, arith}
 use Rattle.std.specs.List.{list_any}
 use Rattle.std.proofs.Math.Nat.{suc-mod, mod_self}
@@ -25,7 +25,7 @@ is_from_next : (bound : Option ℕ) (n : ℕ) → is_at (suc n) bound ≡ false 
 is_from_next None n quiet = refl
 is_from_next (Some bound) n quiet = grind (arith, nat_tests)
 
--- where quiet period starts, the same ones have begun
+-- if no period starts at the next second, the same periods have begun
 begun_next : (periods : List Period) (n : ℕ) → list_any (λ (p : Period). suc n == p.start) periods ≡ false
     → filter (λ (p : Period). nat_le p.start (suc n)) periods ≡ filter (λ (p : Period). nat_le p.start n) periods
 begun_next [] n quiet = refl
@@ -36,7 +36,7 @@ begun_next (p ∷ ps) n quiet =
     let test : nat_le p.start (suc n) ≡ nat_le p.start n = grind (arith, nat_tests) in
     rw (rest, test) refl
 
--- the limit of a schedule where it doesn't turn
+-- the limit of a schedule is constant if it doesn't turn
 rate_within_next : (profile : Profile) (n : ℕ) → is_turn profile.schedule (suc n) ≡ false → rate_within profile (suc n) ≡ rate_within profile n
 rate_within_next profile n quiet =
     let schedule = profile.schedule in
@@ -58,7 +58,7 @@ mod_next n k some quiet = ⊎_elim (λ inside. suc-mod n k ∙ mod-eq_of_lt insi
         let none : suc n % k ≡ 0 = suc-mod n k ∙ (ap (λ m. m % k) e ∙ mod_self k) in
         grind (arith, nat_tests)
 
--- where a schedule doesn't begin, its offset is one more
+-- if a schedule doesn't begin again, its offset increases by one
 offset_next : (kind : Kind) (n : ℕ) → (offset_after kind (suc n) == 0) ≡ false → offset_after kind (suc n) ≡ suc (offset_after kind n)
 offset_next Absolute n quiet = refl
 offset_next (Recurring Daily) n quiet = mod_next n 86_400 (omega arith) quiet
@@ -81,7 +81,7 @@ zero_after (Recurring Daily) = refl
 zero_after (Recurring Weekly) = refl
 zero_after Relative = refl
 
--- the limit of the schedule of a profile where it doesn't turn
+-- the limit of a profile's schedule is constant if it doesn't turn
 turn_next : (profile : Profile) (base n : ℕ) → is_turn_at profile.schedule (offset profile base (suc n)) ≡ false
     → option_and_then (rate_within profile) (offset profile base (suc n)) ≡ option_and_then (rate_within profile) (offset profile base n)
 turn_next profile base n quiet = ⊎_elim at (⊎_elim before after) (cases_order (suc n) (anchor profile base))
@@ -126,7 +126,7 @@ rate_next profile base n quiet =
     let valid : is_valid_at profile (suc n) ≡ is_valid_at profile n = rw (a, b) refl in
     rw (valid, turn_next profile base n inner.1) refl
 
--- along seconds of which none after the first is a place
+-- the rate is constant over seconds of which none after the first is a place
 rate_stays : (profile : Profile) (base n more : ℕ) → ((k : ℕ) → n < k → k ≤ n + more → is_place profile base k ≡ false)
     → rate profile base (n + more) ≡ rate profile base n
 rate_stays profile base n zero quiet = let e : n + 0 ≡ n = omega arith in ap (rate profile base) e
@@ -147,7 +147,7 @@ pub fails : (test : Bool) → ¬ (test ≡ true) → test ≡ false
 fails true not = absurd (not refl)
 fails false not = refl
 
--- up to the nearest place there is one rate
+-- the rate is constant up to the nearest place
 pub one_rate : (profile : Profile) (base instant : ℕ) (next : Option ℕ) → IsNextPlace profile base instant next → HasOneRateUntil profile base instant next
 one_rate profile base instant None is = λ k from end.
     rate_until profile base instant k from (λ j later early. fails (is_place profile base j) (is j later (omega arith)))

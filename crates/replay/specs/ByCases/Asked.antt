@@ -1,4 +1,4 @@
--- What a message asks for is no compile. Of private clauses.
+-- For private clauses: a message doesn't request a compile.
 use Rattle.texts.specs.declared.asked.Asked.{Asked}
 use Rattle.texts.specs.declared.asked.Asked.TheVariants as asked
 use Rattle.replay.specs.ByCases.MachineSteps.{IsAsked}

@@ -1,5 +1,4 @@
--- The form of a line, word by word. `read_line` has the law that this is the form that `IsOfForm`
--- says.
+-- The form of a line, word by word. By the law of `read_line` it is the form of `IsOfForm`.
 use Rattle.std.specs.Prelude.{ℕ, ◌==◌, ◌&&◌, Bool, nat_lt, if◌then◌else◌, List, length, codes, Option, Some, None}
 use Rattle.std.specs.List.{position_or_len, before_first, after_first}
 use Rattle.std.specs.Str.{bytes_eq}
@@ -15,7 +14,7 @@ use Rattle.texts.specs.ByCases.Number.{number_of}
 abbrev pub is_space : ℕ → Bool
 is_space b = b == space
 
--- the word that a text begins with, of at least one byte, and what follows the one space after it
+-- the first word of a text, of at least one byte, and the text after the one space behind it
 abbrev pub word_at : List ℕ → Option (List ℕ × List ℕ)
 word_at text =
     if nat_lt 0 (position_or_len is_space text)
@@ -23,7 +22,7 @@ word_at text =
     then Some (before_first is_space text, after_first is_space text)
     else None
 
--- the line with a message whose second word this is
+-- the kind of a line with a message that has this second word
 abbrev pub word_named : List ℕ → Option LineWord
 word_named word =
     if bytes_eq word (codes "operator") then Some Operator
@@ -42,7 +41,7 @@ text_form instant second rest = do
   point ← word_at rest
   Some (text_line instant word point.0 point.1)
 
--- by the second word and what follows it
+-- the form by the second word and the text after it
 abbrev pub second_form : List ℕ → List ℕ → List ℕ → Option Form
 second_form instant second rest =
     if bytes_eq second (codes "release") then release_form instant rest
@@ -54,7 +53,7 @@ form_of line = do
   second ← word_at instant.1
   second_form instant.0 second.0 second.1
 
--- the words that the code has, as a form
+-- the words of the code, as a form
 abbrev pub words_view : Words → Form
 words_view (Text instant word point frame) = text_line instant.now word point.now frame.now
 words_view (Release instant number) = release_line instant.now number

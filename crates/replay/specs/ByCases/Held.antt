@@ -1,4 +1,4 @@
--- The test of a held request for its number. Of private clauses.
+-- For private clauses: whether a held request has a number.
 use Rattle.std.specs.Prelude.{ℕ, ◌==◌, Bool}
 use Rattle.replay.specs.declared.player.held.Held.{Held}
 

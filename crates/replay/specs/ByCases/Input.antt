@@ -1,9 +1,9 @@
--- One read. Of private clauses.
+-- For private clauses: the effect of one read.
 use Rattle.std.specs.Prelude.{ℕ, ◌≡◌, ◌≤◌, List, length, ◌++◌, Option, Result, IfOk}
 use Rattle.std.specs.Io.KnownBytes.{Consumes, IsAtEnd}
 use Rattle.replay.specs.declared.script.input.InputFault.{InputFault}
 
--- One read took some bytes from a reader. Where it succeeded they were added, and there were none
+-- One read took some bytes from a reader. If it succeeded, they were appended, and no byte came
 -- only at the end.
 abbrev pub ReadOnto : Option (List ℕ) → Option (List ℕ) → List ℕ → List ℕ → ℕ
     → Result ℕ InputFault → Type 0

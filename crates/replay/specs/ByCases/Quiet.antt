@@ -1,4 +1,4 @@
--- The lines that a script has still to play up to the last that is wanted. Of invariants.
+-- For invariants: the lines of a script that are left up to the last one that is wanted.
 use Rattle.std.specs.Prelude.{ℕ, ◌+◌, ◌-◌, List, take, Option, Some, None}
 
 abbrev pub lines_left : Option ℕ → ℕ → List (List ℕ) → List (List ℕ)

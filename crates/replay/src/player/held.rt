@@ -1,4 +1,4 @@
-//! The held requests of a script: those whose answers no line has asked for yet.
+//! The held requests of a script: those that no line has released yet.
 
 ghost use Rattle.std.specs.Prelude.{◌≡◌, None};
 ghost use Rattle.std.specs.List.{position};
@@ -7,7 +7,7 @@ ghost use Rattle.replay.specs.ByCases.Held.{has_number};
 
 use ocppj_frame::MessageId;
 
-/// A request for a composite schedule that is held, and the CALL that it answers.
+/// A held request for a composite schedule, and its CALL.
 #[derive(Drop)]
 pub struct Held {
     /// The number of the request.
@@ -16,7 +16,7 @@ pub struct Held {
     pub id: MessageId,
 }
 
-/// Takes the held request of a number out, if there is one. Returns the id of its CALL.
+/// Removes the held request of a number, if there is one. Returns the id of its CALL.
 pub fn let_go(held: &mut Vec<Held>, number: u64) -> Option<MessageId>
     ensures id { result ≡ id_held number held.old.items }
     ensures left { held.new.items ≡ let_go number held.old.items }
@@ -26,7 +26,7 @@ pub fn let_go(held: &mut Vec<Held>, number: u64) -> Option<MessageId>
     Some(held.remove(place).id)
 }
 
-/// The place of the held request of a number.
+/// Returns the index of the held request of a number.
 fn place_of(held: &Vec<Held>, number: u64) -> Option<usize>
     ensures { result ≡ position (has_number number) held.now.items }
 {

@@ -1,4 +1,4 @@
-//! Steps of the central system's machine, those on a point's link and calls among them.
+//! Steps of the central system's machine, among them those for a point's link and its calls.
 
 ghost use Rattle.std.specs.Prelude.{◌≡◌, IsTrue, IfOk, OnOk};
 ghost use Rattle.replay.specs.MachineSteps.{stepped_exactly, handed_out, stepped_at_once, attached_once, call_sent, sent_first, confirmed_by, judged_exactly, verdict_kept};
@@ -14,10 +14,10 @@ use site_core::{Machine, PointId, Reply, Step, Take, skipped_sends_send_nothing}
 use std::alloc::{AllocError, Global};
 use sweep_compiler::{AuditJob, Judged, verdicts_are_computed};
 
-/// What comes of a step: its reply, or why it is refused.
+/// The outcome of a step: its reply, or its refusal.
 pub type StepOutcome = Result<Reply, Refusal>;
 
-/// Makes a step that a message asks for.
+/// Makes a step that a message requests.
 pub fn step_exactly(machine: &mut Machine, step: Step) -> Result<StepOutcome, AllocError>
     requires { IsAsked step }
     ensures { IfOk result (λ outcome. stepped_exactly machine.old step
@@ -26,7 +26,7 @@ pub fn step_exactly(machine: &mut Machine, step: Step) -> Result<StepOutcome, Al
     make_step(machine, step)
 }
 
-/// Makes a step that a message asks for. A request that it takes is compiled and answered at once.
+/// Makes a step that a message requests. If it takes a request, compiles and answers that at once.
 pub fn step_at_once(machine: &mut Machine, step: Step) -> Result<StepOutcome, AllocError>
     requires { IsAsked step }
     ensures { IfOk result (λ outcome. stepped_at_once machine.old step
@@ -38,7 +38,7 @@ pub fn step_at_once(machine: &mut Machine, step: Step) -> Result<StepOutcome, Al
     }
 }
 
-/// Makes a Take, and answers its request at once, for what is wanted of it alone.
+/// Makes a Take and answers its request at once, as far as its answer is wanted.
 pub fn skim_take(
     machine: &mut Machine,
     take: Take,
@@ -47,8 +47,8 @@ pub fn skim_take(
     ensures { IfOk result (λ outcome.
         LeadsTo (stepped_at_once machine.old (steps.Take take)) outcome machine.new) }
 {
-    // The request is gone again at once, so its answer makes no difference to the state: the answer
-    // to a request of one second does as well.
+    // The request is removed again at once, so its answer makes no difference to the state: a
+    // request of one second leads to the same state.
     if makes_no_difference(machine, &take, wanted) {
         let outcome = step_at_once(machine, Step::Take(first_second(take)))?;
         return Ok(outcome);
@@ -57,8 +57,8 @@ pub fn skim_take(
     Ok(outcome)
 }
 
-/// Whether no other request is kept, and nothing of the answer to a request is wanted: then it
-/// makes no difference.
+/// Returns whether no other request is kept and nothing of the answer to this one is wanted, so
+/// that the answer makes no difference.
 fn makes_no_difference(machine: &Machine, take: &Take, wanted: Wanted) -> bool
     ensures { IsTrue result → MayBeSkimmed machine.now take.now }
 {
@@ -74,8 +74,8 @@ fn makes_no_difference(machine: &Machine, take: &Take, wanted: Wanted) -> bool
     is_unwanted(machine, take.point.as_str(), &ask, wanted)
 }
 
-/// Whether nothing of the answer to a request is wanted. Whether it is too long is known without it
-/// if it surely has no more periods than an answer may have.
+/// Returns whether nothing of the answer to a request is wanted. Its refusal is known without it if
+/// the schedule can't exceed the limit of periods.
 fn is_unwanted(machine: &Machine, point: &str, ask: &Ask, wanted: Wanted) -> bool {
     match (wanted, machine.book_of(point)) {
         (Wanted::State, _) => true,
@@ -86,7 +86,7 @@ fn is_unwanted(machine: &Machine, point: &str, ask: &Ask, wanted: Wanted) -> boo
     }
 }
 
-/// The Take of the first second of a Take's request.
+/// Returns the Take of only the first second that a Take requests.
 fn first_second(take: Take) -> Take
     ensures { result ≡ record take { duration = 1 } }
 {
@@ -105,18 +105,19 @@ pub fn hand_out(machine: &mut Machine, number: u64) -> Result<StepOutcome, Alloc
     ensures { IfOk result (λ outcome. handed_out machine.old number
         ≡ record { outcome = outcome; after = machine.new }) }
 {
-    // A law: nothing runs.
+    // A law that the proof uses: nothing runs.
     exact_schedules();
-    // Where it can't be compiled, the answer says why.
+    // If it can't be compiled, the outcome of the Answer says why.
     let _ = make_step(machine, Step::Compile(number))?;
     let outcome = make_step(machine, Step::Answer(number))?;
+    // The Compile was made even so, with this as its answer, which a script doesn't print.
     if is_memory(&outcome) {
         return Err(AllocError);
     }
     Ok(outcome)
 }
 
-/// Gives a point a link, if it has none.
+/// Gives a point a link if it has none.
 pub fn attach_once(alloc: Global, machine: &mut Machine, point: &str) -> Result<(), AllocError>
     ensures { OnOk result (machine.new ≡ attached_once machine.old point.now) }
 {
@@ -130,7 +131,7 @@ pub fn attach_once(alloc: Global, machine: &mut Machine, point: &str) -> Result<
     }
 }
 
-/// Sends the first call that waits for a point over its link. Returns that call, if one goes out.
+/// Sends the first waiting call of a point over its link. Returns that call, if one goes out.
 pub fn send_first(
     alloc: Global,
     machine: &mut Machine,
@@ -139,9 +140,9 @@ pub fn send_first(
     ensures { IfOk result (λ call. sent_first machine.old point.now
         ≡ record { call = call; after = machine.new }) }
 {
-    // A law: nothing runs.
+    // A law that the proof uses: nothing runs.
     skipped_sends_send_nothing();
-    // Most often there is nothing to send, and then no step is made.
+    // Mostly nothing is to be sent, and then no step is made.
     match machine.link_to_send(point) {
         Some(link) => {
             let point = PointId::copied(alloc, point)?;
@@ -152,7 +153,7 @@ pub fn send_first(
     }
 }
 
-/// The call that a Send of this outcome sent, if it did.
+/// Returns the call that a Send with this outcome sent, if it sent one.
 fn call_sent(outcome: StepOutcome) -> Option<Call>
     ensures { result ≡ call_sent outcome }
 {
@@ -162,7 +163,7 @@ fn call_sent(outcome: StepOutcome) -> Option<Call>
     }
 }
 
-/// Confirms the call of a number to a point over its link. Where that call isn't in flight, nothing
+/// Confirms the call of a number to a point over its link. If that call isn't in flight, nothing
 /// changes.
 pub fn confirm_call(
     machine: &mut Machine,
@@ -185,21 +186,22 @@ pub fn confirm_call(
     step_exactly(machine, step)
 }
 
-/// Judges an audit by what its point said. A verdict that is short of memory is none.
+/// Judges an audit by its point's reply. Fails if memory runs out.
 pub fn judge_exactly(alloc: Global, job: AuditJob, said: Said) -> Result<Judged, AllocError>
     ensures { IfOk result (λ judged. judged ≡ judged_exactly job said) }
 {
-    // A law: nothing runs.
+    // A law that the proof uses: nothing runs.
     verdicts_are_computed();
     let judged = Judged::make(alloc, job, said);
+    // A verdict that is short of memory is Unsettled only for that reason, so it isn't kept.
     if judged.short() {
         return Err(AllocError);
     }
     Ok(judged)
 }
 
-/// Keeps a verdict on the audit of a point whose call has this number. If the audit has one, or is
-/// no longer the point's, nothing changes.
+/// Keeps a verdict on the audit of a point whose call has this number. If that audit already has
+/// one, or isn't the point's last one any more, nothing changes.
 pub fn keep_verdict(
     machine: &mut Machine,
     point: PointId,
@@ -217,20 +219,21 @@ pub fn keep_verdict(
     Ok(())
 }
 
-/// Makes a step, or says why not.
+/// Makes a step, or returns its refusal.
 fn make_step(machine: &mut Machine, step: Step) -> Result<StepOutcome, AllocError>
     ensures { IfOk result (λ outcome. ComesOf machine.old step outcome machine.new) }
 {
     match machine.step(step) {
         Ok(reply) => Ok(Ok(reply)),
         Err(refused) => match refused.refusal {
+            // Ends the replay: otherwise the output would depend on the computer's memory.
             Refusal::OutOfMemory => Err(AllocError),
             refusal => Ok(Err(refusal)),
         },
     }
 }
 
-/// Whether memory ran out while a schedule was compiled.
+/// Returns whether memory ran out while a schedule was compiled.
 fn is_memory(outcome: &StepOutcome) -> bool
     ensures { result ≡ is_memory outcome.now }
 {

@@ -1,12 +1,12 @@
-//! How many periods the schedule of a request has at the most.
+//! An upper bound on the periods of a requested schedule.
 
 use meaning::{Ask, View};
 use ocpp_scalars::Instant;
 use profile::{Kind, Profile, Purpose, Row, Schedule};
 
-/// How many periods the schedule of a request has at the most. After its first second a limit
-/// changes only where a profile has a place (chapter 7, ChargingProfile): where its validity begins
-/// or ends, and where its schedule turns.
+/// Returns an upper bound on the periods of a requested schedule. After its first second a limit
+/// changes only at a place of a profile (chapter 7, ChargingProfile): where its validity begins or
+/// ends, or where its schedule turns.
 pub fn most_periods(view: &View<'_>, ask: &Ask) -> u64 {
     let mut most: u64 = 1;
     for row in view.rows {
@@ -15,7 +15,7 @@ pub fn most_periods(view: &View<'_>, ask: &Ask) -> u64 {
     most
 }
 
-/// How many places a row has at the most in a request, for all connectors that are looked at.
+/// Returns an upper bound on the places of a row in a request, over all connectors of the request.
 fn places_of_row(view: &View<'_>, ask: &Ask, row: &Row) -> u64 {
     if row.profile.purpose == Purpose::ChargePointMaxProfile {
         return places_within(&row.profile, row.base(None, ask.start), ask);
@@ -34,11 +34,11 @@ fn places_of_row(view: &View<'_>, ask: &Ask, row: &Row) -> u64 {
     most
 }
 
-/// How many places a profile has at the most behind the first second of a request.
+/// Returns an upper bound on the places of a profile after the first second of a request.
 fn places_within(profile: &Profile, base: Instant, ask: &Ask) -> u64 {
     let schedule = &profile.schedule;
     let times = match profile.kind {
-        // Each offset comes once in each day or week, and so once in each part of one.
+        // Each offset comes once in each day or week, and so at most once in a part of one.
         Kind::Recurring(recurrency) => u64::from(ask.duration).div_ceil(recurrency.length()),
         Kind::Absolute | Kind::Relative => 1,
     };
@@ -48,8 +48,8 @@ fn places_within(profile: &Profile, base: Instant, ask: &Ask) -> u64 {
     turns.saturating_sub(first).saturating_add(ends)
 }
 
-/// At how many offsets a schedule turns at the most: at its beginning, where a period starts, and
-/// at its end.
+/// Returns an upper bound on the offsets at which a schedule turns: its beginning, the starts of
+/// its periods, and its end.
 fn turn_count(schedule: &Schedule) -> u64 {
     let periods = schedule.periods.as_slice();
     let begins_before = periods.first().is_none_or(|first| first.start > 0);
@@ -58,7 +58,7 @@ fn turn_count(schedule: &Schedule) -> u64 {
         .saturating_add(u64::from(schedule.duration.is_some()))
 }
 
-/// Whether the schedule of a profile turns at an instant.
+/// Returns whether the schedule of a profile turns at an instant.
 fn is_turn(profile: &Profile, base: Instant, instant: Instant) -> bool {
     let Some(offset) = profile.offset(base, instant) else {
         return false;

@@ -1,5 +1,5 @@
-//! The player of a script: the central system's machine, the requests that are held, and the memory
-//! that messages are read into.
+//! The player of a script: the central system's machine, the held requests, and the memory for
+//! reading messages.
 
 ghost use Rattle.std.specs.Prelude.{◌≡◌, ◌∷◌, [], ◌++◌, None, IfOk, OnOk};
 ghost use Rattle.site_core.specs.declared.step.Step.TheVariants as steps;
@@ -29,9 +29,9 @@ use texts::{Asked, SentText, Unread, asked_of, hold_of, said_of};
 pub struct Player {
     alloc: Global,
     machine: Machine,
-    /// In the order of their lines.
+    /// The held requests, in the order of their lines.
     held: Vec<Held>,
-    /// What messages are read into.
+    /// The memory that messages are read into.
     memory: ReadingMemory,
 }
 
@@ -50,7 +50,7 @@ impl Player {
     ghost use Rattle.replay.specs.Player.{first_state, with_machine};
     ghost use Rattle.replay.specs.ByCases.Player.{ComesTo, Skims, Sends};
 
-    /// Before the first line of a script on a site.
+    /// Makes a player for a site, before the first line of a script.
     pub fn new(alloc: Global, site: Site) -> Result<Player, AllocError>
         ensures { IfOk result (λ player. player ≡ first_state site) }
     {
@@ -62,33 +62,33 @@ impl Player {
         })
     }
 
-    /// The allocator that it was made with.
+    /// Returns the allocator.
     pub fn alloc(&self) -> Global {
         self.alloc
     }
 
-    /// The site.
+    /// Returns the site.
     pub fn site(&self) -> &Site
         ensures { result.now ≡ self.now.machine.site }
     {
         self.machine.site()
     }
 
-    /// The central system's machine.
+    /// Returns the central system's machine.
     pub fn machine(&self) -> &Machine
         ensures { result.now ≡ self.now.machine }
     {
         &self.machine
     }
 
-    /// The requests that are held.
+    /// Returns the held requests.
     pub fn held(&self) -> &[Held]
         ensures { result.now ≡ self.now.held }
     {
         self.held.as_slice()
     }
 
-    /// What a message asks for.
+    /// Reads a message, and returns its request.
     pub fn asked_of(&mut self, text: &SentText<'_>) -> Result<Asked, AllocError>
         ensures asked { IfOk result (λ asked. asked ≡ asked_of text.now) }
         ensures same { self.new ≡ self.old }
@@ -99,7 +99,7 @@ impl Player {
         }
     }
 
-    /// What a held message asks for, or `None` where the message is no CALL of
+    /// Reads a held message, and returns its request, or `None` if the message isn't a CALL of
     /// GetCompositeSchedule.
     pub fn hold_of(&mut self, text: &SentText<'_>) -> Result<Option<Asked>, AllocError>
         ensures asked { IfOk result (λ asked. asked ≡ hold_of text.now) }
@@ -111,7 +111,7 @@ impl Player {
         }
     }
 
-    /// Makes a step that a message asks for.
+    /// Makes a step that a message requests.
     pub fn step(&mut self, step: Step) -> Result<StepOutcome, AllocError>
         requires { IsAsked step }
         ensures { IfOk result
@@ -120,7 +120,7 @@ impl Player {
         step_exactly(&mut self.machine, step)
     }
 
-    /// Makes a step that a message asks for. A request that it takes is answered at once.
+    /// Makes a step that a message requests. If it takes a request, answers that at once.
     pub fn step_at_once(&mut self, step: Step) -> Result<StepOutcome, AllocError>
         requires { IsAsked step }
         ensures { IfOk result
@@ -129,8 +129,8 @@ impl Player {
         step_at_once(&mut self.machine, step)
     }
 
-    /// Makes a Take and answers its request at once, for what is wanted of it alone. If it can do
-    /// without, no schedule is made but of the first second.
+    /// Makes a Take and answers its request at once, as far as its answer is wanted. If the answer
+    /// makes no difference, compiles only the schedule of the first second.
     pub fn skim_take(&mut self, take: Take, wanted: Wanted) -> Result<StepOutcome, AllocError>
         ensures { IfOk result (λ outcome. Skims self.old
             (stepped_at_once self.old.machine (steps.Take take)) outcome self.new) }
@@ -138,7 +138,7 @@ impl Player {
         skim_take(&mut self.machine, take, wanted)
     }
 
-    /// Answers the request of a number.
+    /// Compiles and answers the request of a number.
     pub fn hand_out(&mut self, number: u64) -> Result<StepOutcome, AllocError>
         ensures { IfOk result
             (λ outcome. ComesTo self.old (handed_out self.old.machine number) outcome self.new) }
@@ -146,7 +146,7 @@ impl Player {
         hand_out(&mut self.machine, number)
     }
 
-    /// Gives a point a link, if it has none.
+    /// Gives a point a link if it has none.
     pub fn attach_once(&mut self, point: &str) -> Result<(), AllocError>
         ensures { OnOk result
             (self.new ≡ with_machine self.old (attached_once self.old.machine point.now)) }
@@ -154,8 +154,7 @@ impl Player {
         attach_once(self.alloc, &mut self.machine, point)
     }
 
-    /// Sends the first call that waits for a point over its link. Returns that call, if one goes
-    /// out.
+    /// Sends the first waiting call of a point over its link. Returns that call, if one goes out.
     pub fn send_first(&mut self, point: &str) -> Result<Option<Call>, AllocError>
         ensures { IfOk result
             (λ call. Sends self.old (sent_first self.old.machine point.now) call self.new) }
@@ -163,9 +162,9 @@ impl Player {
         send_first(self.alloc, &mut self.machine, point)
     }
 
-    /// Confirms the call of a number to a point, if it is in flight, for the message with which the
-    /// point replied to it. If it is the call of the point's audit, what the message says is judged,
-    /// and the verdict kept.
+    /// Confirms the call of a number to a point, if it is in flight, after the message with which
+    /// the point replied to it. If it is the call of the point's audit, judges the message and
+    /// keeps the verdict.
     pub fn reply_to_call(
         &mut self,
         text: &SentText<'_>,
@@ -193,7 +192,7 @@ impl Player {
         }
     }
 
-    /// Judges what a message says as a point's reply to its audit, and keeps the verdict.
+    /// Judges a message as a point's reply to its audit, and keeps the verdict.
     fn judge_reply(
         &mut self,
         text: &SentText<'_>,
@@ -217,7 +216,7 @@ impl Player {
         Ok(())
     }
 
-    /// The id of the CALL whose request has this number, which is no longer held.
+    /// Releases the held request of a number, if there is one. Returns the id of its CALL.
     pub fn let_go(&mut self, number: u64) -> Option<MessageId>
         ensures id { result ≡ id_held number self.old.held }
         ensures after { self.new ≡ record self.old { held = let_go number self.old.held } }

@@ -1,11 +1,11 @@
-//! What is wanted of a request that is skimmed.
+//! The part of an answer that is wanted of a skimmed request.
 
-/// What has to be known of a request that is answered at once.
+/// The result that is wanted of a request that is answered at once.
 #[derive(Clone, Copy, PartialEq, Eq)]
 pub enum Wanted {
-    /// Whether it is refused, also where its schedule would be too long: that is made where it may
-    /// be.
+    /// Whether it is refused, even for a schedule that is too long. The schedule is compiled if it
+    /// may be too long.
     Refusal,
-    /// What it leads to alone. No schedule makes a difference to that, so none is made.
+    /// Only the state after it, to which the schedule makes no difference.
     State,
 }

@@ -5,7 +5,7 @@ ghost use Rattle.replay.specs.ByCases.Form.{word_at, word_named, words_view, for
 
 use texts::number_of;
 
-/// Which line that brings a message it is, by its second word.
+/// The kind of a line with a message, by its second word.
 #[derive(Clone, Copy, PartialEq, Eq)]
 pub enum LineWord {
     /// `operator`: an operator's message for a point.
@@ -33,7 +33,7 @@ pub enum Words<'a> {
     },
 }
 
-/// The words of a line, if it is of one of the forms.
+/// Splits a line into its words, if it has one of the forms.
 #[tactic(auto, unfolding(crate::specs::ByCases::Form::form_of))]
 pub fn split_words(text: &str) -> Option<Words<'_>>
     ensures { option_map words_view result ≡ form_of text.now }
@@ -54,7 +54,7 @@ pub fn split_words(text: &str) -> Option<Words<'_>>
     })
 }
 
-/// The line with a message whose second word this is.
+/// Returns the kind of a line with a message that has this second word.
 fn word_named(word: &str) -> Option<LineWord>
     ensures { result ≡ word_named word.now }
 {
@@ -69,7 +69,7 @@ fn word_named(word: &str) -> Option<LineWord>
     }
 }
 
-/// The word that a text begins with, and what follows the one space after it.
+/// Returns the first word of a text, and the text after the one space behind it.
 fn split_word(text: &str) -> Option<(&str, &str)>
     ensures { option_map (λ parts. (parts.0.now, parts.1.now)) result ≡ word_at text.now }
 {

@@ -1,4 +1,4 @@
-//! Reading a whole input of bounded length.
+//! Reading of a whole input of bounded length.
 
 ghost use Rattle.std.specs.Prelude.{◌≡◌, ℕ, ◌+◌, ◌<◌, ◌≤◌, ◌^◌, length, vec_len, IfOk, IfSome, IsErrOf, OnOk};
 ghost use Rattle.std.specs.Io.KnownBytes.{Consumes, IsAtEnd};
@@ -8,13 +8,13 @@ ghost use Rattle.replay.specs.ByCases.Input.{ReadOnto};
 use std::alloc::{AllocError, Global};
 use std::io::Read;
 
-/// How many bytes are asked for at a time.
+/// The most bytes of one read.
 const PIECE: usize = 16_384;
 
-/// Why a whole input was not read.
+/// The reason for which a whole input wasn't read.
 #[derive(Clone, Copy, PartialEq, Eq)]
 pub enum InputFault {
-    /// A read failed, an interrupted one included.
+    /// A read failed or was interrupted.
     Read,
     /// The input has more bytes than the limit.
     TooLong,
@@ -32,14 +32,14 @@ impl From<AllocError> for InputFault {
     }
 }
 
-/// Room for the bytes of one read.
+/// Allocates room for the bytes of one read.
 fn new_piece(alloc: Global) -> Result<Vec<u8>, AllocError>
     ensures { IfOk result (λ piece. vec_len piece ≡ PIECE) }
 {
     vec![in alloc; 0u8; PIECE]
 }
 
-/// Reads once, and adds the bytes that came. Returns how many these are.
+/// Reads once, and appends the bytes that came. Returns their number.
 fn read_onto<R: Read>(
     reader: &mut R,
     piece: &mut [u8],
@@ -50,6 +50,7 @@ fn read_onto<R: Read>(
         (R.remaining reader.new) bytes.old.items bytes.new.items (length piece.old) result }
     ensures never_long { ¬ IsErrOf result InputFault.TooLong }
 {
+    // A plain read, since a library call that retries would hide an interrupted one.
     let Ok(count) = reader.read(piece) else {
         return Err(InputFault::Read);
     };
@@ -58,8 +59,8 @@ fn read_onto<R: Read>(
     Ok(count)
 }
 
-/// All bytes that a reader has, `limit` at the most. One byte more is asked for, to see whether
-/// there is one.
+/// Reads all bytes of a reader, at most `limit`. Requests one byte more, to see whether there is
+/// one.
 pub fn read_all<R: Read>(alloc: Global, reader: &mut R, limit: usize) -> Result<Vec<u8>, InputFault>
     requires { limit < 2 ^ 32 }
     ensures whole { IfOk result
@@ -72,6 +73,7 @@ pub fn read_all<R: Read>(alloc: Global, reader: &mut R, limit: usize) -> Result<
     ensures long { IsErrOf result InputFault.TooLong
         → GaveMoreThan (R.remaining reader.old) (R.remaining reader.new) limit }
 {
+    // Not by `take` and `read_to_end`: they don't state which bytes the inner reader lost.
     let mut bytes = Vec::new(alloc);
     let mut piece = new_piece(alloc)?;
     while bytes.len() <= limit {

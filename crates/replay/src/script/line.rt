@@ -1,4 +1,4 @@
-//! What a line of a script says.
+//! Reading of a line of a script.
 
 ghost use Rattle.std.specs.Prelude.{◌≡◌, ◌↔◌, Some};
 ghost use Rattle.replay.specs.Form.{Form, IsOfForm};
@@ -15,10 +15,11 @@ use texts::SentText;
 /// The longest line of a script, in bytes.
 const MAX_LINE_BYTES: usize = 1_048_576;
 
-/// A longer message has no room on a line.
+/// The longest message that has room on a line, in bytes.
+// 128 bytes are more than the longest instant, word and identity before the frame.
 pub const LONGEST_FRAME: usize = MAX_LINE_BYTES - 128;
 
-/// Why a line of a script can't be played, in the order in which the faults are checked.
+/// The reason for which a line of a script can't be played, in the order of the checks.
 #[derive(Clone, Copy, PartialEq, Eq)]
 pub enum LineFault {
     /// The line has more than 1,048,576 bytes.
@@ -29,16 +30,16 @@ pub enum LineFault {
     BadLine,
     /// The first word isn't an instant.
     BadInstant,
-    /// The site has no point of the identity that a point's line names.
+    /// The site lacks the point that a point's line names.
     UnknownPoint,
-    /// The frame of a `hold` is no CALL of GetCompositeSchedule.
+    /// The frame of a `hold` isn't a CALL of GetCompositeSchedule.
     NotComposite,
     /// No request of this number is held.
     UnknownRequest,
 }
 
 impl LineFault {
-    /// The fault's name, as the output prints it.
+    /// Returns the fault's name, as the output prints it.
     pub fn name(self) -> &'static str
         ensures { result.now ≡ fault_name self }
     {
@@ -62,11 +63,10 @@ impl fmt::Display for LineFault {
     }
 }
 
-/// What a line of a script says, by its form.
+/// The contents of a line of a script, by its form.
 #[derive(Drop)]
 pub enum ScriptLine<'a> {
-    /// `INSTANT operator ID FRAME` or `INSTANT point ID FRAME`: a message that comes to the central
-    /// system.
+    /// `INSTANT operator ID FRAME` or `INSTANT point ID FRAME`: a message to the central system.
     Text(SentText<'a>),
     /// `INSTANT hold ID FRAME`: an operator's request for a schedule that is answered later.
     Hold(SentText<'a>),
@@ -90,7 +90,7 @@ pub fn read_line<'a>(line: &'a [u8], site: &Site) -> Result<ScriptLine<'a>, Line
     }
 }
 
-/// Reads a line that is short enough and UTF-8.
+/// Reads a line that is UTF-8 and not too long.
 fn read_text<'a>(text: &'a str, site: &Site) -> Result<ScriptLine<'a>, LineFault>
     ensures { result ≡ line_of_form site.now (form_of text.entry.now) }
 {
@@ -103,7 +103,7 @@ fn read_text<'a>(text: &'a str, site: &Site) -> Result<ScriptLine<'a>, LineFault
     }
 }
 
-/// The first word.
+/// Returns the first word.
 fn instant_of<'a>(words: &Words<'a>) -> &'a str
     ensures { result.now ≡ instant_in (words_view words.now) }
 {
@@ -112,7 +112,7 @@ fn instant_of<'a>(words: &Words<'a>) -> &'a str
     }
 }
 
-/// What a line says at a moment.
+/// Returns the contents of a line whose instant is read.
 fn read_words<'a>(
     words: Words<'a>,
     moment: Instant,
@@ -136,17 +136,18 @@ fn read_words<'a>(
     }
 }
 
-/// Whether a point's own message names a point that the site lacks.
+/// Returns whether a point's own message names a point that the site lacks.
 fn is_stranger(site: &Site, word: LineWord, point: &str) -> bool
     ensures { result ≡ is_stranger site.now word point.now }
 {
     match word {
         LineWord::Point => site.place_of(point).is_none(),
+        // The machine answers an operator who names an unknown point.
         LineWord::Operator | LineWord::Hold => false,
     }
 }
 
-/// The line with a message whose second word this is.
+/// Returns the line of a message with this second word.
 fn text_line<'a>(moment: Instant, word: LineWord, point: &'a str, frame: &'a str) -> ScriptLine<'a>
     ensures { result ≡ text_of moment word point.entry.now frame.entry.now }
 {

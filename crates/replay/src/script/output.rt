@@ -1,4 +1,4 @@
-//! Writing whole texts, however often the writer is interrupted.
+//! Writing of whole texts, however often the writer is interrupted.
 
 ghost use Rattle.std.specs.Prelude.{◌≡◌, OnOk, OnErr};
 ghost use Rattle.std.specs.Io.KnownBytes.{Appends, Keeps};
@@ -10,10 +10,10 @@ use std::io::{ErrorKind, Write};
 #[derive(Clone, Copy, PartialEq, Eq)]
 pub struct WriteFault;
 
-/// Writes a whole text. Where a write fails, a prefix of it was written, and not the whole, so an
-/// empty text doesn't fail.
-// `Write::write_all` says nothing of what was written before it failed, so the writes stand here.
-// They are counted, since a writer may be interrupted for ever.
+/// Writes a whole text. If a write fails, only a proper prefix of the text was written. So an empty
+/// text doesn't fail.
+// `Write::write_all` doesn't state what was written before it failed, so this loop replaces it. The
+// writes are counted, since a writer may be interrupted forever.
 pub fn write_text<W: Write>(writer: &mut W, text: &str) -> Result<(), WriteFault>
     ensures whole { OnOk result (Appends (W.contents writer.old) (W.contents writer.new) text.now) }
     ensures prefix { AppendsPrefix (W.contents writer.old) (W.contents writer.new) text.now }
@@ -39,10 +39,11 @@ pub fn write_text<W: Write>(writer: &mut W, text: &str) -> Result<(), WriteFault
     Ok(())
 }
 
-/// Has a writer pass on what it holds. `Write::flush` gives up where it is interrupted.
+/// Flushes a writer, even if it is interrupted.
 pub fn flush_all<W: Write>(writer: &mut W) -> Result<(), WriteFault>
     ensures { Keeps (W.contents writer.old) (W.contents writer.new) }
 {
+    // `Write::flush` gives up if it is interrupted.
     for _ in 0..u64::MAX {
         match writer.flush() {
             Ok(()) => return Ok(()),

@@ -1,4 +1,4 @@
-//! What comes of a line of a script: what it prints, and what its player does at it.
+//! The outcome of a line of a script: its output, and its effect on the player.
 
 ghost use Rattle.std.specs.Prelude.{◌≡◌, ◌∷◌, [], ◌++◌, true, false, IfOk, OnOk};
 ghost use Rattle.replay.specs.declared.script.printed_line.PrintedLine.TheVariants as lines;
@@ -49,7 +49,7 @@ pub fn play_line<'a>(
     })
 }
 
-/// What a line says on a site, or its fault; nothing where it is empty.
+/// Reads a line on a site. Returns its contents or its fault, or `None` if it is empty.
 pub fn said_on<'a>(site: &Site, line: &'a [u8]) -> Option<Result<ScriptLine<'a>, LineFault>>
     ensures { result ≡ said_on site.now line.entry.now }
 {
@@ -59,7 +59,7 @@ pub fn said_on<'a>(site: &Site, line: &'a [u8]) -> Option<Result<ScriptLine<'a>,
     Some(read_line(line, site))
 }
 
-/// What comes of what a line says, or of its fault.
+/// Returns the outcome of a line that was read, or of its fault.
 pub fn read_outcome(
     player: &mut Player,
     number: u64,
@@ -75,7 +75,7 @@ pub fn read_outcome(
     }
 }
 
-/// What comes of what a line says.
+/// Returns the outcome of a line with these contents.
 fn said_outcome(
     player: &mut Player,
     number: u64,
@@ -113,7 +113,7 @@ fn release_outcome(
     step_outcome(player.alloc(), unit, id, kind, outcome)
 }
 
-/// What comes of a line that prints nothing.
+/// Returns the outcome of a line that prints nothing.
 fn without_lines(alloc: Global, change: PointChange) -> LineOutcome
     ensures printed { result.printed.items ≡ [] }
     ensures fault { result.is_fault ≡ false }
@@ -126,7 +126,7 @@ fn without_lines(alloc: Global, change: PointChange) -> LineOutcome
     }
 }
 
-/// What comes of a line that prints one line and has no fault.
+/// Returns the outcome of a line that prints one line and has no fault.
 fn with_line(
     alloc: Global,
     line: PrintedLine,
@@ -143,7 +143,7 @@ fn with_line(
     })
 }
 
-/// What comes of the script's line of this number, which has a fault.
+/// Returns the outcome of the script's line of this number, which has a fault.
 fn fault_outcome(alloc: Global, number: u64, fault: LineFault) -> Result<LineOutcome, AllocError>
     ensures printed { IfOk result
         (λ outcome. outcome.printed.items ≡ lines.Fault number fault ∷ []) }
@@ -162,7 +162,7 @@ fn fault_outcome(alloc: Global, number: u64, fault: LineFault) -> Result<LineOut
     })
 }
 
-/// What comes of a message: its answer, and the call that goes out to its sender.
+/// Returns the outcome of a message: its answer, and the call that goes out to its sender.
 pub fn text_outcome(player: &mut Player, text: &SentText<'_>) -> Result<LineOutcome, AllocError>
     ensures { IfOk result (λ outcome. IsHandled
         (text_handled player.old text.now.sender text.now) outcome player.new) }
@@ -173,12 +173,13 @@ pub fn text_outcome(player: &mut Player, text: &SentText<'_>) -> Result<LineOutc
     }
 }
 
-/// What comes of a point's message: its answer, and the call that goes out to the point, which has
-/// a link then.
+/// Returns the outcome of a point's message: its answer, and the call that goes out to the point.
+/// Gives the point a link if it has none.
 fn point_outcome(player: &mut Player, text: &SentText<'_>) -> Result<LineOutcome, AllocError>
     ensures { IfOk result
         (λ outcome. IsHandled (point_handled player.old text.now) outcome player.new) }
 {
+    // Even a message that isn't answered gives its point a link, and lets a call go out.
     player.attach_once(text.point())?;
     let mut outcome = answer_outcome(player, text)?;
     let call = player.send_first(text.point())?;
@@ -186,7 +187,7 @@ fn point_outcome(player: &mut Player, text: &SentText<'_>) -> Result<LineOutcome
     Ok(outcome)
 }
 
-/// Appends the line with the call that goes out to a point, if one does.
+/// Appends the line with the call that goes out to a point, if there is one.
 fn push_call_line(
     alloc: Global,
     lines: &mut Vec<PrintedLine>,
@@ -202,7 +203,7 @@ fn push_call_line(
     Ok(())
 }
 
-/// What comes of a message without a call that goes out: its answer, if it has one.
+/// Returns the outcome of a message before a call goes out: its answer, if it has one.
 fn answer_outcome(player: &mut Player, text: &SentText<'_>) -> Result<LineOutcome, AllocError>
     ensures { IfOk result (λ outcome. IsHandled
         (asked_handled player.old text.now (asked_of text.now)) outcome player.new) }
@@ -211,7 +212,7 @@ fn answer_outcome(player: &mut Player, text: &SentText<'_>) -> Result<LineOutcom
     asked_outcome(player, text, asked)
 }
 
-/// What comes of what a message asks for.
+/// Returns the outcome of a message's request.
 pub fn asked_outcome(
     player: &mut Player,
     text: &SentText<'_>,
@@ -243,7 +244,7 @@ pub fn asked_outcome(
     }
 }
 
-/// What comes of a held request: the number of its request, or the answer where none is kept.
+/// Returns the outcome of a held message: the number of its request, or the answer if none is kept.
 fn hold_outcome(
     player: &mut Player,
     text: &SentText<'_>,
@@ -272,7 +273,7 @@ fn hold_outcome(
     }
 }
 
-/// What comes of the CALL of this id, whose step has this outcome.
+/// Returns the outcome of the CALL of this id, whose step has this outcome.
 pub fn step_outcome(
     alloc: Global,
     unit: Unit,

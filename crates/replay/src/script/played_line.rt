@@ -1,17 +1,17 @@
-//! A line of a script that was played: what it says, and what came of it.
+//! A line of a script that was played: its contents and its outcome.
 
 use crate::script::line::{LineFault, ScriptLine};
 use crate::script::point_change::PointChange;
 use crate::script::printed_line::PrintedLine;
 
-/// What came of a line of a script.
+/// The outcome of a line of a script.
 #[derive(Drop)]
 pub struct LineOutcome {
-    /// What it prints.
+    /// The lines that it prints.
     pub printed: Vec<PrintedLine>,
     /// Whether it has a fault.
     pub is_fault: bool,
-    /// What it changed at its point.
+    /// The change at its point.
     pub change: PointChange,
 }
 
@@ -22,7 +22,7 @@ pub struct PlayedLine<'a> {
     pub number: u64,
     /// The line without its ending.
     pub line: &'a [u8],
-    /// What it says on the site, or its fault; nothing where it is empty.
+    /// Its contents on the site, or its fault; `None` if it is empty.
     pub said: Option<Result<ScriptLine<'a>, LineFault>>,
     pub outcome: LineOutcome,
 }

@@ -1,4 +1,4 @@
-//! A script that is played line after line without a writer, and the state after N of its lines.
+//! A script that is played line by line without a writer, and the state after N of its lines.
 
 ghost use Rattle.std.specs.Prelude.{◌≡◌, ◌+◌, ◌<◌, ◌≤◌, if◌then◌else◌, IfOk, length};
 ghost use Rattle.replay.specs.Limits.{max_script_bytes};
@@ -16,18 +16,18 @@ use site_rules::Site;
 use std::alloc::{AllocError, Global};
 use std::marker::Model;
 
-/// A script on a site, between two of its lines: what the lines so far led to, and those that are
-/// left.
+/// A script on a site, between two of its lines: the state after the lines so far, and the lines
+/// that are left.
 #[derive(Drop)]
 pub struct Playing<'a> {
     player: Player,
-    /// What is left of the script.
+    /// The rest of the script.
     rest: &'a [u8],
     /// The number of the next line.
     number: u64,
     script_faults: u64,
-    /// The lines that have a fault, or a message that was refused; a request whose schedule is too
-    /// long isn't counted.
+    /// The number of lines with a fault or a refused message. A request whose schedule is too long
+    /// isn't counted.
     refused_lines: u64,
 }
 
@@ -53,7 +53,7 @@ impl<'a> Playing<'a> {
     ghost use Rattle.replay.specs.Playing.{before_first_line};
     ghost use Rattle.replay.specs.Quiet.{IsNext, HasPrinted, is_up_to};
 
-    /// A script on a site before its first line.
+    /// Makes a script on a site, before its first line.
     pub fn new(alloc: Global, script: &'a [u8], site: Site) -> Result<Playing<'a>, AllocError>
         requires { length script.now ≤ max_script_bytes }
         ensures { IfOk result (λ playing. playing ≡ before_first_line site script.entry.now) }
@@ -67,7 +67,7 @@ impl<'a> Playing<'a> {
         })
     }
 
-    /// Plays the next line, if one is left. Out of memory the script can't go on.
+    /// Plays the next line, if one is left. If memory runs out, the script can't go on.
     pub fn play_next(&mut self) -> Result<Option<PlayedLine<'a>>, AllocError>
         ensures next { IfOk result (λ line. IsNext self.old line self.new) }
         ensures printed { IfOk result (λ line. HasPrinted self.old line) }
@@ -81,9 +81,9 @@ impl<'a> Playing<'a> {
         Ok(Some(played))
     }
 
-    /// Plays the next line, if one is left, without schedules. What it printed has none. None is
-    /// made if it is known without it that a request isn't refused. Out of memory the script can't
-    /// go on.
+    /// Plays the next line, if one is left, without schedules: its output has none. If a request
+    /// surely isn't refused, its schedule isn't compiled. If memory runs out, the script can't go
+    /// on.
     pub fn skim_next(&mut self) -> Result<Option<PlayedLine<'a>>, AllocError>
         ensures { IfOk result (λ line. IsNext self.old line self.new) }
     {
@@ -96,9 +96,9 @@ impl<'a> Playing<'a> {
         Ok(Some(played))
     }
 
-    /// Plays the next line, if one is left, for what it leads to. No schedule is made for a request
-    /// that is answered at once while no other is held. What the line printed has no schedule, nor
-    /// that one is too long. Out of memory the script can't go on.
+    /// Plays the next line, if one is left, for its effect. Of a request that is answered at once
+    /// while no other is held, only the first second is compiled. The output has no schedule, and
+    /// no refusal of one that is too long. If memory runs out, the script can't go on.
     pub fn follow_next(&mut self) -> Result<Option<PlayedLine<'a>>, AllocError>
         ensures { IfOk result (λ line. IsNext self.old line self.new) }
     {
@@ -111,7 +111,7 @@ impl<'a> Playing<'a> {
         Ok(Some(played))
     }
 
-    /// Goes on behind a line that was played and came to this.
+    /// Moves past a line that was played with this outcome.
     fn pass(&mut self, outcome: &LineOutcome, others: &'a [u8])
         requires shorter { length others.now < length self.old.rest }
         ensures rest { self.new.rest ≡ others.entry.now }
@@ -122,12 +122,13 @@ impl<'a> Playing<'a> {
     {
         self.script_faults += u64::from(outcome.is_fault);
         let is_refused = outcome.printed.iter().any(|line| line.is_refusal());
+        // Saturates, since the invariant doesn't bound this number.
         self.refused_lines = self.refused_lines.saturating_add(u64::from(is_refused));
         self.number += 1;
         self.rest = others;
     }
 
-    /// Whether the next line is no later one than the last that is wanted.
+    /// Returns whether the next line is at most the last one that is wanted.
     fn is_up_to(&self, last_line: Option<u64>) -> bool
         ensures { result ≡ is_up_to last_line self.now.number }
     {
@@ -137,35 +138,35 @@ impl<'a> Playing<'a> {
         }
     }
 
-    /// What the central system knows now.
+    /// Returns the central system's machine.
     pub fn machine(&self) -> &Machine
         ensures { result.now ≡ self.now.state.machine }
     {
         self.player.machine()
     }
 
-    /// The requests that are held, in the order of their lines.
+    /// Returns the held requests, in the order of their lines.
     pub fn held(&self) -> &[Held]
         ensures { result.now ≡ self.now.state.held }
     {
         self.player.held()
     }
 
-    /// How many of the lines so far have a fault.
+    /// Returns how many of the lines so far have a fault.
     pub fn script_faults(&self) -> u64
         ensures { result ≡ self.now.faults }
     {
         self.script_faults
     }
 
-    /// How many of the lines so far have a fault or a message that was refused, by what they
-    /// printed. A request whose schedule is too long isn't among them, since that isn't known where
-    /// none was made. No clause says this number.
+    /// Returns how many of the lines so far have a fault or a refused message, by their output. A
+    /// request whose schedule is too long isn't counted, since that is unknown if the schedule
+    /// wasn't compiled. No clause states this number.
     pub fn refused_lines(&self) -> u64 {
         self.refused_lines
     }
 
-    /// The number of the next line, from 1, whether or not there is one.
+    /// Returns the number of the next line, from 1, even if there is none.
     pub fn next_line(&self) -> u64
         ensures { result ≡ self.now.number }
     {
@@ -173,10 +174,10 @@ impl<'a> Playing<'a> {
     }
 }
 
-/// Plays a script on a site up to the line of a number, or the whole of it, and prints nothing. So
-/// no schedule is made for a request that is answered at once while no other is held. What stands
-/// then is what the definition of a script's play says of these lines. A script that is shorter is
-/// played whole.
+/// Plays a script on a site up to the line of a number, or the whole of it, and prints nothing. Of
+/// a request that is answered at once while no other is held, only the first second is compiled.
+/// The final state is the one that the definition gives for these lines. A shorter script is played
+/// whole.
 pub fn play_quietly(
     alloc: Global,
     script: &[u8],

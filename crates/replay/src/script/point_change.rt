@@ -1,4 +1,4 @@
-//! What a line of a script changes at its point.
+//! The change that a line of a script makes at its point.
 
 ghost use Rattle.std.specs.Prelude.{◌≡◌};
 ghost use Rattle.replay.specs.PointChange.{change_by, change_of};
@@ -6,25 +6,25 @@ ghost use Rattle.replay.specs.PointChange.{change_by, change_of};
 use crate::player::machine_steps::StepOutcome;
 use site_core::Reply;
 
-/// What a line of a script changes at its point, besides its link and the calls that go out, by the
-/// reply to the step that its message asks for.
+/// The change that a line of a script makes at its point, by the reply to the step that its message
+/// requests. The link and outgoing calls aren't counted.
 #[derive(Clone, Copy, PartialEq, Eq)]
 pub enum PointChange {
-    /// Nothing, or a request for a schedule is kept or answered.
+    /// None, or a request for a schedule is kept or answered.
     Nothing,
-    /// Profiles were installed or removed, and a call that tells the point so was added.
+    /// Profiles were installed or removed, and a call with this change was added.
     Profiles,
-    /// A transaction began or ended. TxProfiles may be gone with it, or one may be installed.
+    /// A transaction began or ended. TxProfiles may have been removed with it, or one installed.
     Transaction,
-    /// An audit began, and the call that asks the point was added.
+    /// An audit began, and its call was added.
     Audit,
-    /// The point was asked to start a transaction, and the call that asks so was added.
+    /// A remote start was requested, and its call was added.
     RemoteStart,
-    /// The point answered the call in flight, which is done with. An answer to its audit is judged.
+    /// The point replied to the call in flight, which ends it. A reply to its audit is judged.
     Confirmed,
 }
 
-/// What a step with this outcome changed.
+/// Returns the change by a step with this outcome.
 pub fn change_of(outcome: &StepOutcome) -> PointChange
     ensures { result ≡ change_of outcome.now }
 {
@@ -34,7 +34,7 @@ pub fn change_of(outcome: &StepOutcome) -> PointChange
     }
 }
 
-/// What a step with this reply changed.
+/// Returns the change by a step with this reply.
 fn change_by(reply: &Reply) -> PointChange
     ensures { result ≡ change_by reply.now }
 {

@@ -25,9 +25,9 @@ pub enum PrintedLine {
 }
 
 impl PrintedLine {
-    /// Whether it names a fault of its line, or is an answer that refuses a message. That a
-    /// schedule is too long is none: it changes nothing, as the schedule wouldn't, and isn't known
-    /// where none is made.
+    /// Returns whether it names a fault of its line, or is an answer that refuses a message. A
+    /// schedule that is too long isn't counted: it changes nothing, as the schedule wouldn't, and
+    /// is unknown if the schedule wasn't compiled.
     pub fn is_refusal(&self) -> bool {
         match self {
             PrintedLine::Fault { .. } => true,
@@ -40,14 +40,14 @@ impl PrintedLine {
     }
 }
 
-/// The texts of lines, one after another.
+/// Returns the texts of lines, one after another.
 pub fn print_lines(alloc: Global, lines: &[PrintedLine]) -> Result<String, AllocError>
     ensures { IfOk result (λ text. string_bytes text ≡ printed_texts lines.now) }
 {
     if lines.is_empty() {
         return Ok(String::new(alloc));
     }
-    // Room from the start for most lines, so that they aren't copied as they grow.
+    // Room from the start for a short line, so that it isn't copied as it grows.
     let mut text = String::with_capacity(alloc, 128)?;
     for line in lines {
         push_line(&mut text, line)?;

@@ -22,14 +22,14 @@ use std::io::{Read, Write};
 /// The longest script, in bytes.
 pub const MAX_SCRIPT_BYTES: usize = 16_777_216;
 
-/// What a replay says at its end.
+/// The summary of a replay.
 #[derive(Clone, Copy, PartialEq, Eq)]
 pub struct Summary {
-    /// How many lines of the script have a fault.
+    /// The number of lines with a fault.
     pub script_faults: u64,
 }
 
-/// Why a replay stopped.
+/// The reason for which a replay stopped.
 #[derive(Clone, Copy, Debug, PartialEq, Eq, thiserror::Error)]
 pub enum ReplayFault {
     /// The script can't be read. Nothing was written.
@@ -38,7 +38,7 @@ pub enum ReplayFault {
     /// The script has more than 16,777,216 bytes. Nothing was written.
     #[error("central: script: ScriptTooLong")]
     ScriptTooLong,
-    /// The output can't be written. A prefix of it was.
+    /// The output can't be written. A prefix of it was written.
     #[error("central: device: write")]
     Write,
     /// Memory ran out. A prefix of the output was written.
@@ -80,7 +80,7 @@ impl From<InputFault> for ReplayFault {
     }
 }
 
-/// Reads a script whole, plays its lines on a site and writes what each prints, line after line.
+/// Reads a whole script, plays its lines on a site and writes the output of each in turn.
 pub fn replay<R: Read, W: Write>(
     alloc: Global,
     reader: &mut R,
@@ -104,11 +104,12 @@ pub fn replay<R: Read, W: Write>(
     ensures long { IsErrOf result ReplayFault.ScriptTooLong
         → GaveMoreThan (R.remaining reader.old) (R.remaining reader.new) max_script_bytes }
 {
+    // All of it before the first output: nothing is printed for a script that is too long.
     let script = read_script(alloc, reader)?;
     write_output(alloc, writer, script.as_slice(), site)
 }
 
-/// The whole script.
+/// Reads the whole script.
 fn read_script<R: Read>(alloc: Global, reader: &mut R) -> Result<Vec<u8>, ReplayFault>
     ensures whole { IfOk result
         (λ script. IfSome (R.remaining reader.old) (λ given. script.items ≡ given)) }
@@ -123,7 +124,7 @@ fn read_script<R: Read>(alloc: Global, reader: &mut R) -> Result<Vec<u8>, Replay
     Ok(read_all(alloc, reader, MAX_SCRIPT_BYTES)?)
 }
 
-/// Writes what a script prints on a site.
+/// Writes the output of a script on a site.
 fn write_output<W: Write>(
     alloc: Global,
     writer: &mut W,
@@ -144,7 +145,7 @@ fn write_output<W: Write>(
     Ok(summary)
 }
 
-/// Writes what the lines of a script print.
+/// Writes the output of a script's lines.
 fn write_lines<W: Write>(
     alloc: Global,
     writer: &mut W,
@@ -176,7 +177,7 @@ fn write_lines<W: Write>(
     Ok(Summary { script_faults })
 }
 
-/// Writes what the line of this number prints. Says whether it has a fault.
+/// Writes the output of the line of this number. Returns whether the line has a fault.
 fn write_line<W: Write>(
     writer: &mut W,
     player: &mut Player,

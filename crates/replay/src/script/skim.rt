@@ -1,4 +1,4 @@
-//! A line of a script that is played for what it leads to: without the schedules that it prints.
+//! Playing of a line of a script for its effect, without the schedules that it prints.
 
 ghost use Rattle.std.specs.Prelude.{◌≡◌, IfOk};
 ghost use Rattle.texts.specs.Asked.{asked_of};
@@ -17,9 +17,9 @@ use site_core::Step;
 use std::alloc::AllocError;
 use texts::{Asked, SentText};
 
-/// Plays the line of this number without schedules. What it printed has none. None is made for a
-/// request that is answered at once, if what is wanted is known without it. After an error the
-/// script can't go on.
+/// Plays the line of this number without schedules: its output has none. If all that is wanted of a
+/// request is known without its schedule, that isn't compiled. After an error the script can't go
+/// on.
 pub fn skim_line<'a>(
     player: &mut Player,
     number: u64,
@@ -38,6 +38,7 @@ pub fn skim_line<'a>(
         Some(Ok(ScriptLine::Text(text))) => skim_text(player, text, wanted)?,
         said => read_outcome(player, number, said)?,
     };
+    // A skimmed request may have been answered with the schedule of its first second alone.
     outcome.printed.retain(|line| !has_schedule(line));
     Ok(PlayedLine {
         number,
@@ -47,7 +48,7 @@ pub fn skim_line<'a>(
     })
 }
 
-/// Whether a line is an answer with a schedule.
+/// Returns whether a printed line is an answer with a schedule.
 fn has_schedule(line: &PrintedLine) -> bool {
     matches!(
         line,
@@ -58,7 +59,7 @@ fn has_schedule(line: &PrintedLine) -> bool {
     )
 }
 
-/// What comes of a message, but for schedules. Only an operator asks for one.
+/// Returns the outcome of a message, apart from schedules. Only an operator requests these.
 fn skim_text(
     player: &mut Player,
     text: &SentText<'_>,
@@ -76,7 +77,7 @@ fn skim_text(
     }
 }
 
-/// What comes of what a message asks for, but for schedules.
+/// Returns the outcome of a message's request, apart from schedules.
 fn skim_asked(
     player: &mut Player,
     text: &SentText<'_>,

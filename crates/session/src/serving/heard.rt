@@ -33,6 +33,8 @@ pub enum Told {
         call: u64,
         rejection: Option<String>,
     },
+    /// A change by an operator, which added a call.
+    Added,
     /// Anything else.
     Other,
 }

@@ -1,11 +1,13 @@
 //! One message of a session: its step, its answer, and the call that follows a point's message.
 
-ghost use Rattle.std.specs.Prelude.{◌≡◌, ◌↔◌, IsTrue, IfOk, IfSome, option_map, string_bytes};
+ghost use Rattle.std.specs.Prelude.{◌≡◌, ◌↔◌, IsTrue, IfErr, IfOk, IfSome, option_map, string_bytes};
+ghost use Rattle.ocpp_scalars.specs.declared.refusal.Refusal.{Refusal};
 ghost use Rattle.session.specs.Noting.{IsEntryFor, IsEntryToNote, is_confirm};
 ghost use Rattle.session.specs.Perform.{IsOfText};
 ghost use Rattle.session.specs.Served.{HasOutcome, IsOutcomeOf, IsOutcomeOfJob, IsPerformed, IsServed, IsUnmade, seen_at};
 ghost use Rattle.session.specs.Serving.{KeepsPass};
 ghost use Rattle.session.specs.Session.{sent_by};
+ghost use Rattle.site_core.specs.Right.{IsRight};
 ghost use Rattle.version_store.specs.Recording.{IsAt};
 
 use crate::context::Context;
@@ -23,14 +25,14 @@ use crate::serving::waiting::{Sending, Waiting};
 use crate::session_core::SessionCore;
 use crate::step::perform;
 use crate::todo::Todo;
-use compile_pool::{answer_job, answer_unmade, wait_answer};
+use compile_pool::{answer_job, answer_unmade, collect_answer, wait_answer};
 use ghost_list::ListName;
 use journal::{Entry, JournalFault};
 use meaning::Ask;
 use ocpp_scalars::{Instant, Moments, Refusal};
 use site_core::Step;
 use texts::SentText;
-use version_store::{Job, Pass, RecordedStates};
+use version_store::{Answer, Job, Pass, RecordedStates};
 use world::World;
 
 /// Waits for the next WebSocket message, and serves it if it is a text message. Where nothing comes
@@ -242,9 +244,8 @@ fn answer_of<W: World, Q: Waiting>(
     ensures pass { KeepsPass pass.old pass.new }
     ensures outcome { IfOk result (IsOutcomeOfJob job) }
 {
-    let (number, book, ask) = (job.number(), job.share_book(), *job.ask());
-    compile_or_leave(context, waiting, job);
-    let answer = match wait_answer(context.rt, context.shared, pass, number) {
+    let (book, ask) = (job.share_book(), *job.ask());
+    let answer = match compile_and_collect(context, waiting, pass, job) {
         Ok(answer) => answer,
         Err(refusal) => return Ok(Outcome::Refused(refusal)),
     };
@@ -258,9 +259,20 @@ fn answer_of<W: World, Q: Waiting>(
     }
 }
 
-/// Has a job compiled by a worker, or compiles it. Where too many wait, or the client is gone before
-/// its request has an answer, the request is answered unmade: it isn't begun any more.
-fn compile_or_leave<W: World, Q: Waiting>(context: &Context<'_, W>, waiting: &mut Q, job: Job) {
+/// Has a job compiled by a worker, or compiles it, and collects the answer to its request. If too
+/// many jobs wait, or the client is gone before the answer is there, the request is answered without
+/// a schedule, so that no worker begins it any more.
+fn compile_and_collect<W: World, Q: Waiting>(
+    context: &Context<'_, W>,
+    waiting: &mut Q,
+    pass: &mut Pass<W::Changes, W::Answers>,
+    job: Job,
+) -> Result<Answer, Refusal>
+    ensures numbered { IfOk result (λ answer. answer.number ≡ job.number) }
+    ensures right { IfOk result (λ answer. IsRight answer.book answer.ask answer.answer) }
+    ensures refusal { IfErr result (λ refusal. refusal ≡ Refusal.UnknownRequest) }
+    ensures pass { KeepsPass pass.old pass.new }
+{
     let (rt, shared) = (context.rt, context.shared);
     let (number, book, ask) = (job.number(), job.share_book(), *job.ask());
     match waiting.send_job(rt, context.jobs, job) {
@@ -269,11 +281,13 @@ fn compile_or_leave<W: World, Q: Waiting>(context: &Context<'_, W>, waiting: &mu
             let (number, book, ask) = job.into_parts();
             answer_unmade(rt, shared, number, book, ask);
         }
-        Sending::Sent => match (waiting.wait(shared, number), book) {
-            (false, Ok(book)) => answer_unmade(rt, shared, number, book, ask),
-            _ => {}
+        Sending::Sent => match (waiting.until_answered(rt, shared, number), book) {
+            (Some(mut answered), _) => return collect_answer(&mut answered, pass, number),
+            (None, Ok(book)) => answer_unmade(rt, shared, number, book, ask),
+            (None, Err(_)) => {}
         },
     }
+    wait_answer(rt, shared, pass, number)
 }
 
 fn is_same(one: &Ask, other: &Ask) -> bool

@@ -7,10 +7,10 @@ use crate::serving::waiting::{Sending, Waiting};
 use compile_pool::Jobs;
 use ghost_list::ListName;
 use std::io::{Read, Write};
-use std::sync::Wait;
 use std::sync::ledger::Ledger;
+use std::sync::{MutexGuard, Wait};
 use tungstenite::{MaskKeys, WebSocket};
-use version_store::{Job, Shared};
+use version_store::{Book, Job, Shared};
 
 /// The socket of a session.
 pub trait SessionSocket: Waiting {
@@ -55,11 +55,12 @@ impl<S, K> Waiting for WebSocket<S, K> {
         }
     }
 
-    fn wait<C: Ledger, A: Ledger, N: ListName>(
+    fn until_answered<'s, R: Wait, C: Ledger, A: Ledger, N: ListName>(
         &mut self,
-        _shared: &Shared<C, A, N>,
-        _number: u64,
-    ) -> bool {
-        true
+        rt: &R,
+        shared: &'s Shared<C, A, N>,
+        number: u64,
+    ) -> Option<MutexGuard<'s, Book<C, A, N>>> {
+        Some(shared.until_answered(rt, number))
     }
 }

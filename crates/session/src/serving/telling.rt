@@ -46,6 +46,15 @@ pub(crate) fn told_by(
                 Some(rejection_in(alloc, frame).unwrap_or_else(|_| String::new(alloc)))
             },
         },
+        (_, Some(Outcome::Made(reply))) if adds_call(reply) => Told::Added,
         _ => Told::Other,
     }
+}
+
+/// Whether a step with this reply adds a call to the point's outbox.
+fn adds_call(reply: &Reply) -> bool {
+    matches!(
+        reply,
+        Reply::Accepted | Reply::Audited { .. } | Reply::Called(_)
+    )
 }

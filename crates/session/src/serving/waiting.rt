@@ -1,31 +1,40 @@
-//! What a session does until its request has its answer.
+//! How a session waits for the answer to its request.
+
+ghost use Rattle.std.specs.Prelude.{◌≡◌, false, IfSome};
+ghost use Rattle.std.specs.Sync.Mutex.{mutex_guard_value};
+ghost use Rattle.version_store.specs.Answers.{awaits};
+ghost use Rattle.version_store.specs.Store.{IsStore};
 
 use compile_pool::Jobs;
 use ghost_list::ListName;
-use std::sync::Wait;
 use std::sync::ledger::Ledger;
-use version_store::{Job, Shared};
+use std::sync::{MutexGuard, Wait};
+use version_store::{Book, Job, Shared};
 
-/// What became of a job that was to be sent to the workers.
+/// The outcome of sending a job to the workers.
 #[derive(Drop)]
 pub enum Sending {
     Sent,
     /// The session compiles it itself: no worker takes it, or it takes less time than to wake one.
     Own(Job),
-    /// Too many wait for their workers.
+    /// Too many jobs wait for the workers.
     NoRoom(Job),
 }
 
-/// How a session waits. Whatever it does meanwhile, its answer is collected as ever.
+/// How a session waits for the answer to its request.
 pub trait Waiting {
     /// Sends a job to the workers.
     fn send_job<R: Wait>(&mut self, rt: &R, jobs: Jobs<'_>, job: Job) -> Sending;
 
-    /// Waits until the request of a number has its answer, or leaves that to whoever collects it.
-    /// False where the client is gone before.
-    fn wait<C: Ledger, A: Ledger, N: ListName>(
+    /// Returns the book once the request of this number has its answer or isn't kept, and `None` if
+    /// the client is gone before.
+    fn until_answered<'s, R: Wait, C: Ledger, A: Ledger, N: ListName>(
         &mut self,
-        shared: &Shared<C, A, N>,
+        rt: &R,
+        shared: &'s Shared<C, A, N>,
         number: u64,
-    ) -> bool;
+    ) -> Option<MutexGuard<'s, Book<C, A, N>>>
+        ensures store { IfSome result (λ book. IsStore (mutex_guard_value book)) }
+        ensures answered { IfSome result
+            (λ book. awaits (mutex_guard_value book).present number ≡ false) };
 }

@@ -7,15 +7,15 @@ use crate::serving::heard::Incoming;
 use crate::serving::session_socket::SessionSocket;
 use crate::serving::sockets::read_next;
 use crate::serving::waiting::{Sending, Waiting};
-use compile_pool::{Jobs, Unsent, is_at_most};
+use compile_pool::{Jobs, Unsent, short_work};
 use ghost_list::ListName;
 use std::io::{Read, Write};
 use std::rt::Clock;
-use std::sync::Wait;
 use std::sync::ledger::Ledger;
+use std::sync::{MutexGuard, Wait};
 use std::time::Duration;
 use tungstenite::{MaskKeys, WebSocket};
-use version_store::{Job, Shared};
+use version_store::{Book, Job, Shared};
 use world::Watched;
 
 /// After so many milliseconds the socket is looked at for the first time: most answers are there by
@@ -153,43 +153,40 @@ impl<S: Read + Write + Watched + Drop, K: MaskKeys + Drop, R: Wait + Clock> Sess
 impl<S: Read + Write + Watched + Drop, K: MaskKeys + Drop, R: Wait + Clock> Waiting
     for WatchedSocket<'_, S, K, R> {
     fn send_job<W: Wait>(&mut self, rt: &W, jobs: Jobs<'_>, job: Job) -> Sending {
-        if self.most_of_own.is_some_and(|most| is_at_most(&job, most)) {
-            return Sending::Own(job);
+        let work = short_work(&job);
+        if let (Some(work), Some(most)) = (work, self.most_of_own) {
+            if work <= most {
+                return Sending::Own(job);
+            }
         }
-        match jobs.try_send(rt, job) {
+        match jobs.try_send(rt, job, work.is_some()) {
             Ok(()) => Sending::Sent,
             Err(Unsent::NoWorker(back)) => Sending::Own(back),
             Err(Unsent::NoRoom(back)) => Sending::NoRoom(back),
         }
     }
 
-    fn wait<C: Ledger, A: Ledger, N: ListName>(
+    fn until_answered<'b, W: Wait, C: Ledger, A: Ledger, N: ListName>(
         &mut self,
-        shared: &Shared<C, A, N>,
+        _rt: &W,
+        shared: &'b Shared<C, A, N>,
         number: u64,
-    ) -> bool {
-        let mut wait = FIRST_WAIT;
+    ) -> Option<MutexGuard<'b, Book<C, A, N>>> {
+        let mut time = FIRST_WAIT;
         for _turn in self.rt.forever() {
-            if is_answered(self.rt, shared, number, wait) {
-                return true;
+            let answered = shared.until_answered_within(
+                self.rt,
+                number,
+                Duration::from_millis(time),
+            );
+            if answered.is_some() {
+                return answered;
             }
             if !self.look() {
-                return false;
+                return None;
             }
-            wait = NEXT_WAIT;
+            time = NEXT_WAIT;
         }
         unreachable!()
     }
-}
-
-/// Whether the request of a number has its answer within so many milliseconds.
-fn is_answered<C: Ledger, A: Ledger, R: Wait + Clock, N: ListName>(
-    rt: &R,
-    shared: &Shared<C, A, N>,
-    number: u64,
-    wait: u64,
-) -> bool {
-    shared
-        .until_answered_within(rt, number, Duration::from_millis(wait))
-        .is_some()
 }

@@ -1,5 +1,5 @@
--- The transactions that a point runs, as it finds their numbers and meters: it serves private
--- clauses alone.
+-- The numbers and meters of a point's transactions, as the code stores them. Only private clauses
+-- use this.
 use Rattle.std.specs.Prelude.{ℕ, zero, suc, List, map, Option, None, option_map, option_and_then, slice_get}
 use Rattle.transactions.specs.declared.transaction.Transaction.{Transaction}
 use Rattle.sim_point_core.specs.declared.own_book.Running.{Running}

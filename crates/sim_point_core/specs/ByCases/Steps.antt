@@ -1,4 +1,4 @@
--- Where a point stands among its steps and its calls: it serves private clauses alone.
+-- The place of a point in its steps and its calls. Only private clauses use this.
 use Rattle.std.specs.Prelude.{ℕ, ◌<◌, ◌≤◌, List, length, drop, Option, Some, None}
 use Rattle.point_book.specs.Book.{BookState}
 use Rattle.sim_point_core.specs.declared.sim_step.SimStep.{SimStep}
@@ -15,11 +15,11 @@ abbrev pub IsOf : BookState → Option InFlight → Type 0
 IsOf book None = Unit {0}
 IsOf book (Some call) = Fits book call.call
 
--- the call that is found, with the steps after so many
+-- the found call, with the steps after this many
 abbrev pub with_later : List SimStep → PointCall × ℕ → PointCall × List SimStep
 with_later steps found = (found.0, drop found.1 steps)
 
--- what is found fits the point, and not more steps are behind than there are
+-- the found call fits the point, and no more steps are done than there are
 pub record IsFound (book : BookState) (steps : List SimStep) (found : PointCall × ℕ) : Type 0 where
   pub fits : Fits book found.0
   pub within : found.1 ≤ length steps

@@ -1,4 +1,4 @@
--- What crates above cite of histories, one after another.
+-- Lemmas that crates above cite: histories, one after another.
 use Rattle.std.proofs.Common.{List, [], ◌∷◌, ◌++◌, subst}
 use Rattle.site_core.specs.State.{MachineState}
 use Rattle.site_core.specs.History.{Event, Legal}

@@ -1,11 +1,11 @@
--- What crates above cite of a request that is found by its number.
+-- Lemmas that crates above cite: a request that is found by its number.
 use Rattle.std.proofs.Common.{◌≡◌, ℕ, ◌==◌, Bool, true, false, cond, List, [], ◌∷◌, Some, refl, sym, ap, ◌∙◌, subst, arith}
 use Rattle.std.specs.List.{AllByRecursion}
 use Rattle.std.proofs.lemmas.Bool.Decides.{nat_tests}
 use Rattle.site_core.specs.State.{Kept}
 use Rattle.site_core.specs.Requests.{request_of}
 
--- what is found has the number that was looked for
+-- the found request has the given number
 pub found_number : (number : ℕ) (requests : List Kept) (kept : Kept)
     → request_of number requests ≡ Some kept → kept.number ≡ number
 found_number number [] kept is = cc
@@ -21,7 +21,7 @@ found_number number (first ∷ requests) kept is = go (first.number == number) r
         ap (λ (k : Kept). k.number) (sym one) ∙ numbered
     go false same is rest = rest is
 
--- what holds of each holds of the one that is found
+-- a property of all requests holds of the found one
 pub found_holds : (P : Kept → Type 0) (number : ℕ) (requests : List Kept) (kept : Kept)
     → AllByRecursion P requests → request_of number requests ≡ Some kept → P kept
 found_holds P number [] kept all is = cc

@@ -1,4 +1,4 @@
--- Steps by what they are about, and which of them want memory: proved for crates above.
+-- Lemmas that crates above cite: steps by their kind of work, and by their need of memory.
 use Rattle.std.proofs.Common.{◌≡◌, ℕ, Ok, refl, sym, ap, ◌∙◌, subst}
 use Rattle.site_core.specs.declared.step.Step.{Step}
 use Rattle.site_core.specs.declared.step.Step.TheVariants as steps
@@ -8,7 +8,7 @@ use Rattle.site_core.specs.declared.reply.Reply.TheVariants.{Unknown, Repeated, 
 use Rattle.site_core.specs.State.{MachineState, ScheduleAnswer}
 use Rattle.site_core.specs.Step.{PointStep, Work, AtPoint, work, worked, Works, Steps, stepped, no_answer, OnlyEventsWantMemory}
 
--- ---- what a step is about
+-- ---- the kind of work of a step
 
 pub data StepKind : Step → Type 0 where
   names_point : (step : Step) (at : PointStep) → work step ≡ AtPoint at → StepKind step
@@ -74,9 +74,9 @@ compile_or_other step = by step (kind_of step)
     by _ finishes_all =
         is_other _ (λ answer old. refl) (λ old reply new is. is) (λ old reply new is. is)
 
--- ---- what wants memory
+-- ---- the need of memory
 
--- what is answered without an event wants no memory
+-- an answer without an event needs no memory
 pub only_events_want_memory : OnlyEventsWantMemory
 only_events_want_memory old Unknown wants = absurd (cc wants)
 only_events_want_memory old (Repeated number) wants = absurd (cc wants)

@@ -35,6 +35,8 @@ impl Machine {
     {
         let (place, ask) = self.asked(take)?;
         let point = point_at(&self.points, place);
+        // Shared, not copied: the first change of the point copies the book, so the request keeps
+        // it as it is now.
         let kept = point.share_book()?;
         let replied = point.share_book()?;
         let number = self.numbers.request + 1;
@@ -50,7 +52,7 @@ impl Machine {
         Ok(reply)
     }
 
-    /// What would come of a request for a schedule, if memory lasts.
+    /// Returns the outlook of a request for a schedule, as if memory always lasted.
     pub(super) fn take_outlook(&self, take: &Take) -> Result<bool, Refusal>
         ensures { result ≡ outlook_of self.now (takes self.now take.now) }
     {
@@ -58,8 +60,8 @@ impl Machine {
         Ok(true)
     }
 
-    /// The place of the point that a request names and what is asked there, or why the request
-    /// isn't kept, if memory lasts.
+    /// Returns the place of the point that a request names, and the `Ask` there, or the reason why
+    /// the request isn't kept, as if memory always lasted.
     fn asked(&self, take: &Take) -> Result<(usize, Ask), Refusal>
         ensures taking { IfOk result (λ found.
             takes self.now take.now ≡ Ok (taking self.now found.0 found.1)) }
@@ -77,7 +79,7 @@ impl Machine {
         }
     }
 
-    /// Why a request isn't kept, if memory lasts, though there is an `Ask`.
+    /// Returns the reason why a request with an `Ask` isn't kept, as if memory always lasted.
     fn refusal_to_take(&self, take: &Take) -> Option<Refusal>
         ensures { result ≡ refusal_to_take self.now take.now }
     {
@@ -87,6 +89,8 @@ impl Machine {
         if self.numbers.request == MAX_NUMBER {
             return Some(Refusal::VersionsExhausted);
         }
+        // A session that has seen a newer version came from a later store, and must not be answered
+        // from this older one.
         if take.seen > self.numbers.version {
             return Some(Refusal::Behind {
                 seen: take.seen,
@@ -109,11 +113,10 @@ impl Machine {
         Ok(Reply::Compiled)
     }
 
-    /// Compiles the request of a number with an answer that is brought (chapter 5.7), by who
-    /// compiled it elsewhere. The answer comes back a second time. The refusals are
-    /// `UnknownRequest`, `AlreadyAnswered`, and `StrangerInput`, where the answer is for another
-    /// book or another `Ask`; then nothing has changed, and what was brought comes back. Allocates
-    /// nothing.
+    /// Compiles the request of a number (chapter 5.7) with an answer that was compiled elsewhere,
+    /// and returns a second copy of the answer. The refusals are `UnknownRequest`,
+    /// `AlreadyAnswered` and, for an answer to another book or another `Ask`, `StrangerInput`. Then
+    /// nothing has changed, and the brought answer comes back. Allocates nothing.
     pub fn post(
         &mut self,
         number: u64,

@@ -17,14 +17,14 @@ credentials_view credentials = record {
   password = credentials.password.now;
 }
 
--- what stands behind the scheme `Basic`
+-- the token after the scheme `Basic`
 abbrev pub token_in : List ℕ → Option (List ℕ)
 token_in header = do
   parts ← cut space header
   if bytes_eq (map to_ascii_lowercase parts.0) (codes "basic") then Some (without_spaces parts.1)
       else None
 
--- the user stands before the first colon
+-- the user ends at the first colon
 abbrev pub credentials_of : List ℕ → Option CredentialsState
 credentials_of bytes = do
   parts ← cut colon bytes

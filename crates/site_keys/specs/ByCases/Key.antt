@@ -1,4 +1,4 @@
--- Which password a key opens for, as a test. The clauses of `admit` say the same by `Opens`.
+-- The password of a key, as a test. The clauses of `admit` say the same by `Opens`.
 use Rattle.std.specs.Prelude.{ℕ, ◌&&◌, Bool, true, false, List, ◌++◌}
 use Rattle.std.specs.List.{list_any}
 use Rattle.std.specs.Str.{bytes_eq}

@@ -1,4 +1,4 @@
--- What a file of keys says, line by line. The clauses of `Keys::read` say the same by `AreKeysOf`.
+-- The keys of a file, line by line. The clauses of `Keys::read` say the same by `AreKeysOf`.
 use Rattle.std.specs.Prelude.{ℕ, ◌≡◌, ◌+◌, List, [], ◌∷◌, ◌++◌, codes, Option, Some, None, Vec, Result, Ok, Err, if◌then◌else◌}
 use Rattle.std.specs.Option.{ok_or, option_to_list}
 use Rattle.std.specs.Str.{bytes_eq}
@@ -39,7 +39,7 @@ salt_in digits = bytes_or faults.Salt (decode_sized digits salt_size)
 abbrev pub digest_in : List ℕ → Result (List ℕ) LineFault
 digest_in digits = bytes_or faults.Digest (decode_sized digits digest_size)
 
--- the first word, the second, the third, and what stands behind that
+-- the first three words of a line, and the rest after them
 pub record KeyWords : Type 0 where
   pub role : List ℕ
   pub user : List ℕ
@@ -79,7 +79,7 @@ key_in line = do
   words ← words_of line
   key_of_words words
 
--- the key of a line, if it isn't left out
+-- the key of a line, unless that is empty or a comment
 abbrev pub line_in : List ℕ → Result (Option KeyState) LineFault
 line_in line =
     if is_left_out line then Ok None
@@ -95,7 +95,7 @@ at_line number (Err fault) = Err (Line number fault)
 abbrev pub numbered_line : ℕ → List ℕ → Result (Option KeyState) KeysFault
 numbered_line number line = at_line number (line_in (without_return line))
 
--- the keys of lines of which the first has this number, or the first fault
+-- the keys of lines, or the first fault; the first line has this number
 abbrev pub keys_from : ℕ → List (List ℕ) → Result (List KeyState) KeysFault
 keys_from number [] = Ok []
 keys_from number (line ∷ lines) = do

@@ -1,4 +1,4 @@
--- Whether the value of a marked text has a tree. Of private clauses.
+-- Whether the value of a marked text has a tree. For private clauses.
 use Rattle.std.specs.Prelude.{ℕ, List, Bool, Option}
 use Rattle.std.specs.Borrow.{Bor}
 use Rattle.std.specs.BTreeSet.{BTreeSet, contains_by}

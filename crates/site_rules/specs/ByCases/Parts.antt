@@ -1,4 +1,4 @@
--- A site file read part by part, each value as it comes. Of private clauses.
+-- A site file read part by part, value by value. For private clauses.
 use Rattle.std.specs.Prelude.{ℕ, ◌≡◌, ◌==◌, ◌≤◌, ◌+◌, min, false, List, [], ◌∷◌, ◌++◌, length, codes, Option, Some, None, option_map, option_and_then, unwrap_or, IfSome, Vec, Result, Ok, Err, if◌then◌else◌}
 use Rattle.std.specs.Option.{option_map_or}
 use Rattle.std.specs.Result.{result_ok}
@@ -27,13 +27,13 @@ use Rattle.site_rules.specs.Limits.{max_connectors, max_points}
 use Rattle.site_rules.specs.Site.{PointEntry, SiteState}
 use Rattle.site_rules.specs.ByCases.SiteReading.{or_fault, some_or, few_or, id_or_wrong, unused_id, ceiling_of, with_point, with_points}
 
--- a field of this name; none where there is no name
+-- the fields with one of this name; the same if there is no name
 abbrev pub with_named : Option (List ℕ) → Tree → Fields → Fields
 with_named None value others = others
 with_named (Some name) value others = field name value others
 
--- The tree of a value, with null in the place of each malformed number and without each field whose
--- key is none. Where `tree_of` has a tree it is the same.
+-- The tree of a value, with null in place of each malformed number, and without the fields whose
+-- key isn't a text. If `tree_of` has a tree, it is the same.
 abbrev mutual
   pub mended_tree : json.Data → Tree
   mended_tree json.null = null
@@ -56,18 +56,18 @@ abbrev mutual
 abbrev pub tree_at : ℕ → List Token → Option (Tree × List Token)
 tree_at depth tokens = parse_map mended_tree (converted of_json (value depth tokens))
 
--- the trees up to the end of a list, in at most n turns
+-- the trees up to the end of a list, in at most n iterations
 abbrev pub trees_at : ℕ → ℕ → List Token → Option (Trees × List Token)
 trees_at depth n tokens =
     parse_map mended_trees (converted of_items (items (value depth) n tokens))
 
--- the fields up to the end of an object, in at most n turns, after those that were found
+-- the fields up to the end of an object, in at most n iterations, after those found so far
 abbrev pub fields_at : ℕ → ℕ → json.Members → List Token → Option (Fields × List Token)
 fields_at depth n found tokens =
     parse_map mended_fields
     (converted (λ ms. of_members ms found) (members (value depth) n tokens))
 
--- a tree from outside: without what a list or an object holds, and without a boolean's value
+-- a tree without the contents of a list or an object, and without the value of a boolean
 abbrev pub shown : Tree → Tree
 shown null = null
 shown (boolean b) = boolean false
@@ -84,13 +84,14 @@ glance_tree (glances.Number t) = number t.now
 glance_tree glances.List = list no_entries
 glance_tree glances.Object = object no_fields
 
--- the tokens begin with a tree, and this is how it looks
+-- the tokens begin with a tree, and the glance is of that tree
 pub record IsGlanceAt (depth : ℕ) (tokens rest : List Token) (glance : Glance) : Type 0 where
   pub tree : Tree
   pub here : tree_at depth tokens ≡ Some (tree, rest)
   pub seen : glance_tree glance ≡ shown tree
 
--- the ceilings of a point's connectors with one more; `None` where one isn't a ceiling or there are too many
+-- the ceilings of a point's connectors and one more; `None` if it isn't a ceiling, or there are too
+-- many
 abbrev pub with_ceiling : Option (List ℕ) → Tree → Option (List ℕ)
 with_ceiling None tree = None
 with_ceiling (Some ceilings) tree =
@@ -109,7 +110,7 @@ unless_empty (Some (c ∷ cs)) = Some (c ∷ cs)
 abbrev pub ceilings_in : List Tree → Option (List ℕ)
 ceilings_in trees = unless_empty (with_ceilings (Some []) trees)
 
--- what the field `connectors` says, if it is right
+-- the ceilings in the field `connectors`, if it is valid
 abbrev pub connectors_in : Tree → Option (List ℕ)
 connectors_in tree = option_and_then ceilings_in (as_list tree)
 
@@ -123,7 +124,7 @@ IsPut name tree fields more =
     (other : List ℕ)
     → field_at other more ≡ (if bytes_eq name other then Some tree else field_at other fields)
 
--- the fields with this tree at the name of this key; the same where it is none
+-- the fields with this tree at the name of this key; the same if the key has no name
 abbrev pub IsPutBy : Option (List ℕ) → Tree → Fields → Fields → Type 0
 IsPutBy None tree fields more = (other : List ℕ) → field_at other more ≡ field_at other fields
 IsPutBy (Some name) tree fields more = IsPut name tree fields more
@@ -132,7 +133,7 @@ IsPutBy (Some name) tree fields more = IsPut name tree fields more
 abbrev pub field_or_null : List ℕ → Fields → Tree
 field_or_null name fields = unwrap_or (field_at name fields) null
 
--- what was read of an entry of `points` that is an object
+-- the fields read from an entry of `points` that is an object
 pub record ArePointFields (point : PointFields) (fields : Fields) : Type 0 where
   pub id : glance_tree point.id ≡ shown (field_or_null (codes "id") fields)
   pub ceiling : glance_tree point.ceiling ≡ shown (field_or_null (codes "ceiling") fields)
@@ -142,7 +143,7 @@ pub record ArePointFields (point : PointFields) (fields : Fields) : Type 0 where
 abbrev pub HasFew : Option PointFields → Type 0
 HasFew entry = IfSome entry (λ point. HasFewCeilings point.connectors)
 
--- after the name comes a tree, which is now read too
+-- a tree follows the name, and has been read too
 pub record IsPointFieldMore (depth : ℕ) (tokens rest : List Token) (name : List ℕ)
     (point more : PointFields) : Type 0 where
   pub tree : Tree
@@ -151,7 +152,7 @@ pub record IsPointFieldMore (depth : ℕ) (tokens rest : List Token) (name : Lis
       → IsPut name tree before after
       → ArePointFields more after
 
--- the same after a key, which may be none
+-- the same after a key, which may have no name
 pub record IsPointMemberMore (depth : ℕ) (tokens rest : List Token) (key : List ℕ)
     (point more : PointFields) : Type 0 where
   pub tree : Tree
@@ -160,13 +161,13 @@ pub record IsPointMemberMore (depth : ℕ) (tokens rest : List Token) (key : Lis
       → IsPutBy (name_of_key key) tree before after
       → ArePointFields more after
 
--- what was read of any entry
+-- the fields read from any entry
 pub data IsEntry : Option PointFields → Tree → Type 0 where
   no_object : (tree : Tree) → is_object tree ≡ false → IsEntry None tree
   an_object : (point : PointFields) (fields : Fields) → ArePointFields point fields
       → IsEntry (Some point) (object fields)
 
--- the point of these fields, after those of the site so far
+-- the point of these fields, after the earlier points of the site
 unfoldable pub point_by : SiteState → Tree → Tree → Option (List ℕ) → Result PointEntry SiteFault
 point_by earlier id ceiling connectors = do
   named ← or_fault faults.BadId (id_or_wrong (of_kind as_text (unless_null id)))
@@ -181,18 +182,18 @@ entry_point earlier (Some point) =
     point_by earlier (glance_tree point.id) (glance_tree point.ceiling)
     (option_map (λ ceilings. ceilings.items) point.connectors)
 
--- the points with that of one entry more, up to the first fault
+-- the points with that of one more entry, up to the first fault
 abbrev pub with_entry : Result SiteState SiteFault → Option PointFields → Result SiteState SiteFault
 with_entry points entry =
     points >>= (λ (site : SiteState).
     entry_point site entry >>= (λ (point : PointEntry).
     Ok (with_point site point)))
 
--- no points, in a unit that stands for the one to come
+-- no points, in a unit that the site's unit replaces later
 abbrev pub no_points : SiteState
 no_points = record { unit = A; points = [] }
 
--- what was found in the first entries of `points`
+-- the points found in the first entries of `points`
 pub record AreFound (found : FoundPoints) (entries : List Tree) : Type 0 where
   pub count : found.count ≡ min (length entries) (max_points + 1)
   pub points : length entries ≤ max_points → found.points ≡ with_points no_points entries
@@ -201,16 +202,16 @@ abbrev pub few_points : List Tree → Result SiteState SiteFault
 few_points entries =
     few_or faults.BadPoints max_points entries >>= (λ (few : List Tree). with_points no_points few)
 
--- what the field `points` says
+-- the points in the field `points`
 abbrev pub points_in : Tree → Result SiteState SiteFault
 points_in tree = option_map_or few_points (as_list tree) (Err faults.BadPoints)
 
--- what was read of a site file that is an object
+-- the fields read from a site file that is an object
 pub record AreSiteFields (site : SiteFields) (fields : Fields) : Type 0 where
   pub unit : glance_tree site.unit ≡ shown (field_or_null (codes "unit") fields)
   pub points : site.points ≡ points_in (field_or_null (codes "points") fields)
 
--- after the name comes a tree, which is now read too
+-- a tree follows the name, and has been read too
 pub record IsSiteFieldMore (depth : ℕ) (tokens rest : List Token) (name : List ℕ)
     (site more : SiteFields) : Type 0 where
   pub tree : Tree
@@ -219,7 +220,7 @@ pub record IsSiteFieldMore (depth : ℕ) (tokens rest : List Token) (name : List
       → IsPut name tree before after
       → AreSiteFields more after
 
--- the same after a key, which may be none
+-- the same after a key, which may have no name
 pub record IsSiteMemberMore (depth : ℕ) (tokens rest : List Token) (key : List ℕ)
     (site more : SiteFields) : Type 0 where
   pub tree : Tree

@@ -1,4 +1,4 @@
--- What a site file says, or its first fault, in the order in which they are checked. By the law `site_files`
+-- The site of a site file, or its first fault in the order of the checks. By the law `site_files`
 -- the site is that of `SiteFile`, and the fault that of `SiteFaults`.
 use Rattle.std.specs.Prelude.{ℕ, nat_le, nat_lt, Bool, true, false, not, ◌&&◌, List, [], ◌∷◌, ◌++◌, length, codes, Option, Some, None, is_some, Result, Ok, Err, if◌then◌else◌}
 use Rattle.std.specs.List.{list_all}
@@ -18,7 +18,7 @@ use Rattle.site_rules.specs.Limits.{max_site_bytes, max_points, max_connectors, 
 use Rattle.site_rules.specs.Site.{PointEntry, SiteState, place_of}
 use Rattle.site_rules.specs.SiteFile.{is_id_byte}
 
--- a field's value; where it is absent, of another kind or of a wrong value, the fault is the same
+-- a field's value; the fault is the same if it is absent, or has a wrong kind or value
 abbrev pub or_fault : {A : Type 0} → SiteFault → Field A → Result A SiteFault
 or_fault fault Absent = Err fault
 or_fault fault WrongKind = Err fault
@@ -81,7 +81,7 @@ connectors_of fields = do
   entries ← few_or faults.BadConnectors max_connectors list
   ceilings_of entries
 
--- the point that an entry of `points` describes, after those of the site so far
+-- the point that an entry of `points` describes, after the earlier points of the site
 unfoldable pub point_of : SiteState → Tree → Result PointEntry SiteFault
 point_of earlier tree = do
   fields ← object_or faults.BadPoints tree
@@ -91,11 +91,11 @@ point_of earlier tree = do
   ceilings ← connectors_of fields
   Ok (record { id = id; ceiling = ceiling; ceilings = ceilings })
 
--- the site with one point more
+-- the site with one more point
 abbrev pub with_point : SiteState → PointEntry → SiteState
 with_point site point = record { unit = site.unit; points = site.points ++ point ∷ [] }
 
--- the site with the points that the entries describe, one after the other
+-- the site with the points that the entries describe, one after another
 abbrev pub with_points : SiteState → List Tree → Result SiteState SiteFault
 with_points site [] = Ok site
 with_points site (tree ∷ trees) =
@@ -114,14 +114,14 @@ abbrev pub site_by : Option Tree → Result SiteState SiteFault
 site_by None = Err faults.NotJson
 site_by (Some tree) = site_of_tree tree
 
--- what a site file says, or its first fault
+-- the site of a site file, or its first fault
 unfoldable pub site_of : List ℕ → Result SiteState SiteFault
 site_of bytes =
     if nat_lt max_site_bytes (length bytes) then Err faults.TooLarge
     else if not (is_utf8 bytes) then Err faults.NotUtf8
     else site_by (tree_of_text bytes)
 
--- out of memory is no fault of the file
+-- a failed allocation isn't a fault of the file
 abbrev pub is_memory : SiteFault → Bool
 is_memory faults.OutOfMemory = true
 is_memory _ = false

@@ -1,4 +1,4 @@
-//! Reading the field `connectors` of a point: no more of it is kept than a point may have.
+//! Reads the field `connectors` of a point. Keeps no more ceilings than a point may have.
 
 ghost use Rattle.std.specs.Prelude.{◌≡◌, ◌<◌, ◌≤◌, Some, IfOk, IfSome, OnOk, length, option_map};
 ghost use Rattle.std.specs.Result.{result_ok};
@@ -14,8 +14,8 @@ use json::{Reader, Token};
 use ocpp_scalars::read_tenths;
 use std::alloc::{AllocFailed, Global};
 
-/// Reads the ceilings of a point's connectors; `None` where the value isn't a list of 1 to 64 of
-/// them.
+/// Reads the ceilings of a point's connectors. Returns `None` if the value isn't a list of 1 to 64
+/// ceilings.
 pub(crate) fn read_connectors(
     alloc: Global,
     reader: &mut Reader<'_>,
@@ -62,7 +62,7 @@ fn read_ceilings(
     Ok(unless_empty(kept))
 }
 
-/// The ceilings with that of one entry more; `None` where it isn't one, or if there are too many.
+/// Adds the ceiling of the next entry. `None` if that isn't a ceiling, or if there are too many.
 fn with_ceiling(
     kept: Option<Vec<u32>>,
     entry: Glance<'_>,
@@ -75,6 +75,7 @@ fn with_ceiling(
     let Some(mut ceilings) = kept else {
         return Ok(None);
     };
+    // A file may list millions of numbers. Without this bound they would all be in memory.
     if ceilings.len() == MAX_CONNECTORS {
         return Ok(None);
     }

@@ -1,5 +1,5 @@
-//! Reading the field `points`: each entry in full before the next, and no more of them than a site
-//! has.
+//! Reads the field `points`: each entry completely before the next, and no more entries than a site
+//! may have.
 
 ghost use Rattle.std.specs.Prelude.{◌≡◌, ◌<◌, ◌≤◌, ◌++◌, [], ◌∷◌, List, Some, IfOk, OnOk, length};
 ghost use Rattle.ocppj_frame.specs.Tree.{Tree, Trees, entries};
@@ -15,17 +15,17 @@ use json::{Reader, Token};
 use profile::Unit;
 use std::alloc::Global;
 
-/// What was found in the entries so far.
+/// The points found in the entries so far.
 #[derive(Drop)]
 pub(crate) struct FoundPoints {
-    /// How many there are, up to one more than a site may have.
+    /// The number of entries, up to one more than a site may have.
     pub count: usize,
-    /// Their points, or the first fault. If there are too many it doesn't matter.
+    /// Their points, or the first fault. Unused if there are too many entries.
     pub points: Result<Site, SiteFault>,
 }
 
-/// Reads the value of `points`: a site of these points, in a unit that doesn't count yet, or their
-/// first fault.
+/// Reads the value of `points`: a site with these points, whose unit isn't set yet, or their first
+/// fault.
 pub(crate) fn read_points(
     alloc: Global,
     reader: &mut Reader<'_>,
@@ -61,6 +61,7 @@ fn read_entries(
         × (found ≡ few_points (entries list))) }
     ensures shorter { OnOk result (length reader.new < length reader.old) }
 {
+    // A placeholder for the unit: the field `unit` may come after `points`.
     let mut found = FoundPoints {
         count: 0,
         points: Ok(Site::new(alloc, Unit::A)),
@@ -71,7 +72,7 @@ fn read_entries(
     Ok(unless_many(found))
 }
 
-/// Reads the next entry. One too many is passed, as are those behind it.
+/// Reads the next entry. Skips it if there are too many.
 fn with_next(
     alloc: Global,
     found: FoundPoints,
@@ -85,6 +86,8 @@ fn with_next(
 {
     let FoundPoints { count, points } = found;
     if count >= MAX_POINTS {
+        // The file has BadPoints. Keeping the rest, maybe millions of entries, would only take
+        // memory.
         read_glance(reader, depth)?;
         return Ok(FoundPoints {
             count: MAX_POINTS + 1,
@@ -98,7 +101,7 @@ fn with_next(
     })
 }
 
-/// The points with that of one entry more, unless they have a fault.
+/// Adds the point of the next entry, unless the points have a fault.
 fn with_entry(
     alloc: Global,
     points: Result<Site, SiteFault>,

@@ -1,4 +1,4 @@
-//! Reading an entry of `points`, and the point that it describes.
+//! Reads an entry of `points`, and the point that it describes.
 
 ghost use Rattle.std.specs.Prelude.{◌≡◌, ◌<◌, ◌≤◌, None, Some, IfOk, OnOk, length, option_map, string_bytes};
 ghost use Rattle.ocpp_scalars.specs.Reading.{ReadsUnless};
@@ -20,16 +20,16 @@ use json::{Reader, Token};
 use ocppj_frame::after_mark;
 use std::alloc::Global;
 
-/// What was read of a point: the last value of each field that counts, null where it is absent.
+/// The fields read from a point: the last value of each one that counts, null if it is absent.
 #[derive(Drop)]
 pub(crate) struct PointFields<'a> {
     pub id: Glance<'a>,
     pub ceiling: Glance<'a>,
-    /// The ceilings of the connectors, if they are right.
+    /// The ceilings of the connectors, if they are valid.
     pub connectors: Option<Vec<u32>>,
 }
 
-/// Reads an entry of `points`: the fields of a point, or `None` where it isn't an object.
+/// Reads an entry of `points`: the fields of a point, or `None` if it isn't an object.
 pub(crate) fn read_entry<'a>(
     alloc: Global,
     reader: &mut Reader<'a>,
@@ -77,7 +77,7 @@ fn read_fields<'a>(
     Ok(point)
 }
 
-/// Reads the value of one member more, which counts if its key is a text.
+/// Reads the value of the next member, which counts if its key is a text.
 fn with_member<'a>(
     alloc: Global,
     point: PointFields<'a>,
@@ -100,7 +100,7 @@ fn with_member<'a>(
     }
 }
 
-/// Reads the value of one field more.
+/// Reads the value of the next field.
 fn with_field<'a>(
     alloc: Global,
     point: PointFields<'a>,
@@ -151,8 +151,8 @@ fn with_field<'a>(
     })
 }
 
-/// The point of these fields after those of the site so far: its identity, which is a new one,
-/// and its limits.
+/// Makes the next point of a site from its fields: its identity, which no earlier point has, and
+/// its limits.
 #[tactic(auto, unfolding(crate::specs::ByCases::Parts::point_by))]
 pub(crate) fn point_of_fields(
     alloc: Global,

@@ -1,4 +1,4 @@
-//! A value from outside. It is read and passed, whatever it holds, and takes no memory.
+//! Reads a value and skips its contents, whatever they are. Allocates nothing.
 
 ghost use Rattle.std.specs.Prelude.{◌≡◌, ◌<◌, ◌≤◌, ◌∷◌, Some, IfOk, OnOk, length, unwrap_or};
 ghost use Rattle.json.specs.Reads.{token_of};
@@ -14,7 +14,7 @@ use json::{Reader, Token};
 use ocpp_scalars::{is_number_text, read_tenths};
 use ocppj_frame::{Field, after_mark};
 
-/// How a value looks from outside.
+/// A value without the contents of a list or an object.
 #[derive(Clone, Copy)]
 pub(crate) enum Glance<'a> {
     Null,
@@ -38,7 +38,7 @@ pub(crate) fn read_glance<'a>(
     glance_from(token, reader, depth)
 }
 
-/// Reads the value that begins with this token, which was read.
+/// Reads the rest of the value that begins with this token.
 #[cycle(glance)]
 pub(crate) fn glance_from<'a>(
     token: Token<'a>,
@@ -73,7 +73,7 @@ pub(crate) fn glance_from<'a>(
     }
 }
 
-/// Passes the items of a list.
+/// Skips the items of a list.
 #[cycle(glance)]
 fn pass_items(reader: &mut Reader<'_>, depth: usize) -> Result<(), PartFault>
     ensures items { OnOk result ((list : Trees)
@@ -86,7 +86,7 @@ fn pass_items(reader: &mut Reader<'_>, depth: usize) -> Result<(), PartFault>
     Ok(())
 }
 
-/// Passes the members of an object.
+/// Skips the members of an object.
 #[cycle(glance)]
 fn pass_members(reader: &mut Reader<'_>, depth: usize) -> Result<(), PartFault>
     ensures members { OnOk result ((fields : Fields)
@@ -99,7 +99,7 @@ fn pass_members(reader: &mut Reader<'_>, depth: usize) -> Result<(), PartFault>
     Ok(())
 }
 
-/// The text or the number that a marked string stands for, null where it is a malformed number.
+/// Returns the text or the number that a marked string represents, or null for a malformed number.
 fn glance_of_string(marked: &str) -> Glance<'_>
     ensures { glance_tree result ≡ unwrap_or (tree_of_string marked.now) null }
 {
@@ -108,11 +108,12 @@ fn glance_of_string(marked: &str) -> Glance<'_>
     }
     match after_mark(marked, b'n') {
         Some(number) if is_number_text(number) => Glance::Number(number),
+        // `has_tree` refuses a file with such a number, unless a later value replaces it.
         _ => Glance::Null,
     }
 }
 
-/// The field of this value, which is to be a text.
+/// Reads a field with this value as a text.
 pub(crate) fn text_in(glance: Glance<'_>) -> Field<&str>
     ensures { field_map (λ t. t.now) result
         ≡ of_kind as_text (unless_null (glance_tree glance.entry)) }
@@ -124,7 +125,7 @@ pub(crate) fn text_in(glance: Glance<'_>) -> Field<&str>
     }
 }
 
-/// The field of this value, which is to be a number of tenths.
+/// Reads a field with this value as a number of tenths.
 pub(crate) fn tenths_in(glance: Glance<'_>) -> Field<u32>
     ensures { result ≡ of_scalar as_number tenths_of (unless_null (glance_tree glance.entry)) }
 {

@@ -1,12 +1,12 @@
-//! Why a site file isn't read part by part.
+//! The faults of reading a site file part by part.
 
 use json::Invalid;
 use std::alloc::{AllocError, AllocFailed};
 
-/// Why a site file isn't read part by part.
+/// The reason why a site file can't be read part by part.
 #[derive(Clone, Copy, Drop)]
 pub(crate) enum PartFault {
-    /// It is no JSON.
+    /// It isn't JSON.
     Unsure,
     /// Memory ran out.
     OutOfMemory,

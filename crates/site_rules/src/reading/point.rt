@@ -18,13 +18,13 @@ use ocpp_scalars::read_tenths;
 use ocppj_frame::{Entries, Field, Node, list_field, tenths_field, text_field};
 use std::alloc::Global;
 
-/// The most connectors of a point.
+/// The maximum number of connectors of a point.
 pub(crate) const MAX_CONNECTORS: usize = 64;
 
-/// The most characters of a point's identity.
+/// The maximum length of a point's identity, in characters.
 const MAX_ID_CHARACTERS: usize = 48;
 
-/// Reads a point after those of the site so far: its identity, which is a new one, and its limits.
+/// Reads the next point of a site: its identity, which no earlier point has, and its limits.
 #[tactic(auto, unfolding(crate::specs::ByCases::SiteReading::point_of))]
 pub(crate) fn read_point(
     alloc: Global,
@@ -69,10 +69,12 @@ fn are_id_bytes(bytes: &[u8]) -> bool
 fn is_id_byte(b: u8) -> bool
     ensures { result ≡ is_id_byte b }
 {
+    // A point's identity is a segment of its URL (OCPP-J 1.6, 3.1.1). These are the characters that
+    // need no escape there (RFC 3986, 2.3), and escapes aren't decoded.
     matches!(b, b'A'..=b'Z' | b'a'..=b'z' | b'0'..=b'9' | b'.' | b'_' | b'-' | b'~')
 }
 
-/// The identity, where no earlier point has it.
+/// Returns the identity if no earlier point has it.
 pub(crate) fn unused_id<'a>(site: &Site, id: &'a str) -> Result<&'a str, SiteFault>
     ensures id { MatchResult result
         (λ unused. unused_id site.now id.now ≡ Ok unused.now)

@@ -1,4 +1,4 @@
-//! Steps of a reading: what is looked for, or the fault where it isn't there.
+//! Steps of a reading: each returns the value that is expected, or else the given fault.
 
 ghost use Rattle.std.specs.Prelude.{◌≡◌, ◌≤◌, Ok, Err, length, IfOk, MatchResult};
 ghost use Rattle.ocppj_frame.specs.Payload.{entries_in, tree_at};
@@ -7,7 +7,7 @@ ghost use Rattle.site_rules.specs.ByCases.SiteReading.{or_fault, some_or, object
 use crate::fault::SiteFault;
 use ocppj_frame::{Entries, Field, Node};
 
-/// The value of a field, or the fault where it has none.
+/// Returns the value of a field, or the fault if it has none.
 pub(crate) fn or_fault<T: Drop>(fault: SiteFault, field: Field<T>) -> Result<T, SiteFault>
     ensures { result ≡ or_fault fault field }
 {
@@ -41,7 +41,7 @@ pub(crate) fn object_or<'tree, 'memory>(
     }
 }
 
-/// A list of at least one entry and at most `most`, or the fault.
+/// Returns a list of at least one entry and at most `most`, or the fault.
 pub(crate) fn few_or<'tree, 'memory>(
     fault: SiteFault,
     most: usize,

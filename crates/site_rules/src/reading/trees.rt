@@ -1,5 +1,5 @@
-//! Whether the value of a marked text has a tree. Of the members of the open objects only the keys
-//! of those without a tree are kept, so that it takes little memory.
+//! Checks that the value of a marked text has a tree. This takes little memory: of the members of
+//! open objects, only the keys of those without a tree are kept.
 
 ghost use Rattle.std.specs.Prelude.{◌≡◌, ◌<◌, ◌&&◌, ℕ, List, Some, None, Err, IfOk, OnOk, is_some, length, not, if◌then◌else◌};
 ghost use Rattle.std.specs.Str.{bytes_eq};
@@ -19,7 +19,7 @@ use ocppj_frame::after_mark;
 use std::alloc::{AllocError, Global};
 use std::collections::BTreeSet;
 
-/// Whether a marked text is read, and its value has a tree.
+/// Returns whether a marked text can be read and its value has a tree.
 pub(crate) fn has_tree(
     alloc: Global,
     marked: &str,
@@ -36,7 +36,7 @@ pub(crate) fn has_tree(
     }
 }
 
-/// Reads the next value. `Unsure` where there is none.
+/// Reads the next value, and returns whether it has a tree. `Unsure` if there is no value.
 #[cycle(trees)]
 fn value_has_tree(alloc: Global, reader: &mut Reader<'_>, depth: usize) -> Result<bool, PartFault>
     requires { HaveNoNumber reader.old }
@@ -66,12 +66,12 @@ fn value_has_tree(alloc: Global, reader: &mut Reader<'_>, depth: usize) -> Resul
             Ok(members_have_trees(alloc, reader, depth - 1)?)
         }
         Token::EndObject | Token::EndArray | Token::Key(_) | Token::Bad => Err(PartFault::Unsure),
-        // Proved not to come: a marked text has no number.
+        // Proved unreachable: a marked text has no number.
         Token::Number(_) => Err(PartFault::Unsure),
     }
 }
 
-/// A text has a tree in any case, a number by its grammar.
+/// Returns whether a marked string has a tree: a text always, a number by its grammar.
 fn string_has_tree(marked: &str) -> bool
     ensures { result ≡ is_some (tree_of_string marked.now) }
 {
@@ -96,6 +96,7 @@ fn items_have_trees(alloc: Global, reader: &mut Reader<'_>, depth: usize) -> Res
     ensures refused { result ≡ Err PartFault.Unsure
         → converted of_items (items (value depth) (length reader.old) reader.old) ≡ None }
 {
+    // Goes on after an item without a tree: a later value may still replace the whole list.
     let mut have = true;
     'items: while !reader.take_end_array() {
         let has = value_has_tree(alloc, reader, depth)?;
@@ -104,7 +105,7 @@ fn items_have_trees(alloc: Global, reader: &mut Reader<'_>, depth: usize) -> Res
     Ok(have)
 }
 
-/// Of several members with one key the last one counts, so that those before it may have none.
+/// Reads the members of an object. Of several with one key only the last must have a tree.
 #[cycle(trees)]
 fn members_have_trees(
     alloc: Global,
@@ -122,6 +123,7 @@ fn members_have_trees(
         → converted (λ ms. of_members ms no_members)
         (members (value depth) (length reader.old) reader.old) ≡ None }
 {
+    // A set and not a flag: a later member with the same key may have a tree, and then counts.
     let mut broken = BTreeSet::new(alloc);
     'members: while let Some(key) = reader.next_key()? {
         let has = value_has_tree(alloc, reader, depth)?;
@@ -130,7 +132,7 @@ fn members_have_trees(
     Ok(broken.is_empty())
 }
 
-/// Notes the last member of a key among those without a tree, or that it is no longer one of them.
+/// Adds a key whose last member has no tree, or removes one whose last member has a tree.
 fn note_last<'a>(broken: &mut BTreeSet<&'a str>, key: &'a str, has: bool) -> Result<(), AllocError>
     ensures { OnOk result ((other : List ℕ) → has_key other broken.new
         ≡ (if bytes_eq key.now other then not (has && is_some (name_of_key key.now))

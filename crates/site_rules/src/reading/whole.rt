@@ -1,4 +1,4 @@
-//! Reading a site file from its first byte to its last, each value as it comes.
+//! Reads a site file from its first byte to its last, value by value.
 
 ghost use Rattle.std.specs.Prelude.{◌≡◌, ◌<◌, [], Some, IfOk, OnOk, length};
 ghost use Rattle.json.specs.Lex.{tokens};
@@ -21,13 +21,13 @@ use ocppj_frame::{after_mark, mark_text};
 use profile::{Named, Unit};
 use std::alloc::Global;
 
-/// How deep lists and objects may nest: as deep as `serde_json` reads.
+/// The maximum depth of nested lists and objects: that of `serde_json`.
 pub(crate) const MAX_DEPTH: usize = 127;
 
-/// What was read of the file's object: the last value of each field that counts.
+/// The fields read from the file's object: the last value of each one that counts.
 #[derive(Drop)]
 pub(crate) struct SiteFields<'a> {
-    /// Null where it is absent.
+    /// Null if it is absent.
     pub unit: Glance<'a>,
     pub points: Result<Site, SiteFault>,
 }
@@ -39,7 +39,7 @@ pub(crate) fn read_parts(alloc: Global, text: &str) -> Result<Result<Site, SiteF
     let mut room = Vec::new(alloc);
     let mut scratch = Scratch::new(alloc);
     let marked = mark_text(text, &mut room)?;
-    // From here on malformed numbers and keys don't count: a later value replaces each of them.
+    // From here on malformed numbers and keys don't matter: a later value replaces each of them.
     if !has_tree(alloc, marked, &mut scratch)? {
         return Ok(Err(SiteFault::NotJson));
     }
@@ -105,7 +105,7 @@ fn read_fields<'a>(
     Ok(site)
 }
 
-/// Reads the value of one member more, which counts if its key is a text.
+/// Reads the value of the next member, which counts if its key is a text.
 fn with_member<'a>(
     alloc: Global,
     site: SiteFields<'a>,
@@ -126,7 +126,7 @@ fn with_member<'a>(
     }
 }
 
-/// Reads the value of one field more.
+/// Reads the value of the next field.
 fn with_field<'a>(
     alloc: Global,
     site: SiteFields<'a>,
@@ -144,7 +144,7 @@ fn with_field<'a>(
         return Ok(SiteFields { unit, points });
     }
     if name == "points" {
-        // Of several the last one counts, so that the memory of those before it is free for it.
+        // The last of several counts, so the memory of the earlier ones is freed for it.
         drop(points);
         let points = read_points(alloc, reader, depth)?;
         return Ok(SiteFields { unit, points });
@@ -157,6 +157,7 @@ fn with_field<'a>(
 fn site_of_fields(site: SiteFields<'_>) -> Result<Site, SiteFault>
     ensures { result ≡ site_by_fields (glance_tree site.entry.unit) site.entry.points }
 {
+    // The points come last: whatever the order of the fields, `BadUnit` is reported first.
     let unit = or_fault(SiteFault::BadUnit, text_in(site.unit))?;
     let unit = some_or(SiteFault::BadUnit, Unit::named(unit))?;
     let points = site.points?;

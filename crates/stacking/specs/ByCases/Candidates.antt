@@ -1,5 +1,5 @@
--- What an iterator over candidates still yields, level by level. The contract of `Rows::candidates` ties
--- it to the candidates by falling level.
+-- The rows that an iterator over candidates has yet to yield, level by level. The contract of
+-- `Rows::candidates` ties them to the candidates by falling level.
 use Rattle.std.specs.Prelude.{ℕ, ◌≡◌, ◌<◌, ◌==◌, zero, suc, ◌&&◌, Bool, List, [], Option, Some, None, option_and_then, slice_get, slice_index, if◌then◌else◌}
 use Rattle.std.specs.Option.{option_or}
 use Rattle.std.specs.List.{find, cons_option}
@@ -17,41 +17,41 @@ is_candidate_at purpose rows connector level row =
 abbrev pub candidate_at : Purpose → List Row → ℕ → ℕ → Option Row
 candidate_at purpose rows connector level = find (is_candidate_at purpose rows connector level) rows
 
--- not an `abbrev`, which would count through all levels wherever it meets their number
+-- not an `abbrev`, which would be unfolded through all levels wherever their number occurs
 unfoldable pub candidates_below : Purpose → List Row → ℕ → ℕ → List Row
 candidates_below purpose rows connector zero = []
 candidates_below purpose rows connector (suc level) =
     cons_option (candidate_at purpose rows connector level) (candidates_below purpose rows connector level)
 
--- ---- by places
+-- ---- by indexes
 
 abbrev pub stands_at : Purpose → ℕ → Row → Bool
 stands_at purpose connector row =
     is_purpose purpose row.profile.purpose && (row.connector == connector)
 
--- the first row of a purpose at a connector that has a stack level
+-- the first row of a purpose and a stack level at a connector
 abbrev pub first_at : Purpose → ℕ → ℕ → List Row → Option Row
 first_at purpose connector level rows =
     find (λ row. (row.profile.stack_level == level) && stands_at purpose connector row) rows
 
--- the places of these rows, by their stack levels
+-- the indexes of these rows, by stack level
 abbrev pub AreFirstPlaces : Purpose → List Row → ℕ → List ℕ → Type 0
 AreFirstPlaces purpose rows connector places =
     (level : ℕ) → level < 100
     → slice_get rows (slice_index places level) ≡ first_at purpose connector level rows
 
--- to the old places those of the first of these rows are added, unless there is one of their level
+-- the indexes of the first of these rows are added, except at levels that had one before
 abbrev pub AreFirstAdded : Purpose → List Row → ℕ → List Row → List ℕ → List ℕ → Type 0
 AreFirstAdded purpose rows connector these old new =
     (level : ℕ) → level < 100
     → slice_get rows (slice_index new level)
     ≡ option_or (slice_get rows (slice_index old level)) (first_at purpose connector level these)
 
--- a row, if it has a stack level
+-- a row, if it has this stack level
 abbrev pub of_level : ℕ → Row → Option Row
 of_level level row = if row.profile.stack_level == level then Some row else None
 
--- the row at a place is added to these places, unless there is one of its level
+-- the index of a row is added, unless its level had one before
 abbrev pub IsPlaceAdded : List Row → ℕ → List ℕ → List ℕ → Type 0
 IsPlaceAdded rows place old new =
     (level : ℕ) → level < 100
@@ -60,7 +60,8 @@ IsPlaceAdded rows place old new =
     (slice_get rows (slice_index old level))
     (option_and_then (of_level level) (slice_get rows place))
 
--- where rows stand that speak for a connector: one of its own before one that speaks for all
+-- the connectors whose rows apply to a connector: its own, whose rows take precedence, and one
+-- shared with others
 abbrev pub own_connector : Purpose → ℕ → ℕ
 own_connector ChargePointMaxProfile connector = 0
 own_connector TxDefaultProfile connector = connector
@@ -71,7 +72,7 @@ shared_connector ChargePointMaxProfile connector = 0
 shared_connector TxDefaultProfile connector = 0
 shared_connector TxProfile connector = connector
 
--- of each stack level the place of the row that speaks for the connector
+-- for each stack level, the index of the row that applies to the connector
 abbrev pub AreCandidatePlaces : Purpose → List Row → ℕ → List ℕ → Type 0
 AreCandidatePlaces purpose rows connector places =
     (level : ℕ) → level < 100

@@ -1,5 +1,5 @@
--- Of a private loop: two schedules gone through period by period. What `agree` returns is Agree of
--- Agree.antt.
+-- For the invariant of a private loop: two schedules compared period by period. The result of
+-- `agree` is Agree of Agree.antt.
 use Rattle.std.specs.Prelude.{◌≡◌, ℕ, ◌+◌, ◌<◌, ◌≤◌, ◌==◌, nat_lt, Bool, not, ◌&&◌, ◌⊎◌, Option, Some, None, slice_get}
 use Rattle.meaning.specs.declared.composite.CompositePeriod.{CompositePeriod}
 use Rattle.meaning.specs.Composite.{CompositeSchedule, at}
@@ -9,11 +9,12 @@ abbrev pub start_or : ℕ → Option CompositePeriod → ℕ
 start_or end None = end
 start_or end (Some p) = p.start
 
--- the second at which the period at a place begins, and behind the last one the end of the schedule
+-- the second at which the period at an index begins; after the last one, the end of the schedule
 abbrev pub begin_of : CompositeSchedule → ℕ → ℕ
 begin_of schedule place = start_or schedule.duration (slice_get schedule.periods place)
 
--- the time of the period at a place of a schedule with its start, and the schedule's limit then
+-- the interval of the period at an index of a schedule with its start, and the schedule's limit
+-- then
 pub record IsPeriodInterval (schedule : CompositeSchedule) (start place : ℕ)
     (interval : PeriodInterval)
     : Type 0 where
@@ -25,12 +26,12 @@ pub record IsPeriodInterval (schedule : CompositeSchedule) (start place : ℕ)
       (second : ℕ) → interval.start ≤ start + second → start + second < interval.end
       → at schedule.periods second ≡ Some interval.limit
 
--- two intervals have a second in common, and two limits
+-- two intervals share a second and have different limits
 abbrev pub contradict : PeriodInterval → PeriodInterval → Bool
 contradict one other =
     not (one.limit == other.limit) && (nat_lt one.start other.end && nat_lt other.start one.end)
 
--- two schedules agree at each second before one of two places
+-- two schedules agree at each second before either of two periods
 abbrev pub AgreeBefore : CompositeSchedule → ℕ → ℕ → CompositeSchedule → ℕ → ℕ → Type 0
 AgreeBefore first first_start place second second_start other_place =
     (one other : ℕ) → one < first.duration → other < second.duration

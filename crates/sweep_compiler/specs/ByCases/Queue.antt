@@ -1,9 +1,9 @@
--- Of private clauses: the rows that wait for their next places.
+-- For private clauses: the rows that wait for their next places.
 use Rattle.std.specs.Prelude.{◌≡◌, ℕ, ◌≤◌, List, [], Option, Some, None}
 use Rattle.std.specs.List.{AllByRecursion, Contains}
 pub use Rattle.sweep_compiler.specs.declared.queue.Due.{Due}
 
--- the least of the instants at which any is due
+-- the earliest instant at which a row is due
 pub record IsSoonestOf (items : List Due) (instant : ℕ) : Type 0 where
   pub item : Due
   pub waits : Contains items item

@@ -1,4 +1,4 @@
--- Of private clauses: the rows that count for a request, on their way through it.
+-- For private clauses: the rows that count for a request, on their way through it.
 use Rattle.std.specs.Prelude.{◌≡◌, ℕ, ◌+◌, ◌<◌, zero, suc, Bool, List, [], ◌∷◌, Option, Some, None, option_map, option_and_then, slice_get, if◌then◌else◌, ◌⊎◌}
 use Rattle.std.specs.List.{AllByRecursion}
 use Rattle.profile.specs.declared.row.Row.{Row}
@@ -18,14 +18,14 @@ use Rattle.meaning.specs.Cause.{RowLimit, Bound, with_limit, row_or_else, bound_
 use Rattle.meaning.specs.ByCases.Cause.{profile_limit_of}
 use Rattle.sweep_compiler.specs.ByCases.Seen.{SeenRow}
 
--- a row, the base from which it counts, the last of its places that was passed, and the last instant of the request
+-- a row, its base, the last of its places that was passed, and the last instant of the request
 pub record Running : Type 0 where
   pub row : Row
   pub base : ℕ
   pub since : ℕ
   pub last : ℕ
 
--- a row at the start of a request, counted from the start of a transaction where it has one
+-- a row at the start of a request, counted from the start of a transaction if there is one
 abbrev pub running_with : Option ℕ → ℕ → ℕ → Row → Running
 running_with started asked last row =
     record { row = row; base = base row started asked; since = asked; last = last }
@@ -34,11 +34,11 @@ abbrev pub running_from : PointState → ℕ → ℕ → ℕ → Row → Running
 running_from state connector asked last row =
     running_with (active_since state connector) asked last row
 
--- what a row is, wherever it stands on its way
+-- a row without its progress
 abbrev pub seen_running : Running → SeenRow
 seen_running run = record { row = run.row; base = run.base }
 
--- The limit that it has had since.
+-- The limit that it has had since that place.
 abbrev pub rate_running : Running → Option ℕ
 rate_running run = rate run.row.profile run.base run.since
 
@@ -61,13 +61,13 @@ passed_by (Some next) run = record { row = run.row; base = run.base; since = nex
 abbrev pub passed : Running → Running
 passed run = passed_by (due run) run
 
--- what is kept with a row: its limit, its next place and those behind that
+-- the invariant of a row: its limit, its next place and the later ones
 abbrev pub IsRun : Running → Option ℕ → Option Place → List Place → Type 0
 IsRun run limit None later = (limit ≡ rate_running run) × (places_left run ≡ []) × (later ≡ [])
 IsRun run limit (Some next) later = (limit ≡ rate_running run) × (places_left run ≡ next ∷ later)
 
--- Of the rows of a connector a TxProfile comes before any TxDefaultProfile, and of one purpose the higher
--- stack level (OCPP 1.6, 3.13).
+-- Of the rows of a connector a TxProfile comes before any TxDefaultProfile, and of one purpose the
+-- higher stack level first (OCPP 1.6, 3.13).
 abbrev pub rank_by : Bool → ℕ → ℕ
 rank_by transaction level = if transaction then max_stack_level + 1 + level else level
 
@@ -83,24 +83,25 @@ AreFalling (run ∷ later) =
     AllByRecursion (λ (low : Running). rank_running low < rank_running run) later
     × AreFalling later
 
--- the limit of the first that has one
+-- the limit of the first row that has one
 abbrev pub first_rate : List Running → Option ℕ
 first_rate [] = None
 first_rate (run ∷ later) = or_else (rate_running run) (first_rate later)
 
--- whether any of some rows is of a rank
+-- whether any row has a rank
 abbrev pub HasRank : ℕ → List Running → Type 0
 HasRank n [] = ⊥
 HasRank n (run ∷ later) = (rank_running run ≡ n) ⊎ HasRank n later
 
--- each row's rank has the limit that the row has had since, and no other rank has one
+-- the rank of each row has the limit that the row has had since its last place, and no other rank
+-- has one
 pub record AreInForce (runs : List Running) (rates : List (ℕ × ℕ)) : Type 0 where
   pub falling : AreFalling runs
   pub each :
       AllByRecursion (λ (run : Running). rate_of rates (rank_running run) ≡ rate_running run) runs
   pub no_other : (n limit : ℕ) → rate_of rates n ≡ Some limit → HasRank n runs
 
--- what bounds a connector, 0 being the whole point: its ceiling, and its rows by falling rank
+-- the bound of a connector, 0 for the whole point: its ceiling, and its rows by falling rank
 pub record RunningBound : Type 0 where
   pub connector : ℕ
   pub ceiling : ℕ
@@ -109,20 +110,20 @@ pub record RunningBound : Type 0 where
 abbrev pub bound_now : RunningBound → ℕ
 bound_now bound = at_most bound.ceiling (first_rate bound.runs)
 
--- a row with the limit that it has had since, where it has one
+-- a row with the limit that it has had since its last place, if it has one
 abbrev pub row_running : Running → Option RowLimit
 row_running run = option_map (with_limit run.row) (rate_running run)
 
--- the first that has a limit, with that
+-- the first row that has a limit, with its limit
 abbrev pub first_row : List Running → Option RowLimit
 first_row [] = None
 first_row (run ∷ later) = row_or_else (row_running run) (first_row later)
 
--- the same, as a ProfileLimit
+-- that row and limit as a ProfileLimit
 abbrev pub first_profile_limit : List Running → Option ProfileLimit
 first_profile_limit runs = option_map profile_limit_of (first_row runs)
 
--- what sets a connector's own limit, and the lesser of a bound and what sets the point's
+-- the bound of a connector's own limit, and the lesser of a bound and the point's
 abbrev pub own_bound_now : RunningBound → Bound
 own_bound_now bound = lesser_of (first_row bound.runs) (bound_of ConnectorCeiling bound.ceiling)
 
@@ -130,14 +131,14 @@ abbrev pub below_now : RunningBound → Bound → Bound
 below_now point other =
     lesser_of (first_row point.runs) (lesser other (bound_of PointCeiling point.ceiling))
 
--- what a connector has in the sum
+-- the share of a connector in the sum
 abbrev pub share_by : ℕ → Bound → Share
 share_by connector own = record { connector = connector; limit = own.limit; cause = own.cause }
 
 abbrev pub share_now : RunningBound → Share
 share_now bound = share_by bound.connector (own_bound_now bound)
 
--- of the rows one that was passed
+-- the rows after one of them has passed a place
 abbrev pub passed_at : ℕ → List Running → List Running
 passed_at n [] = []
 passed_at zero (run ∷ later) = passed run ∷ later

@@ -1,4 +1,4 @@
--- Of private clauses: a row that counts for a request, as a connector sees it.
+-- For private clauses: a row that counts for a request, seen from a connector.
 use Rattle.std.specs.Prelude.{ℕ, Bool, List, [], ◌∷◌, Option, None}
 use Rattle.profile.specs.declared.row.Row.{Row}
 use Rattle.profile.specs.ChargingProfile.{rate}
@@ -7,7 +7,7 @@ use Rattle.profile.specs.Row.{base}
 use Rattle.meaning.specs.View.{PointState, active_since}
 use Rattle.meaning.specs.Limit.{or_else}
 
--- a row, and the base from which it counts its seconds for a connector
+-- a row, and its base for a connector
 pub record SeenRow : Type 0 where
   pub row : Row
   pub base : ℕ
@@ -18,12 +18,12 @@ limit_seen instant seen = rate seen.row.profile seen.base instant
 abbrev pub is_place_seen : ℕ → SeenRow → Bool
 is_place_seen instant seen = is_place seen.row.profile seen.base instant
 
--- the limit of the first that has one
+-- the limit of the first row that has one
 abbrev pub first_limit : ℕ → List SeenRow → Option ℕ
 first_limit instant [] = None
 first_limit instant (seen ∷ later) = or_else (limit_seen instant seen) (first_limit instant later)
 
--- a row as a connector sees it
+-- a row seen from a connector
 abbrev pub seen_from : PointState → ℕ → ℕ → Row → SeenRow
 seen_from state connector asked row =
     record { row = row; base = base row (active_since state connector) asked }

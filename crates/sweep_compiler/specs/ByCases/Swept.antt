@@ -1,4 +1,4 @@
--- Of private clauses: a limit on its way through a request.
+-- For private clauses: a limit on its way through a request.
 use Rattle.std.specs.Prelude.{◌≡◌, ℕ, ◌+◌, ◌<◌, ◌≤◌, ◌^◌, ◌==◌, min, zero, suc, Bool, true, false, List, [], ◌∷◌, ◌++◌, length, map, Option, Some, None}
 use Rattle.std.specs.List.{AllByRecursion, AllZip, Contains, sum_by, count_by}
 use Rattle.profile.specs.declared.purpose.Purpose.{Purpose}
@@ -17,7 +17,7 @@ use Rattle.sweep_compiler.specs.ByCases.Running.{Running, RunningBound, seen_run
 use Rattle.sweep_compiler.specs.ByCases.Queue.{Due}
 use Rattle.sweep_compiler.specs.declared.limit_curve.LimitCurve.{LimitCurve}
 
--- ---- what bounds a request
+-- ---- the bounds of a request
 
 -- a connector's ceiling, and the rows that count for it, TxProfiles first, each purpose by falling level
 pub record IsConnectorBound (state : PointState) (asked connector : ℕ) (bound : RunningBound)
@@ -37,7 +37,7 @@ pub record IsPointBound (state : PointState) (asked : ℕ) (bound : RunningBound
   pub most_is : AreByFallingLevel (counted ChargePointMaxProfile state 0) most
   pub runs : map seen_running bound.runs ≡ map (seen_from state 0 asked) most
 
--- what bounds the whole point, and behind it what bounds each connector that a request looks at
+-- the bound of the whole point, followed by the bound of each connector that a request covers
 abbrev pub AreBounds : PointState → ℕ → ℕ → List RunningBound → Type 0
 AreBounds state connector asked [] = ⊥
 AreBounds state connector asked (point ∷ others) =
@@ -68,19 +68,20 @@ passed_in n row [] = []
 passed_in zero row (bound ∷ others) = bound_passed row bound ∷ others
 passed_in (suc n) row (bound ∷ others) = bound ∷ passed_in n row others
 
--- what the connectors may draw together
+-- the sum of the connectors' limits
 abbrev pub shared_now : List RunningBound → ℕ
 shared_now [] = 0
 shared_now (point ∷ others) = sum_by bound_now others
 
--- what each of them has in that
+-- the share of each connector in the sum
 abbrev pub shares_now : List RunningBound → List Share
 shares_now [] = []
 shares_now (point ∷ others) = map share_now others
 
 -- ---- on the way
 
--- a row of a request up to a last instant that has passed its places up to another, but maybe those at it
+-- a row of a request, up to a last instant, that has passed its places up to another, except
+-- possibly those at it
 pub record IsPassedUpTo (state : PointState) (connector asked last at : ℕ) (run : Running)
     : Type 0 where
   pub since : run.since ≤ at
@@ -96,7 +97,7 @@ pub record IsWaiting (state : PointState) (connector asked last at : ℕ)
   pub place : is_place_asked state connector asked item.instant ≡ true
   pub has_row : item.row < row_count bounds item.bound
 
--- each row that has a place left waits for it, and what waits is at a place
+-- each row with a place left waits for it, and each entry of the queue is for a place of its row
 pub record IsSwept (state : PointState) (connector asked last at : ℕ)
     (bounds : List RunningBound) (items : List Due) (sum : ℕ) : Type 0 where
   pub gathered : AreBounds state connector asked bounds
@@ -117,18 +118,18 @@ IsSweptCurve curve =
     (point_state curve.view) curve.connector curve.asked curve.last curve.at
     curve.bounds.items curve.queue curve.sum
 
--- and not in the midst of a second
+-- and the sweep isn't in the middle of a second
 pub record IsReadyCurve (curve : LimitCurve) : Type 0 where
   pub swept : IsSweptCurve curve
   pub ahead : (item : Due) → Contains curve.queue item → curve.at < item.instant
   pub short : curve.last < curve.asked + 2 ^ 32
 
--- the limit as the bounds have it now
+-- the limit from the bounds as they are now
 abbrev pub limit_now : List RunningBound → ℕ → ℕ
 limit_now [] sum = sum
 limit_now (point ∷ others) sum = min (bound_now point) sum
 
--- what sets the limit, as the bounds have it now: of the whole point, or of a connector
+-- the bound from the bounds as they are now: of the whole point, or of a connector
 abbrev pub bound_as_now : Bool → List RunningBound → ℕ → Bound
 bound_as_now true [] sum = bound_of Sum sum
 bound_as_now false [] sum = bound_of Sum sum
@@ -136,11 +137,11 @@ bound_as_now true (point ∷ others) sum = below_now point (bound_of Sum sum)
 bound_as_now false (point ∷ []) sum = bound_of Sum sum
 bound_as_now false (point ∷ (own ∷ others)) sum = below_now point (own_bound_now own)
 
--- how many wait for an instant
+-- the number of rows that wait for an instant
 abbrev pub waiting_at : ℕ → List Due → ℕ
 waiting_at instant items = count_by (λ (item : Due). item.instant == instant) items
 
--- what a sweep leaves as it is
+-- the fields that a sweep doesn't change
 pub record IsOfOneAsk (old new : LimitCurve) : Type 0 where
   pub view : new.view ≡ old.view
   pub connector : new.connector ≡ old.connector
@@ -149,7 +150,7 @@ pub record IsOfOneAsk (old new : LimitCurve) : Type 0 where
 
 -- ---- at the start
 
--- the rows that count for a connector among the profiles of a purpose, by falling level, at the start
+-- the rows of a purpose that count for a connector, by falling level, at the start
 pub record AreRunsOf (purpose : Purpose) (state : PointState) (connector asked last : ℕ)
     (runs : List Running) : Type 0 where
   pub rows : List Row
@@ -173,7 +174,7 @@ pub record IsConnectorAtStart (state : PointState) (asked last connector : ℕ)
   pub default_are : AreRunsOf TxDefaultProfile state connector asked last default
   pub runs_are : bound.runs ≡ own ++ default
 
--- what bounds the connectors that a request looks at, at the start
+-- the bounds of the connectors that a request covers, at the start
 abbrev pub AreConnectorsAtStart : PointState → ℕ → ℕ → List ℕ → List RunningBound → Type 0
 AreConnectorsAtStart state asked last looked bounds =
     AllZip
@@ -187,7 +188,7 @@ AreAtStart state connector asked last (point ∷ others) =
     IsPointAtStart state asked last point
     × AreConnectorsAtStart state asked last (looked_at state connector) others
 
--- one connector more, where it has an active transaction
+-- one more connector, if it has an active transaction
 abbrev pub IsWithConnector :
     Bool → PointState → ℕ → ℕ → ℕ → List RunningBound → List RunningBound → Type 0
 IsWithConnector true state asked last connector old new =
@@ -195,7 +196,8 @@ IsWithConnector true state asked last connector old new =
     × (new ≡ old ++ bound ∷ [])
 IsWithConnector false state asked last connector old new = new ≡ old
 
--- each row of the bounds before one, and the first rows of that, waits where it has a place left, and none else
+-- each row of the bounds before one, and the first rows of that bound, waits if it has a place
+-- left, and no other row waits
 pub record AreWaiting (bounds : List RunningBound) (many rows : ℕ) (items : List Due) : Type 0 where
   pub before :
       (n row instant : ℕ) → n < many → due_in bounds n row ≡ Some instant
@@ -206,7 +208,7 @@ pub record AreWaiting (bounds : List RunningBound) (many rows : ℕ) (items : Li
   pub each :
       (item : Due) → Contains items item → due_in bounds item.bound item.row ≡ Some item.instant
 
--- a sweep that stands at the start of a request
+-- a sweep at the start of a request
 pub record IsCurveAtStart (view : View) (connector asked last : ℕ) (curve : LimitCurve)
     : Type 0 where
   pub view_is : curve.view ≡ view

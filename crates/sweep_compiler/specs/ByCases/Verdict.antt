@@ -23,12 +23,12 @@ abbrev pub is_equal_limit : CompositeSchedule → CompositeSchedule → ℕ → 
 is_equal_limit exact said second =
     option_eq (λ one other. one == other) (at exact.periods second) (at said.periods second)
 
--- whether they have equal limits at each second below both durations
+-- whether two schedules have equal limits at each second below both durations
 abbrev pub have_equal_limits : CompositeSchedule → CompositeSchedule → Bool
 have_equal_limits exact said =
     list_all (is_equal_limit exact said) (range_with_len 0 (min exact.duration said.duration))
 
--- whether a point's schedule can be compared: by its unit, by its periods, and by what is asked of
+-- whether a point's schedule can be compared: by its unit, by its periods, and by the request to
 -- the book
 abbrev pub can_be_compared : AuditRequest → ℕ → Unit → CompositeSchedule → Bool
 can_be_compared audit start unit said =
@@ -36,24 +36,25 @@ can_be_compared audit start unit said =
     && (is_said_schedule said.duration said.periods
     && is_ok (ask_of audit.connector start audit.duration))
 
--- the exact schedule of the audit's book from a start on, or that it is too long to be an answer
+-- the exact schedule of the audit's book from a start on, or ResultTooLong if it is too long to be
+-- an answer
 abbrev pub exact_for : AuditRequest → ℕ → Result CompositeSchedule Refusal
 exact_for audit start =
     exact_schedule (limit_asked (state_of audit.book) audit.connector start) audit.duration
 
--- the verdict on a point's schedule that can be compared, by that of the book
+-- the verdict on a comparable schedule of a point, from that of the book
 abbrev pub verdict_by : CompositeSchedule → Result CompositeSchedule Refusal → Verdict
 verdict_by said (Ok exact) = if have_equal_limits exact said then Agrees else Differs
 verdict_by said (Err refusal) = Unsettled
 
--- the verdict on a schedule that a point says
+-- the verdict on a schedule that a point reports
 abbrev pub verdict_on : AuditRequest → ℕ → Unit → CompositeSchedule → Verdict
 verdict_on audit start unit said =
     if can_be_compared audit start unit said
     then verdict_by said (exact_for audit start)
     else Unsettled
 
--- the verdict of an audit on what the point said
+-- the verdict of an audit on the point's reply
 abbrev pub verdict_of : AuditRequest → Said → Verdict
 verdict_of audit Refused = Rejected
 verdict_of audit Unread = Unsettled

@@ -10,7 +10,7 @@ use std::sync::{Mutex, Wait};
 use std::test::Fail;
 use std::thread::{Threads, join};
 
-/// How many bytes were counted. Contracts see the bytes.
+/// The number of counted bytes. Contracts see the bytes themselves.
 #[derive(Drop)]
 struct Tally<J: ListName> {
     count: u64,
@@ -38,7 +38,7 @@ impl<J: ListName> Tally<J> {
         }
     }
 
-    /// Counts a byte. The front has all bytes up to it.
+    /// Counts a byte, and returns a front of all bytes up to it.
     fn count(&mut self, byte: u8) -> Option<Front<u8, J>>
         ensures { IfSome result (λ front. (front.entries ≡ self.new)
             × (self.new ≡ self.old ++ byte ∷ [])) }
@@ -51,7 +51,7 @@ impl<J: ListName> Tally<J> {
         Some(self.bytes.front())
     }
 
-    /// How many bytes were counted. The first are those of the front.
+    /// Returns the number of counted bytes. The first are those of the front.
     fn counted(&self, front: &Front<u8, J>) -> u64
         ensures count { result ≡ length self.now }
         ensures first { IsPrefix front.now.entries self.now }
@@ -61,10 +61,10 @@ impl<J: ListName> Tally<J> {
     }
 }
 
-/// What two threads know, and the tally in the end.
+/// The fronts that two threads know, and the tally in the end.
 type Ended<J> = (Front<u8, J>, Front<u8, J>, Tally<J>);
 
-/// Each thread counts a byte. In the end the tally begins with what each knew.
+/// Lets each thread count a byte. In the end the front of each is a prefix of the tally.
 fn two_threads<J: ListName + Send + Sync, R: Threads + Wait + Sync>(
     rt: &R,
     tally: Tally<J>,

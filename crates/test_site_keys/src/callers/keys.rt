@@ -8,7 +8,7 @@ use site_keys::{Admission, Keys, Role, write_key};
 use std::alloc::{AllocError, Global};
 use std::test::Fail;
 
-/// Whether a point may come with this header: if so, it is one that its keys admit as itself.
+/// Returns whether a point may connect with this header: the keys admit it as itself.
 fn may_come(alloc: Global, keys: &Keys, identity: &str, header: &[u8]) -> Result<bool, AllocError>
     ensures { IfOk result (λ may. IsTrue may
         → MayCome keys.now Point identity.now (Some header.now) identity.now) }
@@ -19,12 +19,12 @@ fn may_come(alloc: Global, keys: &Keys, identity: &str, header: &[u8]) -> Result
     }
 }
 
-/// The threads of a server share the keys.
+/// Shows that the threads of a server can share the keys.
 fn share<T: Send + Sync>(shared: &T) -> &T {
     shared
 }
 
-/// A key is made for a point, and the point comes with it.
+/// Makes a key for a point; the point connects with it, and can't connect as another point.
 #[test]
 fn a_point_gets_a_key(rt: HostRuntime) -> Result<(), Fail> {
     let alloc = rt.alloc();

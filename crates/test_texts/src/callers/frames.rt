@@ -3,7 +3,7 @@
 use ocppj_frame::{Field, Frame, ReadingMemory, read_frame, tenths_field, write_result};
 use std::test::Fail;
 
-/// A CALL is read, a field of its payload looked at, and the CALL answered.
+/// Reads a CALL and a field of its payload, and answers it.
 #[test]
 fn a_call_is_read_and_answered(rt: HostRuntime) -> Result<(), Fail> {
     let mut memory = ReadingMemory::new(rt.alloc());

@@ -1,5 +1,5 @@
--- The number that a word is, by its digits. The function `number_of` has the law that this is the
--- number that `IsDecimalOf` says.
+-- The number that a word is, from its digits. By the law of the function `number_of` it is the
+-- number of `IsDecimalOf`.
 use Rattle.std.specs.Prelude.{ℕ, ◌&&◌, Bool, nat_lt, nat_le, if◌then◌else◌, List, slice_index, Option, Some, None}
 use Rattle.std.specs.Fmt.{decimal}
 use Rattle.std.specs.Str.{bytes_eq}

@@ -1,4 +1,4 @@
--- What a message asks for is a step of a CALL, or an answer without a schedule.
+-- A message requests a step of a CALL, or an answer without a schedule.
 use Rattle.std.proofs.Common.{◌≡◌, ℕ, List, Bool, true, false, cond, Option, Some, None, Result, Ok, Err, IfOk, sym, subst, refl}
 use Rattle.ocpp_scalars.specs.declared.refusal.Refusal.{Refusal}
 use Rattle.ocppj_frame.specs.declared.fault.FrameFault.{FrameFault}
@@ -105,7 +105,7 @@ pub asks_by_call : (text : Sent) → AsksByCall (asked_of text)
 unfolding asked_of
 asks_by_call text = of_message text (message_of_text text.frame)
 
--- what a message asks for, if memory lasted
+-- the request of a message, if memory lasted
 pub if_asked : {E : Type 0} (text : Sent) (message : Result Message FrameFault)
     (result : Result Asked E)
     → IfOk result (λ (asked : Asked). asked ≡ asked_of_message text message)
@@ -118,7 +118,7 @@ held_asked : (test : Bool) (first asked : Asked) → Some asked ≡ cond test (S
 held_asked true first asked is = cc
 held_asked false first asked is = absurd (cc)
 
--- so too is what a held message asks for
+-- the same of a held message
 pub hold_asks_by_call : (text : Sent) (asked : Asked) → Some asked ≡ hold_of text
     → AsksByCall asked
 hold_asks_by_call text asked is =

@@ -1,4 +1,4 @@
--- The number that a word is, by its digits, is the one whose decimal text it is.
+-- The number that a word's digits give is the one whose decimal text the word is.
 use Rattle.std.proofs.Common.{◌≡◌, ◌↔◌, ℕ, ◌<◌, ◌≤◌, ◌&&◌, List, get_or, Bool, true, false, cond, nat_lt, nat_le, Result, Ok, Option, Some, None, ◌⊎◌, inl, inr, refl, sym, ap, ◌∙◌, arith, lit<, zero, suc, rules}
 use Rattle.std.specs.Str.{bytes_eq, all_ascii_digits}
 use Rattle.std.specs.Fmt.{decimal}
@@ -15,13 +15,13 @@ both_true : (a b : Bool) → (a && b) ≡ true → (a ≡ true) × (b ≡ true)
 both_true true b e = (refl, e)
 both_true false b e = absurd (cc)
 
--- one of some tests gave the value
+-- one of two branches gave the value
 pub either : {X : Type 0} (a : Bool) (x z : X) (o : Option X) → cond a (Some x) o ≡ Some z
     → ((a ≡ true) × (x ≡ z)) ⊎ ((a ≡ false) × (o ≡ Some z))
 either true x z o e = inl (refl, cc)
 either false x z o e = inr (refl, e)
 
--- a word is the decimal text of the number that it is
+-- a word is the decimal text of its number
 pub number_is : (word : List ℕ) (n : ℕ) → number_of word ≡ Some n → IsDecimalOf word n
 unfolding number_of
 number_is word n some =
@@ -61,7 +61,7 @@ made_of word n is = ap number_of is.0 ∙ number_made n is.1.0 is.1.1
 pub number_law : (word : List ℕ) (n : ℕ) → (number_of word ≡ Some n) ↔ IsDecimalOf word n
 number_law word n = (number_is word n, made_of word n)
 
--- a word that is no number of a request
+-- a word that isn't the number of a request
 pub no_number : (word : List ℕ)
     → ((n : ℕ) → word ≡ decimal n → 1 ≤ n → n ≤ max_number → ⊥) → None ≡ number_of word
 no_number word none =
@@ -81,7 +81,7 @@ above_zero word n is low high =
 digits_model : IsNumeralModel (λ ds. all_ascii_digits ds ≡ true) (digits_value 10)
 digits_model = numerals_by_value _ (search rules)
 
--- what is parsed and begins with a digit above 0 is a number of a request, up to the highest
+-- a parsed word that begins with a digit above 0 is the number of a request, up to the highest
 pub parsed : {E : Type 0} (word : List ℕ) (n : ℕ) (r : Result ℕ E) → ParsesUnsigned 64 10 word r
     → r ≡ Ok n → begins_above_zero word ≡ true → n ≤ max_number → Some n ≡ number_of word
 parsed word n r parses ok above high =

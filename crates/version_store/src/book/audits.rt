@@ -1,4 +1,4 @@
-//! The calls of audits of points. They are no changes of what a point has.
+//! The book's methods for audits of points. They don't change a point's book.
 
 ghost use Rattle.std.specs.Prelude.{◌≡◌, None, Ok, IfOk, IfErr};
 ghost use Rattle.ocpp_scalars.specs.declared.refusal.Refusal.{Refusal};
@@ -19,9 +19,9 @@ use std::sync::ledger::Ledger;
 use sweep_compiler::{AuditJob, Judged};
 
 impl<C: Ledger, A: Ledger, N: ListName> Book<C, A, N> {
-    /// Asks a point for its own schedule of a connector, 0 being the whole point, over this many
-    /// seconds (chapter 5.7). What the point has now is kept, and its reply is held against that.
-    /// It takes the place of an audit before. The number is that of the call.
+    /// Requests a point's own schedule of a connector, 0 being the whole point, over `duration`
+    /// seconds (chapter 5.7). Keeps the point's present book, with which the reply is compared. It
+    /// replaces an earlier audit. Returns the number of the call.
     pub fn audit(
         &mut self,
         pass: &mut Pass<C, A>,
@@ -48,8 +48,8 @@ impl<C: Ledger, A: Ledger, N: ListName> Book<C, A, N> {
         }
     }
 
-    /// Keeps the verdict on what a point replied to the audit whose call has this number. It is the
-    /// store's own doing, and no session's. On a refusal the verdict comes back.
+    /// Keeps the verdict on a point's reply to the audit whose call has this number. No session's
+    /// pass counts it. On a refusal the verdict comes back.
     pub fn judge(
         &mut self,
         point: PointId,
@@ -81,8 +81,8 @@ impl<C: Ledger, A: Ledger, N: ListName> Book<C, A, N> {
         }
     }
 
-    /// The version of the store, how many calls of a point aren't confirmed, and what came of its
-    /// audit. Changes nothing.
+    /// Returns the version of the store, the number of unconfirmed calls of a point, and the outcome
+    /// of its audit. Changes nothing.
     pub fn status(&mut self, pass: &mut Pass<C, A>, point: PointId) -> Result<PointStatus, Refusal>
         ensures calls { IfOk result (λ status. Calls self.old pass.old (steps.Status point)
             (Reply.Status status) self.new pass.new) }
@@ -98,10 +98,10 @@ impl<C: Ledger, A: Ledger, N: ListName> Book<C, A, N> {
         }
     }
 
-    /// What the audit of the point of an identity asked, with what the point had then, if its call
-    /// has this number and it has no verdict yet. Copies nothing, and only an audit that is there
-    /// may want memory. With what is always so of the audits of a book: each verdict is one for what
-    /// was asked, the book of then and something that the point said, or Unsettled.
+    /// Returns the request of the audit of the point of an identity, with the book of that time, if
+    /// the audit's call has this number and it has no verdict yet. Copies nothing, and may need
+    /// memory only if there is such an audit. Also shows that each verdict is Unsettled, or one on
+    /// the request, the book of that time and something that the point may have replied.
     pub fn audit_job(&self, point: &str, call: u64) -> Result<Option<AuditJob>, Refusal>
         ensures job { IfOk result (λ job. job ≡ audit_job self.now.present point.now call) }
         ensures certain { audit_job self.now.present point.now call ≡ None → result ≡ Ok None }

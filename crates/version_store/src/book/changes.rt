@@ -1,4 +1,4 @@
-//! The calls of sessions that change what a point has.
+//! The book's methods that change a point's book.
 
 ghost use Rattle.std.specs.Prelude.{◌≡◌, true, IfOk, IfErr};
 ghost use Rattle.site_core.specs.declared.step.Step.{Step};
@@ -51,8 +51,8 @@ impl<C: Ledger, A: Ledger, N: ListName> Book<C, A, N> {
         }
     }
 
-    /// Removes the profiles of a point that match each criterion that is given (chapter 5.5). False
-    /// where none matches: nothing was changed.
+    /// Removes the profiles of a point that match each given criterion (chapter 5.5). Returns false
+    /// if none matches; then nothing was changed.
     pub fn clear(
         &mut self,
         pass: &mut Pass<C, A>,
@@ -74,8 +74,8 @@ impl<C: Ledger, A: Ledger, N: ListName> Book<C, A, N> {
         }
     }
 
-    /// Begins a transaction at a connector of a point (chapter 4.8), or gives the number again of a
-    /// start that is retransmitted. On a refusal what began comes back.
+    /// Begins a transaction at a connector of a point (chapter 4.8), and returns its number. For a
+    /// retransmitted start it returns the earlier number. On a refusal `begin` comes back.
     pub fn start(
         &mut self,
         pass: &mut Pass<C, A>,
@@ -109,8 +109,8 @@ impl<C: Ledger, A: Ledger, N: ListName> Book<C, A, N> {
         }
     }
 
-    /// Ends the transaction of this number at a point (chapter 4.10). False where it isn't active
-    /// there: nothing was changed.
+    /// Ends the transaction of this number at a point (chapter 4.10). Returns false if it isn't
+    /// active there; then nothing was changed.
     pub fn stop(
         &mut self,
         pass: &mut Pass<C, A>,

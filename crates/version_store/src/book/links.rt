@@ -1,5 +1,5 @@
-//! The calls of links to points, and of the calls that are sent over them. They are no session's
-//! changes.
+//! The book's methods for links to points, and for the calls that are sent over them. They aren't
+//! counted as changes of a session.
 
 ghost use Rattle.std.specs.Prelude.{◌≡◌, IfOk, IfErr};
 ghost use Rattle.site_core.specs.declared.step.Step.TheVariants as steps;
@@ -31,8 +31,8 @@ impl<C: Ledger, A: Ledger, N: ListName> Book<C, A, N> {
         }
     }
 
-    /// The first call that waits for a point, to be sent over its link, or none where none waits or
-    /// one is in flight.
+    /// Returns the first call that waits for a point, to be sent over its link. Returns none if no
+    /// call waits or one is in flight.
     pub fn send(&mut self, point: PointId, link: u64) -> Result<Option<Call>, Refusal>
         ensures makes { IfOk result (λ call. Makes self.old (steps.Send point link) (sending call)
             self.new) }
@@ -52,8 +52,8 @@ impl<C: Ledger, A: Ledger, N: ListName> Book<C, A, N> {
         }
     }
 
-    /// Takes note that a point has answered the call of this number, which was in flight, and
-    /// whether its reply has the status Accepted.
+    /// Records that a point has answered the call of this number, which was in flight, and whether
+    /// its reply has the status Accepted.
     pub fn confirm(
         &mut self,
         point: PointId,
@@ -80,7 +80,7 @@ impl<C: Ledger, A: Ledger, N: ListName> Book<C, A, N> {
         }
     }
 
-    /// Takes note that a link to a point is lost: a call that was in flight waits again.
+    /// Records that a link to a point is lost. A call that was in flight waits again.
     pub fn lost(&mut self, point: PointId, link: u64) -> Result<(), Refusal>
         ensures makes { IfOk result (λ _. Makes self.old (steps.Lost point link) Reply.LinkLost
             self.new) }

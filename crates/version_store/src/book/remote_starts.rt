@@ -1,4 +1,4 @@
-//! The call that asks a point to start a transaction. It is no change of what a point has.
+//! The book's method for remote starts. It doesn't change a point's book.
 
 ghost use Rattle.std.specs.Prelude.{◌≡◌, IfOk, IfErr};
 ghost use Rattle.site_core.specs.declared.step.Step.TheVariants as steps;
@@ -15,9 +15,9 @@ use std::sync::ledger::Ledger;
 
 impl<C: Ledger, A: Ledger, N: ListName> Book<C, A, N> {
     /// Asks a point to start a transaction of an idTag at a connector (chapter 5.11). The start
-    /// waits, in place of one before at the connector. A transaction of that idTag begins with the
-    /// TxProfile, where one is given. The number is that of the call. On a refusal the idTag and the
-    /// profile come back.
+    /// waits, in place of an earlier one at the connector. A transaction of that idTag begins with
+    /// the TxProfile, if one is given. Returns the number of the call. On a refusal the idTag and
+    /// the profile come back.
     pub fn remote_start(
         &mut self,
         pass: &mut Pass<C, A>,

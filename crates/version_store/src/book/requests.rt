@@ -1,4 +1,4 @@
-//! The calls of requests for composite schedules, and the end.
+//! The book's methods for requests for composite schedules, and for the end.
 
 ghost use Rattle.std.specs.Prelude.{ℕ, ◌≡◌, ◌≤◌, true, None, IfOk, IfErr, IfSome, IfNone};
 ghost use Rattle.site_core.specs.declared.step.Step.TheVariants as steps;
@@ -23,8 +23,8 @@ use sweep_compiler::Compiled;
 
 impl<C: Ledger, A: Ledger, N: ListName> Book<C, A, N> {
     /// Keeps a request for the composite schedule (chapter 5.7) of a connector of a point.
-    /// Connector 0 is the whole point. The schedule is from a start on for this many seconds, in a
-    /// unit where one is given. The job is what is to be compiled and posted.
+    /// Connector 0 is the whole point. The schedule covers `duration` seconds from `start` on, in
+    /// `unit` if one is given. Returns the job to compile and post.
     pub fn take(
         &mut self,
         pass: &mut Pass<C, A>,
@@ -61,8 +61,8 @@ impl<C: Ledger, A: Ledger, N: ListName> Book<C, A, N> {
         }
     }
 
-    /// The request of a number has this answer now, where it is for what the request keeps. On a
-    /// refusal what was compiled comes back. Takes no memory.
+    /// Answers the request of a number by a compiled answer for its book and `Ask`. On a refusal the
+    /// answer comes back. Takes no memory.
     pub fn post(&mut self, number: u64, compiled: Compiled) -> Result<(), (Refusal, Compiled)>
         ensures posts { IfOk result (λ _. PostsTo self.old number compiled self.new) }
         ensures refusal { IfErr result (λ refused. IsRefusedPost
@@ -70,11 +70,13 @@ impl<C: Ledger, A: Ledger, N: ListName> Book<C, A, N> {
         ensures kept { IfErr result (λ refused. self.new ≡ self.old) }
         ensures back { IfErr result (λ refused. refused.1 ≡ compiled) }
     {
+        // Not recorded: the recorded states leave requests out, since a journal doesn't restore
+        // them.
         self.history.post(number, compiled)?;
         Ok(())
     }
 
-    /// Hands out the answer to the request of a number, which is no longer kept then. None where it
+    /// Hands out the answer to the request of a number, and removes the request. Returns none if it
     /// has no answer yet. Takes no memory.
     pub fn collect(&mut self, pass: &mut Pass<C, A>, number: u64) -> Result<Option<Answer>, Refusal>
         ensures calls { IfOk result (λ answer. Calls self.old pass.old (steps.Answer number)
@@ -115,7 +117,7 @@ impl<C: Ledger, A: Ledger, N: ListName> Book<C, A, N> {
         }
     }
 
-    /// The reply to who asks for the answer to the request of a number.
+    /// Replies with the answer to the request of a number, or NotYet, and counts it for the pass.
     fn hand_out(&mut self, pass: &mut Pass<C, A>, number: u64) -> Result<Reply, Refusal>
         ensures calls { IfOk result (λ reply. Calls self.old pass.old (steps.Answer number) reply
             self.new pass.new) }

@@ -1,4 +1,4 @@
--- The lines in front stay, whatever stands behind them.
+-- The first lines stay, whatever follows them.
 use Rattle.std.proofs.Common.{List, ◌++◌, ℕ, ◌∙◌, ap, subst}
 use Rattle.append_log.specs.Contents.{IsFirstPart}
 use Rattle.append_log.specs.Lines.{whole_lines, text_of}

@@ -1,4 +1,4 @@
--- The byte before the end.
+-- The byte before the end, if there is one, is a line feed.
 use Rattle.std.proofs.Common.{◌≡◌, ◌+◌, ◌-◌, [], ◌∷◌, ◌++◌, length, take, get_or, length-take-le, sym, ◌∙◌, ap, arith}
 use Rattle.std.proofs.lemmas.Grind.{take_at_read}
 use Rattle.append_log.specs.Lines.{whole_lines}

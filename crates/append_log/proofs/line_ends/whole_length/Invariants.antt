@@ -1,4 +1,4 @@
--- What stands behind the end has no line feed.
+-- The bytes behind the end have no line feed.
 use Rattle.std.proofs.Common.{◌≡◌, ◌≤◌, length, take}
 use Rattle.append_log.specs.Lines.{whole_lines}
 use Rattle.append_log.proofs.line_ends.whole_length.Given as goal

@@ -1,4 +1,4 @@
--- How a write goes on.
+-- One more write, and one that fails.
 use Rattle.std.proofs.Common.{◌≡◌, ◌-◌, false, length, drop, refl, sym, ◌∙◌, ap, subst, slice_range, arith, rules, Err}
 use Rattle.std.proofs.lemmas.List.{places}
 use Rattle.std.proofs.lemmas.Result.{err_from_is_err_and}

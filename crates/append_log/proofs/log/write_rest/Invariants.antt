@@ -1,4 +1,4 @@
--- What is written so far, and what a crash leaves meanwhile.
+-- The bytes written so far, and those that a crash leaves meanwhile.
 use Rattle.std.proofs.Common.{◌≡◌, ◌-◌, ◌≤◌, false, length}
 use Rattle.append_log.specs.Contents.{MayLeave}
 use Rattle.append_log.specs.History.{AtEachMoment}

@@ -1,4 +1,4 @@
--- What a crash leaves up to the sync.
+-- The bytes that a crash leaves up to the sync.
 use Rattle.std.proofs.Common.{false, ◌∙◌, ap}
 use Rattle.append_log.specs.Writing.{with_first}
 use Rattle.append_log.proofs.Writes.{syncs, sync_fails}

@@ -1,4 +1,4 @@
--- What the help says of a command changes nothing of how words are read.
+-- The texts of the help don't change how words are read.
 use Rattle.std.proofs.Common.{◌≡◌, ◌∙◌, ap, fold}
 use Rattle.clap.specs.Words.{App, app_of, new_app}
 use Rattle.command_line.specs.CommandRows.{with_row}

@@ -5,7 +5,7 @@ use Rattle.command_line.specs.declared.option_row.OptionRow.TheVariants.{Needed}
 use Rattle.command_line.proofs.CommandRowsLemmas.{last_row, next_row}
 use Rattle.command_line.proofs.commands.with_options.Goals as goal
 
--- what a list has behind its end
+-- the value for an index after the end of the list
 abbrev no_row : OptionRow
 no_row =
     Needed (record { ref_ptr = (0, 0); now = [] }) (record { ref_ptr = (0, 0); now = [] })

@@ -1,4 +1,4 @@
--- The command so far, with the options to come, is that with all.
+-- The command so far with the remaining options is that with all.
 use Rattle.std.proofs.Common.{◌≡◌, fold, drop}
 use Rattle.clap.specs.Words.{app_of}
 use Rattle.command_line.specs.CommandRows.{with_row}

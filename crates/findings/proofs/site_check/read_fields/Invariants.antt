@@ -1,4 +1,4 @@
--- What is left to read is shorter after each turn.
+-- Fewer tokens are left to read after each iteration.
 use Rattle.std.proofs.Common.{length}
 use Rattle.findings.proofs.site_check.read_fields.Given as goal
 

@@ -1,4 +1,4 @@
--- Lists and objects nest less deep with each call, and what is left to read is shorter after each turn.
+-- Each call has less depth left, and fewer tokens are left to read after each iteration.
 use Rattle.std.proofs.Common.{◌+◌, ◌*◌, ◌≤◌, length}
 use Rattle.findings.proofs.site_json.+judge.Given as goal
 

@@ -1,4 +1,4 @@
--- What is left to read grows no longer, and is shorter after each turn.
+-- The tokens left to read never become more, and are fewer after each iteration.
 use Rattle.std.proofs.Common.{◌≤◌, length}
 use Rattle.findings.proofs.site_points.read_entries.Given as goal
 

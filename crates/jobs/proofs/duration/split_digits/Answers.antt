@@ -1,4 +1,4 @@
--- Each digit moves the number on, up to the longest duration.
+-- Each digit extends the number, up to the longest duration.
 use Rattle.std.proofs.Common.{◌∙◌, sym, arith}
 use Rattle.std.proofs.lemmas.Bool.{le-leb, lt-leb}
 use Rattle.std.proofs.lemmas.List.{at_drop_all}

@@ -1,4 +1,4 @@
--- The number so far, with the digits to come, is that of all.
+-- The number so far with the remaining digits makes the whole number.
 use Rattle.std.proofs.Common.{◌≡◌, ◌≤◌, drop}
 use Rattle.meaning.specs.Limits.{max_duration}
 use Rattle.jobs.specs.Duration.{number_after}

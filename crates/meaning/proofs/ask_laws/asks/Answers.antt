@@ -1,4 +1,4 @@
--- The law stands in `AskCauses`.
+-- The law is proved in `AskCauses`.
 use Rattle.meaning.proofs.AskCauses.{asks_refused, asks_made}
 use Rattle.meaning.proofs.ask_laws.asks.Goals as goal
 

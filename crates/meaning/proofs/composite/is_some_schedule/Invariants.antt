@@ -1,4 +1,4 @@
--- The periods make a schedule exactly where those behind the ones so far go on.
+-- All periods make a schedule exactly if the remaining ones continue those so far.
 use Rattle.std.proofs.Common.{◌≡◌, drop, None, is_some, nat_lt}
 use Rattle.meaning.specs.ByCases.Said.{go_on}
 use Rattle.meaning.proofs.composite.is_some_schedule.Given as goal

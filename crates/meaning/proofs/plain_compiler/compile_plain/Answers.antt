@@ -1,4 +1,4 @@
--- That the periods so far are the exact ones, and that one too many makes the whole too long.
+-- The periods so far are the exact ones, and one too many makes the whole schedule too long.
 use Rattle.std.proofs.Common.{◌≡◌, ℕ, ◌+◌, ◌∙◌, ap, refl, Some, add-one, arith, rules}
 use Rattle.std.proofs.lemmas.Result.{err_from_is_err_and}
 use Rattle.meaning.specs.View.{point_state}

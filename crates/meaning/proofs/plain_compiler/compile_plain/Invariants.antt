@@ -1,4 +1,4 @@
--- The periods so far are the exact ones of the seconds so far.
+-- The periods so far are exact for the seconds so far.
 use Rattle.std.proofs.Common.{◌≡◌, ◌≤◌, length}
 use Rattle.meaning.specs.Limits.{max_composite_periods}
 use Rattle.meaning.specs.View.{point_state}

@@ -1,4 +1,4 @@
--- The laws stand in `Reasons` and `Causes`.
+-- The laws are proved in `Reasons` and `Causes`.
 use Rattle.meaning.specs.Theory.Reasons.{prevailing_is, own_is, reason_limit}
 use Rattle.meaning.proofs.Causes.{own_sets, bound_sets}
 use Rattle.meaning.proofs.reason_laws.reasons.Goals as goal

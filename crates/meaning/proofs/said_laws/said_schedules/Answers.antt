@@ -1,4 +1,4 @@
--- What is computed is what a schedule is, both ways.
+-- The computed test and the definition of a schedule agree, both ways.
 use Rattle.meaning.specs.Theory.SaidSchedules.{said_schedule_is, is_said}
 use Rattle.meaning.proofs.said_laws.said_schedules.Goals as goal
 

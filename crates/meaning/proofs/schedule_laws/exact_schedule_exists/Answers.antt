@@ -1,4 +1,4 @@
--- The periods that are computed are exact.
+-- The computed periods are exact.
 use Rattle.meaning.specs.Limit.{limit_asked}
 use Rattle.meaning.specs.Theory.ExactPeriods.{exact_are}
 use Rattle.meaning.proofs.schedule_laws.exact_schedule_exists.Goals as goal

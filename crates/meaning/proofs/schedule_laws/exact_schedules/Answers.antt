@@ -1,4 +1,4 @@
--- Exact periods are the ones that are computed, and too many exactly where those are.
+-- Exact periods are the computed ones, and are too many exactly if those are.
 use Rattle.meaning.specs.Theory.ExactPeriods.{exact_is, exact_are}
 use Rattle.meaning.specs.Theory.ExactAnswers.{answered}
 use Rattle.meaning.proofs.Compiling.{computed, refused, too_long-is}

@@ -1,4 +1,4 @@
--- Exact periods are the ones that are computed.
+-- Exact periods are the computed ones.
 use Rattle.std.proofs.Common.{sym, ◌∙◌}
 use Rattle.meaning.specs.Limit.{limit_asked}
 use Rattle.meaning.specs.Theory.ExactPeriods.{exact_is}

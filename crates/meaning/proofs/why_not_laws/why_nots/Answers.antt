@@ -1,4 +1,4 @@
--- The law stands in `WhyNots`.
+-- The law is proved in `WhyNots`.
 use Rattle.meaning.proofs.WhyNots.{why_not_none}
 use Rattle.meaning.proofs.why_not_laws.why_nots.Goals as goal
 

@@ -1,4 +1,4 @@
--- What was missing: the actions that are left have what all have, as none before them has the name.
+-- The search of the remaining actions gives that of all, since no earlier one has the name.
 use Rattle.std.proofs.Common.{◌≡◌, drop}
 use Rattle.messages.specs.ActionKind.{kind_in}
 use Rattle.messages.proofs.action_kind.kind_in.Given as goal

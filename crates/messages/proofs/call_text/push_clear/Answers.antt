@@ -1,4 +1,4 @@
--- What was missing: the values that may be absent, as they are written.
+-- Added for the prover: the texts of the optional values.
 use Rattle.messages.proofs.call_text.push_clear.Goals as goal
 
 pub returns : goal.returns

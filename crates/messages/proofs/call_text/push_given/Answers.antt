@@ -1,4 +1,4 @@
--- What was missing: no criterion is left, and none is written.
+-- Added for the prover: no criterion is left, and none is written.
 use Rattle.std.proofs.Common.{◌∙◌}
 use Rattle.std.proofs.lemmas.List.{drop_all}
 use Rattle.messages.proofs.call_text.push_given.Goals as goal

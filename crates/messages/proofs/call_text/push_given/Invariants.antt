@@ -1,4 +1,4 @@
--- What was missing: what is written and the criteria that are left make the whole, behind the text that stood there.
+-- The text before, the criteria written so far and the remaining ones make up the whole text.
 use Rattle.std.proofs.Common.{◌≡◌, ◌++◌, drop, string_bytes}
 use Rattle.std.specs.List.{filter_map}
 use Rattle.ocpp_scalars.specs.Appending.{BeginsWith}

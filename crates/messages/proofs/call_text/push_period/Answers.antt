@@ -1,4 +1,4 @@
--- What was missing: the value that may be absent, as it is written.
+-- Added for the prover: the text of the optional value.
 use Rattle.messages.specs.CallText.{period_text}
 use Rattle.messages.proofs.call_text.push_period.Goals as goal
 

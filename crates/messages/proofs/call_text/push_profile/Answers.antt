@@ -1,4 +1,4 @@
--- What was missing: the parts make one object.
+-- Added for the prover: the parts make one object.
 use Rattle.std.proofs.Common.{codes}
 use Rattle.messages.specs.CallText.{profile_text}
 use Rattle.messages.proofs.FieldsText.{object_of_two}

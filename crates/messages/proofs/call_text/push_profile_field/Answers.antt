@@ -1,4 +1,4 @@
--- What was missing: the profile is the value of its key.
+-- Added for the prover: the profile is the value of its key.
 use Rattle.std.proofs.Common.{codes}
 use Rattle.messages.proofs.FieldsText.{one_later_field}
 use Rattle.messages.proofs.call_text.push_profile_field.Goals as goal

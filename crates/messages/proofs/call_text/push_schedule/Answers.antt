@@ -1,4 +1,4 @@
--- What was missing: the parts make one object, with the values that may be absent as they are written.
+-- Added for the prover: the parts make one object, with the texts of the optional values.
 use Rattle.std.proofs.Common.{[], ◌∷◌, codes, option_map}
 use Rattle.std.specs.Fmt.{decimal}
 use Rattle.messages.specs.CallText.{schedule_text}

@@ -1,4 +1,4 @@
--- What was missing: the parts make the fields of one object.
+-- Added for the prover: the parts make the fields of one object.
 use Rattle.std.proofs.Common.{codes}
 use Rattle.messages.proofs.FieldsText.{fields_of_two}
 use Rattle.messages.proofs.call_text.push_set.Goals as goal

@@ -1,4 +1,4 @@
--- What was missing: the law stands in `FirstFaults`.
+-- `FirstFaults` proves the law.
 use Rattle.messages.specs.Action.{action_of_kind}
 use Rattle.messages.specs.FieldFaults.{field_faults}
 use Rattle.messages.proofs.FirstFaults.{action_first, action_law, fault_law}

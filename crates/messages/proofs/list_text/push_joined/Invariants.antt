@@ -1,4 +1,4 @@
--- What was missing: what is written and the items that are left make the whole, behind the text that stood there.
+-- The text before, the items written so far and the remaining ones make up the whole text.
 use Rattle.std.proofs.Common.{◌≡◌, ◌++◌, drop, map, string_bytes}
 use Rattle.ocpp_scalars.specs.Appending.{BeginsWith}
 use Rattle.messages.specs.ObjectText.{joined, later_texts}

@@ -1,4 +1,4 @@
--- What was missing: what is written and the fields that are left make the whole, behind the text that stood there.
+-- The text before, the fields written so far and the remaining ones make up the whole text.
 use Rattle.std.proofs.Common.{◌≡◌, ◌++◌, drop, map, option_map, string_bytes}
 use Rattle.std.specs.List.{filter_map}
 use Rattle.ocpp_scalars.specs.Appending.{BeginsWith}

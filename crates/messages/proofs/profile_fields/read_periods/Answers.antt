@@ -1,4 +1,4 @@
--- That one more period is read.
+-- One more period is read.
 use Rattle.std.proofs.Common.{◌≡◌, ◌∙◌, ◌++◌, ◌∷◌, [], List, rules, sym, ap, Ok}
 use Rattle.profile.specs.declared.period.Period.{Period}
 use Rattle.ocppj_frame.specs.Payload.{entries_in, entries_left, tree_at}

@@ -1,4 +1,4 @@
--- What was missing: the periods so far and those of the entries that are left are all.
+-- The periods so far and those of the remaining entries are all periods.
 use Rattle.std.proofs.Common.{◌≡◌}
 use Rattle.ocppj_frame.specs.Payload.{entries_in, entries_left}
 use Rattle.messages.specs.ProfileFields.{each_period_of}

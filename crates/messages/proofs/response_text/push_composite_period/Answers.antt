@@ -1,4 +1,4 @@
--- What was missing: the pieces make one object.
+-- Added for the prover: the pieces make one object.
 use Rattle.std.proofs.Common.{codes}
 use Rattle.messages.specs.ObjectText.{fields_text, object_text}
 use Rattle.messages.specs.ResponseText.{composite_period_text}

@@ -1,4 +1,4 @@
--- What was missing: the pieces make one text.
+-- Added for the prover: the pieces make one text.
 use Rattle.std.proofs.Common.{codes}
 use Rattle.messages.specs.ByCases.ObjectText.{first_field_text}
 use Rattle.messages.proofs.TextPieces.{three_pieces}

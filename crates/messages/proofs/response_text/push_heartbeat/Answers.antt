@@ -1,4 +1,4 @@
--- What was missing: the object from its first field on.
+-- Added for the prover: the object from its first field on.
 use Rattle.std.proofs.Common.{arith}
 use Rattle.std.proofs.lemmas.Grind.{common_steps}
 use Rattle.messages.proofs.FieldsText.{heartbeat_object}

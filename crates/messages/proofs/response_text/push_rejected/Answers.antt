@@ -1,4 +1,4 @@
--- What was missing: the refusal isn't out of memory.
+-- Added for the prover: the refusal isn't out of memory.
 use Rattle.std.proofs.Common.{arith}
 use Rattle.std.proofs.lemmas.Grind.{common_steps}
 use Rattle.messages.proofs.response_text.push_rejected.Goals as goal

@@ -1,4 +1,4 @@
--- What was missing: the pieces make one object, and the number is a whole number of 32 bits.
+-- Added for the prover: the pieces make one object, and the number is a whole number of 32 bits.
 use Rattle.std.proofs.Common.{codes}
 use Rattle.std.proofs.lemmas.Int.{to_z-of_z}
 use mir.Syntax.{w32}

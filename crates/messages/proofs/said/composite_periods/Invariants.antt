@@ -1,4 +1,4 @@
--- What was missing: the copies so far and those of the periods that are left are all.
+-- The copies so far and those of the remaining periods are all copies.
 use Rattle.std.proofs.Common.{◌≡◌, ◌++◌, drop, map}
 use Rattle.messages.specs.Said.{composite_period}
 use Rattle.messages.proofs.said.composite_periods.Given as goal

@@ -1,4 +1,4 @@
--- The laws stand in `InstantReadings`.
+-- The laws are in `InstantReadings`.
 use Rattle.ocpp_scalars.proofs.InstantReadings.{instant_reading, instant_printed, instant_again}
 use Rattle.ocpp_scalars.proofs.laws.instant_texts.Goals as goal
 

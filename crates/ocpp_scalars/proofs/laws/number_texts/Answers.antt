@@ -1,4 +1,4 @@
--- The laws stand in `NumberReadings` and `TenthsPrinted`.
+-- The laws are in `NumberReadings` and `TenthsPrinted`.
 use Rattle.ocpp_scalars.proofs.NumberReadings.{number_text-found, number_text-only, tenths_reading, whole_reading}
 use Rattle.ocpp_scalars.proofs.TenthsPrinted.{tenths_printed, tenths_again}
 use Rattle.ocpp_scalars.proofs.laws.number_texts.Goals as goal

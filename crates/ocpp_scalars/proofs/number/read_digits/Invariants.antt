@@ -1,4 +1,5 @@
--- The value so far, with the digits to come, is the value of all; and there is room for them.
+-- The value so far, with the digits to come, is the value of all digits, and there is room for
+-- them.
 use Rattle.std.proofs.Common.{◌≡◌, ◌+◌, ◌*◌, ◌^◌, ◌≤◌, length, drop}
 use Rattle.ocpp_scalars.specs.Digits.{AreDigits, value_after}
 use Rattle.ocpp_scalars.proofs.number.read_digits.Given as goal

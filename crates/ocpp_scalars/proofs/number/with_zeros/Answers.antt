@@ -1,4 +1,4 @@
--- A zero put behind multiplies by ten; past the bound no further zero leads back.
+-- An appended zero multiplies by ten; past the bound no further zero leads back.
 use Rattle.std.proofs.Common.{arith}
 use Rattle.ocpp_scalars.proofs.Scaling.{scaled-over, raised_step}
 use Rattle.ocpp_scalars.proofs.number.with_zeros.Goals as goal

@@ -1,4 +1,4 @@
--- Each zero put behind is one power of ten.
+-- Each appended zero is one power of ten.
 use Rattle.std.proofs.Common.{◌≡◌, ◌*◌, ◌^◌, ◌<◌}
 use Rattle.ocpp_scalars.proofs.number.with_zeros.Given as goal
 

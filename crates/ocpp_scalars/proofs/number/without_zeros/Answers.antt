@@ -1,4 +1,4 @@
--- A zero taken off divides by ten; with all taken off the value is the quotient.
+-- Removing a zero divides by ten; with all removed the value is the quotient.
 use Rattle.std.proofs.Common.{◌≡◌, ◌*◌, ◌^◌, sym, ap, ◌∙◌, arith}
 use Rattle.ocpp_scalars.proofs.Scaling.{scaled-lowered, lowered_step}
 use Rattle.ocpp_scalars.proofs.number.without_zeros.Goals as goal

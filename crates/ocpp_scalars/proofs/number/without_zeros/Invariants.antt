@@ -1,4 +1,4 @@
--- Each zero taken off is one power of ten.
+-- Each removed zero is one power of ten.
 use Rattle.std.proofs.Common.{◌≡◌, ◌*◌, ◌^◌, ◌<◌}
 use Rattle.ocpp_scalars.proofs.number.without_zeros.Given as goal
 

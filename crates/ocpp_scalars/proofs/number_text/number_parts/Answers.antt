@@ -1,4 +1,4 @@
--- The parts are cut from the text, so they fit in it.
+-- The parts are pieces of the text, so they aren't longer than it.
 use Rattle.std.proofs.Common.{rules}
 use Rattle.ocpp_scalars.specs.ByCases.NumberText.{parts_of}
 use Rattle.ocpp_scalars.proofs.NumberGrammar.{parts_fit}

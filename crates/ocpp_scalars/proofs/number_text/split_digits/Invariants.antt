@@ -1,4 +1,4 @@
--- The digits passed so far, with those to come, are those that the text begins with.
+-- The digits passed so far, with those to come, are the digits at the beginning of the text.
 use Rattle.std.proofs.Common.{◌≡◌, ◌++◌, take, drop}
 use Rattle.ocpp_scalars.specs.ByCases.Digits.{digits_of, after_digits}
 use Rattle.ocpp_scalars.proofs.number_text.split_digits.Given as goal

@@ -1,4 +1,4 @@
--- The laws stand in `Messages`.
+-- `Messages` proves the laws.
 use Rattle.ocppj_frame.proofs.Messages.{messages_by_rows, messages_of_texts}
 use Rattle.ocppj_frame.proofs.laws.frame_messages.Goals as goal
 

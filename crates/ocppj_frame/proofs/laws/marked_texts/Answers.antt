@@ -1,4 +1,4 @@
--- The law stands in `Markings`.
+-- `Markings` proves the law.
 use Rattle.ocppj_frame.proofs.Markings.{marked_by_rules}
 use Rattle.ocppj_frame.proofs.laws.marked_texts.Goals as goal
 

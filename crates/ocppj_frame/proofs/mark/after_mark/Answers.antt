@@ -1,4 +1,4 @@
--- What follows a byte of ASCII in UTF-8 is UTF-8.
+-- The rest of a UTF-8 text after an ASCII byte is UTF-8.
 use Rattle.std.proofs.Common.{◌≡◌, ◌<◌, ◌∷◌, ◌∙◌, sym, subst}
 use Rattle.std.specs.Str.{IsUtf8}
 use Rattle.ocppj_frame.proofs.AfterMark.{IsUtf8-past_ascii}

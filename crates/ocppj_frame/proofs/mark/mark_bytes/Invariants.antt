@@ -2,7 +2,7 @@ use Rattle.std.proofs.Common.{◌≡◌, ◌≤◌, ◌+◌, ◌*◌, ◌++◌, 
 use Rattle.ocppj_frame.specs.ByCases.Mark.{outside, marked_from, marked_text}
 use Rattle.ocppj_frame.proofs.mark.mark_bytes.Given as goal
 
--- what is written so far, and the marked form of what is left, for which there is room
+-- the bytes written so far, and the marked form of the rest, for which there is room
 abbrev pub invariant-loop-byte : goal.invariant-loop-byte
 invariant-loop-byte l = record {
   marked : l.out.items ++ marked_from outside l.left ≡ marked_text l.text;

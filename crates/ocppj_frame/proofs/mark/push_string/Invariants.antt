@@ -2,7 +2,7 @@ use Rattle.std.proofs.Common.{◌≡◌, ◌≤◌, ◌+◌, ◌++◌, length, v
 use Rattle.ocppj_frame.specs.ByCases.Mark.{inside, marked_from}
 use Rattle.ocppj_frame.proofs.mark.push_string.Given as goal
 
--- what is written so far, and the marked form of what is left
+-- the bytes written so far, and the marked form of the rest
 abbrev pub invariant-loop-byte : goal.invariant-loop-byte
 invariant-loop-byte l = record {
   marked : l.out.items ++ marked_from inside l.left ≡ l.fn.out.items ++ marked_from inside l.fn.text;

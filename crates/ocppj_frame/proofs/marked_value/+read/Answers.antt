@@ -94,7 +94,7 @@ read_value-returns-in_ok-read_members-in-BeginObject-clause-value t c =
     object_opened c.args.depth _ _ (omega arith) opens ∙ ap (parse_map object) found.ensures.members
     ∙ ap (λ d. Some (d, c.read_members.new.reader)) (sym (view-Object found.field-0))
 
--- a token that begins no value, and a number, which doesn't come
+-- a token that begins no value, and a number, which doesn't occur
 
 pub read_value-returns-in-EndObject-clause-refused : goal.read_value-returns-in-EndObject-clause-refused
 read_value-returns-in-EndObject-clause-refused t c refused =

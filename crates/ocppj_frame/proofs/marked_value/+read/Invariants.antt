@@ -16,7 +16,7 @@ decreases-read_items l = 2 * l.depth + 1
 abbrev pub decreases-read_members : goal.decreases-read_members
 decreases-read_members l = 2 * l.depth + 1
 
--- what is read so far stands before what is left
+-- the items read so far come before the remaining ones
 abbrev pub invariant-read_items-items : goal.invariant-read_items-items
 invariant-read_items-items l =
     (n : ℕ) × (length l.reader ≤ n)
@@ -28,7 +28,7 @@ invariant-read_items-items l =
 abbrev pub decreases-read_items-items : goal.decreases-read_items-items
 decreases-read_items-items l = length l.reader
 
--- what is read so far has been put into the object
+-- the members read so far have been inserted into the object
 abbrev pub invariant-read_members-members : goal.invariant-read_members-members
 invariant-read_members-members l =
     (n : ℕ) × (length l.reader ≤ n)

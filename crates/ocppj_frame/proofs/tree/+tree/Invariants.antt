@@ -3,7 +3,7 @@ use Rattle.ocppj_frame.specs.Read.{fields_of, trees_of}
 use Rattle.ocppj_frame.specs.View.{items_view, members_view}
 use Rattle.ocppj_frame.proofs.tree.+tree.Given as goal
 
--- what is left decides
+-- the remaining items decide
 abbrev pub invariant-are_trees-loop-item : goal.invariant-are_trees-loop-item
 invariant-are_trees-loop-item l = is_some (trees_of (items_view (drop l.item-index l.values))) ≡ is_some (trees_of (items_view l.values))
 

@@ -13,7 +13,7 @@ print_string : (text : List ℕ) (tokens : List Token) → tokens ≡ string tex
 unfolding print_from
 print_string text tokens e = ap print e ∙ append-nil (quoted text)
 
--- a fact of an Ok, and what holds in any case of an Err
+-- a fact of an Ok, and one that holds of every Err
 by_outcome : {E P Q R : Type 0} → (r : Result (Unit {0}) E) → (P → Q) → R → OnOk r P
     → MatchResult r (λ _. Q) (λ _. R)
 by_outcome (Ok x) f kept h = f h

@@ -1,4 +1,4 @@
--- The law stands in `InstallCauses`.
+-- The law is proved in `InstallCauses`.
 use Rattle.point_book.proofs.InstallCauses.{installs}
 use Rattle.point_book.proofs.install_laws.installs.Goals as goal
 

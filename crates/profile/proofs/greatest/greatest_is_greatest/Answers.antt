@@ -1,4 +1,4 @@
--- The law, element by element of the list.
+-- The law, by induction over the list.
 use Rattle.std.proofs.Common.{ap}
 use Rattle.profile.specs.Greatest.{greatest}
 use Rattle.profile.proofs.GreatestLemmas.{greatest-none, greatest-is, is-greatest}

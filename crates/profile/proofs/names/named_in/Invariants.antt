@@ -1,4 +1,4 @@
--- What was missing: the rows that are left have what all have, as none before them has the name.
+-- The remaining rows give the same value as all rows, because no row before them has the name.
 use Rattle.std.proofs.Common.{◌≡◌, drop, map}
 use Rattle.profile.specs.Names.{named_in}
 use Rattle.profile.proofs.names.named_in.Given as goal

@@ -1,4 +1,4 @@
--- The law stands in `PartLemmas`.
+-- The law is proved in `PartLemmas`.
 use Rattle.profile.proofs.PartLemmas.{parts_refused, parts_made}
 use Rattle.profile.proofs.part_laws.profile_parts.Goals as goal
 

@@ -1,4 +1,4 @@
--- That the loop's form of the order is that of the definition.
+-- The order that the loop checks is that of the definition.
 use Rattle.profile.proofs.PeriodLemmas.{in_order-after}
 use Rattle.profile.proofs.periods.are_in_order.Goals as goal
 

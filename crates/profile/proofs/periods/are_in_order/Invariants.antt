@@ -1,4 +1,4 @@
--- The rest is in order after the periods so far exactly where all of them are in order.
+-- The remaining periods are in order after the periods so far exactly if all periods are in order.
 use Rattle.std.proofs.Common.{◌≡◌, drop}
 use Rattle.profile.specs.Periods.{are_in_order}
 use Rattle.profile.specs.ByCases.Periods.{are_in_order_after}

@@ -1,4 +1,4 @@
--- That one connector more leaves it so.
+-- One more connector preserves the invariant.
 use Rattle.std.proofs.Common.{◌∙◌, sym}
 use Rattle.profile_findings.proofs.ConnectorLemmas.{none_more}
 use Rattle.profile_findings.proofs.hidden.speaks_for_none.Goals as goal

@@ -1,4 +1,4 @@
--- At none of the connectors so far it may prevail.
+-- It may prevail at none of the connectors so far.
 use Rattle.profile_findings.specs.Hidden.{SpeaksForNone}
 use Rattle.profile_findings.proofs.hidden.speaks_for_none.Given as goal
 

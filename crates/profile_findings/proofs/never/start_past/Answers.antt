@@ -1,4 +1,4 @@
--- That no period has begun before an end at which or after which each starts.
+-- No period has begun before an offset if each starts at it or later.
 use Rattle.std.proofs.Common.{rules, ◌≡◌, true, nat_le}
 use Rattle.std.specs.List.{list_all}
 use Rattle.profile.specs.declared.period.Period.{Period}

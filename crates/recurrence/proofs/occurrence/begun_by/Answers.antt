@@ -1,4 +1,4 @@
--- That those that have begun stand first.
+-- The periods that have begun come first.
 use Rattle.std.proofs.Common.{nat_le, rules}
 use Rattle.std.proofs.lemmas.List.Sorted.{IsPartitionPoint-from_clause}
 use Rattle.profile.specs.declared.period.Period.{Period}

@@ -1,4 +1,4 @@
--- That the next period of the occurrence is the next place.
+-- The next period of the occurrence is the next place.
 use Rattle.std.proofs.Common.{◌≡◌, ◌∙◌, ◌+◌, ◌<◌, ◌≤◌, ℕ, List, Option, Some, None, length, get_or, ap, subst, sym, rules, arith}
 use Rattle.ocpp_scalars.specs.Limits.{last_second}
 use Rattle.profile.specs.declared.period.Period.{Period}

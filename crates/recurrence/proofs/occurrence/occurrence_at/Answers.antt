@@ -1,4 +1,4 @@
--- That nothing but periods comes up to the fence.
+-- Before the fence only periods are places.
 use Rattle.std.proofs.Common.{◌≡◌, ◌∙◌, ◌-◌, ◌≤◌, ℕ, Bool, List, ap, subst, sym, arith}
 use Rattle.profile.specs.declared.period.Period.{Period}
 use Rattle.profile.specs.ChargingProfile.{anchor}

@@ -1,4 +1,4 @@
--- That the nearest place is the first, where it isn't past the last instant.
+-- The nearest place is the first, unless it is past the last instant.
 use Rattle.std.proofs.Common.{rules, ◌<◌, ◌≤◌}
 use Rattle.ocpp_scalars.specs.Limits.{last_second}
 use Rattle.recurrence.proofs.PlaceLemmas.{places_first, places_past, places_none}

@@ -1,4 +1,4 @@
--- That the rate stays up to the nearest place, which the first clause says it is.
+-- The rate is constant up to the nearest place, by the first clause.
 use Rattle.std.proofs.Common.{rules}
 use Rattle.recurrence.specs.Theory.Rates.{one_rate}
 use Rattle.recurrence.proofs.places.next_change.Goals as goal

@@ -1,4 +1,4 @@
--- That the soonest of the three is the next place.
+-- The soonest of the three is the next place.
 use Rattle.std.proofs.Common.{rules, ◌≡◌, ℕ, Option, ap, sym, subst, ◌∙◌}
 use Rattle.std.specs.Ordering.{nat_cmp}
 use Rattle.profile.specs.ChargingProfile.{offset}

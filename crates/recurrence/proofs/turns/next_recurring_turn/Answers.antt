@@ -1,4 +1,4 @@
--- That a turn of the occurrence that runs comes first, and else the next occurrence begins.
+-- A turn of the current occurrence comes first; without one, the next occurrence begins.
 use Rattle.std.proofs.Common.{◌≡◌, ℕ, ◌<◌, ◌%◌, false, refl, arith}
 use Rattle.std.proofs.Math.Nat.{mod-le}
 use Rattle.profile.specs.Places.{is_turn}

@@ -1,4 +1,4 @@
--- That the first period that hasn't begun has the next start.
+-- The first period that hasn't begun has the next start.
 use Rattle.std.proofs.Common.{◌<◌, nat_le, length, None, rules, arith}
 use Rattle.std.proofs.lemmas.List.Sorted.{IsPartitionPoint-from_clause}
 use Rattle.profile.specs.declared.period.Period.{Period}

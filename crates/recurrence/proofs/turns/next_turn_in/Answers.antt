@@ -1,4 +1,4 @@
--- That no later offset is 0, and the sooner of a start and the end is next.
+-- No later offset is 0, and the sooner of a start and the end is next.
 use Rattle.std.proofs.Common.{◌≡◌, ℕ, ◌<◌, ◌==◌, false, List, Option, sym, subst, arith}
 use Rattle.std.proofs.lemmas.Bool.Decides.{nat_tests}
 use Rattle.profile.specs.declared.period.Period.{Period}

@@ -1,4 +1,4 @@
--- That any reply to a stop ends its transaction.
+-- Any reply to a stop ends its transaction.
 use Rattle.std.proofs.Common.{ℤ, ◌∙◌, ap, rules}
 use Rattle.std.proofs.lemmas.Int.{to_z-of_z}
 use mir.Syntax.{w32}

@@ -1,4 +1,4 @@
--- What was missing: the pieces make one object.
+-- The pieces make one object.
 use Rattle.std.proofs.Common.{codes}
 use Rattle.messages.specs.ObjectText.{fields_text, object_text}
 use Rattle.sim_point_core.specs.CallText.{start_text}

@@ -1,4 +1,4 @@
--- What was missing: the pieces make one object.
+-- The pieces make one object.
 use Rattle.std.proofs.Common.{codes}
 use Rattle.std.proofs.lemmas.Int.{to_z-of_z}
 use mir.Syntax.{w32}

@@ -1,4 +1,4 @@
--- The laws, by what follows along every history.
+-- The laws, by the lemmas along every history.
 use Rattle.site_core.proofs.CallOrderLemmas.{points_follow, rows_go_on, begin_at_zero, stay_consecutive, go_on_in_order, sent_as_kept, stay_unless_confirmed}
 use Rattle.site_core.proofs.call_laws.histories_go_on_from_any_state.Goals as goal
 

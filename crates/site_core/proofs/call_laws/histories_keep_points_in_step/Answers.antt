@@ -1,4 +1,4 @@
--- The laws, by what follows along every history.
+-- The laws, by the lemmas along every history.
 use Rattle.site_core.proofs.CallOrderLemmas.{rows_follow, stay_in_step, obey_in_order, obeying_stay_in_step, moments}
 use Rattle.site_core.proofs.call_laws.histories_keep_points_in_step.Goals as goal
 

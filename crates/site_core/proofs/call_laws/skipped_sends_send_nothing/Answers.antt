@@ -1,4 +1,4 @@
--- The law, by what is at the point's place.
+-- The law, by the outbox at the point's place.
 use Rattle.site_core.proofs.SendLemmas.{link_to_send_present, sends_nothing}
 use Rattle.site_core.proofs.call_laws.skipped_sends_send_nothing.Goals as goal
 

@@ -1,4 +1,4 @@
--- By what always holds of a history and the state that it leads to.
+-- By the invariant of a history and the state that it leads to.
 use Rattle.std.proofs.Common.{refl}
 use Rattle.site_core.specs.State.{opening_at}
 use Rattle.site_core.proofs.TakenRequests.{run_right}

@@ -1,4 +1,4 @@
--- By what each step does.
+-- By the effect of each step.
 use Rattle.site_core.proofs.StepLemmas.{does, no_event_no_change}
 use Rattle.site_core.proofs.headline.only_events_change_the_state.Goals as goal
 

@@ -1,4 +1,4 @@
--- By what each event makes of the points.
+-- By the effect of each event on the points.
 use Rattle.std.proofs.Common.{refl}
 use Rattle.site_core.proofs.PointsOfHistories.{same_points}
 use Rattle.site_core.proofs.headline.points_follow_events.Goals as goal

@@ -1,4 +1,4 @@
--- One request more is stopped.
+-- One more request is stopped.
 use Rattle.std.proofs.Common.{◌<◌, length, arith}
 use Rattle.std.proofs.lemmas.List.Edits.{map_over_more}
 use Rattle.site_core.specs.Requests.{stopped_request}

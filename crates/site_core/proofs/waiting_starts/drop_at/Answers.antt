@@ -1,4 +1,4 @@
--- That a closure which only tests leaves a filter.
+-- `retain` with a closure that only tests is a filter.
 use Rattle.std.proofs.Common.{not, rules}
 use Rattle.std.proofs.lemmas.Fn.{filter_same}
 use Rattle.site_core.specs.declared.waiting_starts.WaitingStart.{WaitingStart}

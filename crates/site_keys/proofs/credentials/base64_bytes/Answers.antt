@@ -1,4 +1,4 @@
--- The engine is strict: it decodes what it encodes, and nothing else.
+-- The engine is strict: it decodes only texts that it would encode.
 use Rattle.std.proofs.Common.{refl}
 use Rattle.site_keys.proofs.CredentialsLemmas.{decoded_reads, undecoded}
 use Rattle.site_keys.proofs.credentials.base64_bytes.Goals as goal

@@ -1,4 +1,4 @@
--- What stands behind the scheme is the base64.
+-- The token after the scheme is the base64.
 use Rattle.std.proofs.Common.{sym}
 use Rattle.std.proofs.lemmas.Result.{IfOk-weaker}
 use Rattle.site_keys.proofs.CredentialsLemmas.{token_reads, no_token}

@@ -1,4 +1,4 @@
--- By the bytes that were sent.
+-- The cases of the sent bytes.
 use Rattle.std.proofs.Common.{◌≡◌, List, ℕ, Some, None, Option, Vec, Global, String, string_bytes, refl, sym, ap, ◌∙◌}
 use Rattle.std.specs.Option.{option_map}
 use Rattle.std.proofs.lemmas.Result.{IfOk-weaker}

@@ -1,4 +1,4 @@
--- The digits of a key stand for it, and any other password for itself.
+-- The hex digits of a key encode it; any other password has its own bytes.
 use Rattle.std.proofs.Common.{List, ℕ, ◌++◌, ap, ◌∙◌}
 use Rattle.sha2.specs.Sha256.{sha256}
 use Rattle.site_keys.specs.Key.{key_bytes}

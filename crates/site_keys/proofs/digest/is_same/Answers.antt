@@ -1,4 +1,4 @@
--- Each step adds what differs at one place.
+-- Each step adds the bits that differ at one index.
 use Rattle.std.proofs.Common.{◌≡◌, ◌<◌, length, arith, eq-eqb}
 use Rattle.std.proofs.lemmas.Bool.{eqb-true}
 use Rattle.site_keys.proofs.DigestLemmas.{same_further, none_further, same_whole}

@@ -1,4 +1,4 @@
--- No bit was gathered exactly if the bytes so far are the same.
+-- No bit is set exactly if the bytes so far are the same.
 use Rattle.std.proofs.Common.{◌≡◌, take}
 use Rattle.site_keys.proofs.digest.is_same.Given as goal
 

@@ -1,4 +1,4 @@
--- One of the keys so far is right; if none of them is the user's, none is.
+-- Whether one of the keys so far is right; if none of them is the user's, none is right.
 use Rattle.std.proofs.Common.{◌≡◌, false, take}
 use Rattle.site_keys.specs.ByCases.Key.{has_right_key}
 use Rattle.site_keys.proofs.key.has_right_key.Given as goal

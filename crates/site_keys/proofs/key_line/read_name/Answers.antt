@@ -1,4 +1,4 @@
--- What is no text is no name.
+-- Bytes that aren't a text aren't a name.
 use Rattle.std.proofs.Common.{refl, sym}
 use Rattle.site_keys.proofs.NameLemmas.{name_is_text}
 use Rattle.site_keys.proofs.key_line.read_name.Goals as goal

@@ -1,4 +1,4 @@
--- The keys so far and those of the rest are those of the file.
+-- The keys so far and those of the rest are the keys of the file.
 use Rattle.std.proofs.Common.{◌≡◌, ◌+◌, ◌≤◌, length}
 use Rattle.std.specs.List.{slice_split}
 use Rattle.site_keys.specs.Bytes.{line_feed, is_byte}

@@ -1,4 +1,4 @@
--- A file that is short enough is read as a text, or is none.
+-- A file that is short enough is read as a text, or isn't a text.
 use Rattle.std.proofs.Common.{◌≤◌, length, arith, ◌∙◌, ap, subst, sym, Result}
 use Rattle.ocppj_frame.specs.Read.{tree_of_text}
 use Rattle.site_rules.specs.declared.fault.SiteFault.{SiteFault}

@@ -1,4 +1,4 @@
--- The law stands in `AdmissionCauses`.
+-- `AdmissionCauses` proves the law.
 use Rattle.site_rules.proofs.AdmissionCauses.{admissions}
 use Rattle.site_rules.proofs.site_laws.admissions.Goals as goal
 

@@ -1,4 +1,4 @@
--- The law stands in `SiteFiles` and `SiteFaults`.
+-- `SiteFiles` and `SiteFaults` prove the law.
 use Rattle.site_rules.proofs.SiteFiles.{site-files}
 use Rattle.site_rules.proofs.SiteFaults.{site-faults}
 use Rattle.site_rules.proofs.site_laws.site_files.Goals as goal

@@ -1,4 +1,4 @@
--- What waits in an outbox are the bodies of its calls.
+-- The waiting bodies of an outbox are those of its calls.
 use Rattle.std.proofs.Common.{List, sym, ap, ◌∙◌}
 use Rattle.meaning.specs.View.{PointState}
 use Rattle.messages.specs.declared.call.CallBody.{CallBody}

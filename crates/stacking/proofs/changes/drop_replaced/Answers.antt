@@ -1,4 +1,4 @@
--- That a closure which only tests leaves a filter.
+-- A `retain` whose closure only tests leaves what `filter` does.
 use Rattle.std.proofs.Common.{not, rules}
 use Rattle.std.proofs.lemmas.Fn.{filter_same}
 use Rattle.profile.specs.declared.row.Row.{Row}

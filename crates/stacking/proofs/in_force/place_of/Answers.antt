@@ -1,4 +1,4 @@
--- That the levels below stand before the place.
+-- The levels below are before the place.
 use Rattle.std.proofs.Common.{rules, ◌≡◌, ℕ, nat_lt, true, arith}
 use Rattle.std.proofs.lemmas.List.Sorted.{IsPartitionPoint-from_clause}
 use Rattle.stacking.proofs.LevelLemmas.{is_place, partitioned, place_of_one}

@@ -1,4 +1,4 @@
--- That the level alone has the rate, and that levels go on rising.
+-- Only the rate of this level changes, and the levels stay in rising order.
 use Rattle.std.proofs.Common.{rules, ◌≡◌, true, false}
 use Rattle.stacking.specs.ByCases.InForce.{IsPlaceOf, stands_there}
 use Rattle.stacking.proofs.LevelLemmas.{put_between, put_between_rises, put_over, put_over_rises}

@@ -1,4 +1,4 @@
--- That the level alone has lost its rate, and that levels go on rising.
+-- Only this level loses its rate, and the levels stay in rising order.
 use Rattle.std.proofs.Common.{rules, ◌≡◌, true, false}
 use Rattle.stacking.specs.ByCases.InForce.{IsPlaceOf, stands_there}
 use Rattle.stacking.proofs.LevelLemmas.{not_there, taken_out, taken_out_rises}

@@ -1,4 +1,4 @@
--- That one row more leaves the places of the first rows so far added.
+-- With one more row, the indexes of the first rows so far are added.
 use Rattle.std.proofs.Common.{◌∙◌, ℕ, List, Option, ap, sym, option_and_then, slice_get, slice_index}
 use Rattle.std.specs.Option.{option_or}
 use Rattle.profile.specs.declared.row.Row.{Row}

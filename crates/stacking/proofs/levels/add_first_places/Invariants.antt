@@ -1,4 +1,4 @@
--- The places of the first rows so far are added.
+-- The indexes of the first rows so far are added.
 use Rattle.std.proofs.Common.{take}
 use Rattle.stacking.specs.ByCases.Candidates.{AreFirstAdded}
 use Rattle.stacking.proofs.levels.add_first_places.Given as goal

@@ -1,4 +1,4 @@
--- That the first rows at one connector or two are the candidates.
+-- The first rows at one or two connectors are the candidates.
 use Rattle.std.proofs.Common.{◌≡◌, ◌∙◌, Option, ap, slice_get, slice_index}
 use Rattle.std.specs.Option.{option_or}
 use Rattle.profile.specs.declared.row.Row.{Row}

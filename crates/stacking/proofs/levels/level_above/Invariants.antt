@@ -1,4 +1,4 @@
--- The rows so far have levels below this.
+-- The rows so far have levels below this one.
 use Rattle.std.proofs.Common.{◌<◌, ◌≤◌, take}
 use Rattle.std.specs.List.{All}
 use Rattle.stacking.proofs.levels.level_above.Given as goal

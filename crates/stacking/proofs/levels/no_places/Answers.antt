@@ -1,4 +1,4 @@
--- What is at each level of a list of equal numbers.
+-- The value at each level of a list of equal numbers.
 use Rattle.std.proofs.lemmas.List.{get_or-replicate}
 use Rattle.stacking.proofs.levels.no_places.Goals as goal
 

@@ -1,4 +1,4 @@
--- That the schedules agree one interval further on, or contradict each other there.
+-- The schedules agree up to the next interval, or contradict each other there.
 use Rattle.std.proofs.Common.{◌≡◌, ◌≤◌, length, true, false, refl, inl, inr, arith, rules}
 use Rattle.std.proofs.lemmas.Bool.{false≢true}
 use Rattle.sweep_compiler.specs.ByCases.Agree.{contradict}

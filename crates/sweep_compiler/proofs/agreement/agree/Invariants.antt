@@ -1,4 +1,4 @@
--- The schedules agree before the two places, which lie within the lists or at their ends.
+-- The schedules agree before the two periods, which are in the lists or at their ends.
 use Rattle.std.proofs.Common.{◌+◌, ◌-◌, ◌≤◌, length}
 use Rattle.sweep_compiler.specs.ByCases.Agree.{AgreeBefore}
 use Rattle.sweep_compiler.proofs.agreement.agree.Given as goal

@@ -1,4 +1,4 @@
--- That one row more has its limit in force.
+-- One more row has its limit in force.
 use Rattle.std.proofs.Common.{rules, ◌≡◌, ℕ, ◌+◌, ◌-◌, ◌<◌, length, drop, Option, sym, subst, arith}
 use Rattle.stacking.specs.InForce.{IsSet}
 use Rattle.sweep_compiler.specs.ByCases.Running.{AreInForce, rate_running}

@@ -1,4 +1,4 @@
--- The rows from the place on have their limits in force.
+-- The rows from `place` on have their limits in force.
 use Rattle.std.proofs.Common.{◌≤◌, length, drop}
 use Rattle.sweep_compiler.specs.ByCases.Running.{AreInForce}
 use Rattle.sweep_compiler.proofs.bounded.rates_of.Given as goal

@@ -1,4 +1,4 @@
--- That the intervals up to the next place, or to the end, are what the loop keeps.
+-- The intervals up to the next place, or to the end, meet the invariant of the loop.
 use Rattle.std.proofs.Common.{◌≡◌, ◌≢◌, ℕ, ◌+◌, ◌-◌, ◌<◌, ◌≤◌, ◌∙◌, true, false, [], ◌∷◌, ◌++◌, length, Option, Some, None, refl, ap, sym, subst, arith}
 use Rattle.std.specs.Option.{IfSome}
 use Rattle.std.proofs.lemmas.List.{length-append}
@@ -25,7 +25,7 @@ one_ask old now after first second = record {
   last = second.last ∙ first.last;
 }
 
--- the second at which a sweep stands lies within the request
+-- the second of the sweep is within the request
 second_within : (old now : LimitCurve) (duration : ℕ) → IsOfOneAsk old now → IsReadyCurve now → now.at ≤ now.last → old.last + 1 - old.asked ≡ duration
     → now.at - old.asked < duration
 second_within old now duration same ready inside whole =
@@ -34,7 +34,7 @@ second_within old now duration same ready inside whole =
     let from = ready.swept.from in
     omega (arith, last, asked, from, inside, whole)
 
--- and where it lies within the request, the sweep does
+-- if the second is within the request, so is the instant of the sweep
 stands_within : (old now : LimitCurve) (second duration : ℕ) → IsOfOneAsk old now → IsReadyCurve now → now.at - now.asked ≡ second → second < duration → old.last + 1 - old.asked ≡ duration
     → now.at ≤ now.last
 stands_within old now second duration same ready here within whole =
@@ -49,7 +49,7 @@ LeadsTo now next = LeadsOn
     (is_second_asked (point_state now.view) now.connector now.asked)
     (now.last + 1 - now.asked) (now.at - now.asked) next
 
--- where the sweep leads to, as it was asked
+-- the next place of the sweep, for the request
 leads_as : (old now : LimitCurve) (duration : ℕ) (next : Option ℕ) → IsOfOneAsk old now → old.last + 1 - old.asked ≡ duration → LeadsTo now next
     → LeadsOn (reason_asked (point_state old.view) old.connector old.asked) (is_second_asked (point_state old.view) old.connector old.asked) duration (now.at - old.asked) next
 leads_as old now duration next same whole leads =
@@ -61,7 +61,7 @@ leads_as old now duration next same whole leads =
     (subst (λ (connector : ℕ). of old.view connector now.asked (now.last + 1 - now.asked)) same.connector
     (subst (λ (view : View). of view now.connector now.asked (now.last + 1 - now.asked)) same.view leads))))
 
--- the reason that is found where the sweep stands, as it was asked
+-- the reason at the instant of the sweep, for the request
 found_as : (old now : LimitCurve) (second : ℕ) (found : Reason) → IsOfOneAsk old now → IsReadyCurve now → now.at - now.asked ≡ second
     → found ≡ reason (point_state now.view) now.connector now.asked now.at → found ≡ reason_asked (point_state old.view) old.connector old.asked second
 found_as old now second found same ready here is =

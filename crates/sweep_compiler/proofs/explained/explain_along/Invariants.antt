@@ -1,5 +1,6 @@
--- The intervals adjoin up to the one that is open, whose reason holds from its start up to the second at which the
--- sweep stands, and the turns so far are no more than the first second and the places up to here.
+-- The intervals adjoin up to the open one, whose reason holds from its start up to the second of
+-- the sweep. The turns so far are at most one for the first second and one for each place up to
+-- here.
 use Rattle.std.proofs.Common.{◌≡◌, ℕ, ◌+◌, ◌-◌, ◌≤◌, [], ◌∷◌, ◌++◌, length}
 use Rattle.std.specs.List.{AllByRecursion}
 use Rattle.meaning.specs.View.{point_state}

@@ -1,4 +1,4 @@
--- That the row waits where it has a place left.
+-- The row waits if it has another place.
 use Rattle.std.proofs.Common.{◌≡◌, ◌∙◌, ap, sym}
 use Rattle.sweep_compiler.specs.ByCases.Running.{RunningBound, due_at}
 use Rattle.sweep_compiler.specs.ByCases.Swept.{due_in}

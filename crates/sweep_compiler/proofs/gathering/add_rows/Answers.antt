@@ -1,4 +1,4 @@
--- That all rows of the bound wait.
+-- All rows of the bound wait.
 use Rattle.std.proofs.Common.{◌∙◌, length, ap, sym, arith}
 use Rattle.sweep_compiler.specs.ByCases.Running.{RunningBound}
 use Rattle.sweep_compiler.proofs.PassedRows.{rows_of}

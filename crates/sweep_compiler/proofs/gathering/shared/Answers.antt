@@ -1,4 +1,4 @@
--- That one bound more is in the sum, which fits.
+-- The sum with one more bound fits.
 use Rattle.std.proofs.Common.{◌≡◌, ◌+◌, ◌∙◌, take, ap, arith}
 use Rattle.sweep_compiler.specs.ByCases.Running.{RunningBound, bound_now}
 use Rattle.sweep_compiler.specs.ByCases.Swept.{shared_now}

@@ -1,4 +1,4 @@
--- That the verdict on the schedule is that on what was said.
+-- The verdict on the schedule is that on the report.
 use Rattle.std.proofs.Common.{◌≡◌, rules}
 use Rattle.sweep_compiler.specs.Verdict.{said_schedule}
 use Rattle.sweep_compiler.proofs.Judging.{lasts, verdict_said}

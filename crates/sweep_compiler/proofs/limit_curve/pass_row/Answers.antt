@@ -1,4 +1,4 @@
--- That the row alone has changed, and the sum with it.
+-- Only this row has changed, and the sum with it.
 use Rattle.std.proofs.Common.{rules, ◌≡◌, ◌<◌, ◌∙◌, ap, sym, subst, List, length, arith}
 use Rattle.std.specs.List.{slice_set}
 use Rattle.sweep_compiler.specs.ByCases.Running.{RunningBound, bound_now, due_at}

@@ -1,4 +1,4 @@
--- That one bound more has its share.
+-- One more bound has its share.
 use Rattle.std.proofs.Common.{◌∙◌, ap, arith}
 use Rattle.sweep_compiler.specs.ByCases.Running.{share_now}
 use Rattle.sweep_compiler.proofs.Starting.{share_pushed}

@@ -1,4 +1,4 @@
--- That the periods and the turns up to the next place, or to the end, are what the loop keeps.
+-- The periods and turns up to the next place, or to the end, meet the invariant of the loop.
 use Rattle.std.proofs.Common.{◌≡◌, ℕ, ◌<◌, ◌∙◌, ap, subst, Option, Some, None, length, arith}
 use Rattle.std.specs.Option.{IfSome}
 use Rattle.std.proofs.lemmas.Result.{err_from_is_err_and}

@@ -1,5 +1,5 @@
--- The periods before a second are the exact ones, and the turns so far are no more than the first second and
--- the places before this one.
+-- The periods before a second are the exact ones. The turns so far are at most one for the first
+-- second and one for each place before this one.
 use Rattle.std.proofs.Common.{◌≡◌, ◌+◌, ◌-◌, ◌<◌, ◌≤◌, true, length}
 use Rattle.meaning.specs.Limits.{max_composite_periods}
 use Rattle.meaning.specs.ByCases.Exact.{exact_periods}

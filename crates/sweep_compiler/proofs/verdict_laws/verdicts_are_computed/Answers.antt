@@ -1,4 +1,4 @@
--- The law stands in `VerdictCases`.
+-- The law is proved in `VerdictCases`.
 use Rattle.sweep_compiler.proofs.VerdictCases.{verdict_law}
 use Rattle.sweep_compiler.proofs.verdict_laws.verdicts_are_computed.Goals as goal
 

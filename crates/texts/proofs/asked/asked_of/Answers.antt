@@ -1,4 +1,4 @@
--- What a message asks for is a step of a CALL, or an answer without a schedule.
+-- A message requests a step of a CALL, or an answer without a schedule.
 use Rattle.std.proofs.Common.{Ok}
 use Rattle.ocppj_frame.specs.Frame.{message_in}
 use Rattle.texts.specs.Theory.Asked.{if_asked}

@@ -1,5 +1,5 @@
--- A decimal text of a number is parsed, and what is parsed begins above 0 and is at most the
--- highest.
+-- The decimal text of a number is parsed. A parsed word of this form begins above 0 and is at most
+-- the highest number.
 use Rattle.std.proofs.Common.{◌≡◌, sym, ◌∙◌, arith}
 use Rattle.std.proofs.lemmas.Fmt.{parse-decimal}
 use Rattle.texts.specs.Theory.Number.{number_law, no_number, above_zero, parsed}

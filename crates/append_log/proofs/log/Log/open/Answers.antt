@@ -1,4 +1,4 @@
--- The cut, and what a crash leaves meanwhile.
+-- The cut, and the bytes that a crash leaves meanwhile.
 use Rattle.std.proofs.Common.{◌∙◌, ap}
 use Rattle.append_log.specs.History.{History}
 use Rattle.append_log.proofs.Cuts.{cuts, cut_fails, within_file, cut_contents}

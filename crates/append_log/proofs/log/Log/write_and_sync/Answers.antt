@@ -1,4 +1,4 @@
--- Where nothing is pending.
+-- The case without pending bytes.
 use Rattle.append_log.proofs.Writes.{nothing_tried}
 use Rattle.append_log.proofs.log.Log.write_and_sync.Goals as goal
 

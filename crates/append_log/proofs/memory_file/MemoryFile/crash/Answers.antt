@@ -1,4 +1,4 @@
--- What stands behind what is on the disk.
+-- The bytes behind those on disk.
 use Rattle.std.proofs.Common.{◌+◌, ◌++◌, take, drop, sym, ◌∙◌, ap, take-append-drop}
 use Rattle.std.proofs.Math.Seq.{take-add}
 use Rattle.append_log.proofs.memory_file.MemoryFile.crash.Goals as goal

@@ -1,4 +1,4 @@
--- A record owns nothing, so two threads may look at it.
+-- A record owns nothing, so two threads may share it.
 use denote.Param.Send.{IsSync, whole-keyless}
 use Rattle.append_log.specs.contracts.record.Record.{the_row}
 

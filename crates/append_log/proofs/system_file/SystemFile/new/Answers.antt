@@ -1,4 +1,4 @@
--- What is known of a file that was opened.
+-- The facts about a file that was opened.
 use Rattle.std.proofs.Common.{length, ◌∙◌, sym, ap}
 use Rattle.append_log.specs.Contents.{file_of}
 use Rattle.append_log.specs.History.{History}

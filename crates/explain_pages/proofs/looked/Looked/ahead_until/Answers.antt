@@ -1,4 +1,4 @@
--- None of the periods begins up to the last of these seconds.
+-- No period begins up to the last of these seconds.
 use Rattle.std.proofs.Common.{◌≡◌, ℕ, ◌+◌, ◌-◌, ◌<◌, ◌≤◌, Some, None, sym, subst, ◌∙◌, arith}
 use Rattle.std.proofs.lemmas.Bool.Decides.{nat_tests}
 use Rattle.profile.specs.ChargingProfile.{offset}

@@ -1,4 +1,4 @@
--- Where there is a reason why the row doesn't prevail, it doesn't.
+-- If there is a reason why the row doesn't prevail, it doesn't.
 use Rattle.std.proofs.Common.{◌≡◌, ℕ, Option, Some, None, sym, ap, ◌∙◌, inr, arith}
 use Rattle.meaning.specs.declared.cause.WhyNot.{WhyNot}
 use Rattle.meaning.specs.View.{point_state}

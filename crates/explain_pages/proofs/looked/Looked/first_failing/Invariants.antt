@@ -1,4 +1,4 @@
--- What the reason says is so at each second up to where the loop stands.
+-- The reason holds at each second before the one that the loop has reached.
 use Rattle.std.proofs.Common.{◌≡◌, ℕ, ◌+◌, ◌-◌, ◌<◌, ◌≤◌}
 use Rattle.explain_pages.specs.ByCases.Throughout.{Says}
 use Rattle.explain_pages.proofs.looked.Looked.first_failing.Given as goal

@@ -1,4 +1,4 @@
--- A row that counts goes on to have its limit up to the next place of its profile.
+-- A row that counts keeps a limit until the instant that the loop returns.
 use Rattle.std.proofs.Common.{◌≡◌, ℕ, ◌≤◌, true, Option, is_some, sym, ap, subst, ◌∙◌, arith}
 use Rattle.std.proofs.lemmas.Bool.Decides.{nat_tests}
 use Rattle.profile.specs.ChargingProfile.{rate}

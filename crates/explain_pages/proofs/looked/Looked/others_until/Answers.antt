@@ -1,4 +1,4 @@
--- Where a profile of a higher level has a limit, the row doesn't prevail.
+-- If a profile of a higher level has a limit, the row doesn't prevail.
 use Rattle.std.proofs.Common.{◌≡◌, ℕ, true, Option, subst, inr}
 use Rattle.std.specs.Option.{IfSome}
 use Rattle.meaning.specs.declared.cause.WhyNot.TheVariants.{BelowHigherLevel}

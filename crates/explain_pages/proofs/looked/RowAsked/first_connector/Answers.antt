@@ -1,4 +1,4 @@
--- Which of the connectors are looked at.
+-- The connectors for which the row is checked.
 use Rattle.std.proofs.Common.{◌≡◌, false, ⊎_elim, sym, ◌∙◌, arith}
 use Rattle.std.proofs.lemmas.Bool.{cases_lt}
 use Rattle.meaning.specs.View.{point_state}

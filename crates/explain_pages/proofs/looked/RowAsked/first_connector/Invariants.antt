@@ -1,4 +1,4 @@
--- None of the connectors so far is looked at.
+-- The row is checked for none of the connectors so far.
 use Rattle.std.proofs.Common.{ℕ, ◌≤◌}
 use Rattle.explain_pages.specs.ByCases.Throughout.{IsLookedAt}
 use Rattle.explain_pages.proofs.looked.RowAsked.first_connector.Given as goal

@@ -1,4 +1,4 @@
--- What is so for each connector is so for all that are looked at.
+-- A reason that holds for each connector of the loop holds for all for which the row is checked.
 use Rattle.std.proofs.Common.{◌≡◌, ℕ, ◌+◌, true, false, ⊎_elim, sym, subst, ◌∙◌, arith}
 use Rattle.std.proofs.lemmas.Bool.{cases_lt}
 use Rattle.meaning.specs.View.{point_state}

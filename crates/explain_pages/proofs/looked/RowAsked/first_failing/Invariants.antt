@@ -1,4 +1,4 @@
--- What the reason says is so for each of the connectors so far.
+-- The reason holds for each of the connectors so far.
 use Rattle.std.proofs.Common.{ℕ, ◌+◌, ◌<◌, ◌≤◌}
 use Rattle.explain_pages.specs.ByCases.Throughout.{IsLookedAt, SaysOf}
 use Rattle.explain_pages.proofs.looked.RowAsked.first_failing.Given as goal

@@ -1,4 +1,4 @@
--- A `&` to a front holds what it knows, which can be had twice. Assumes `Logic`.
+-- A `&` to a front holds its known entries, a duplicable resource. Assumes `Logic`.
 use mathlib.Core.List.{[], ◌∷◌}
 use base.Logic.{snd∗}
 use base.Before.{before}

@@ -1,4 +1,4 @@
--- What it owns names no thread.
+-- The resources that a front owns name no thread.
 use denote.RattleType.{RattleType}
 use denote.Param.Send.{IsSend}
 use Rattle.ghost_list.specs.declared.name.ListName.{Ghosts}

@@ -1,4 +1,4 @@
--- Two beginnings of one list.
+-- Two fronts are prefixes of one list.
 use Rattle.std.proofs.Common.{List, [], ◌∷◌, refl}
 use mir.Syntax.{a_type, dcons, dnil, named}
 use mir.Val.{Val, vunit, vptr}
@@ -45,7 +45,7 @@ compare_spec 𝓤 𝓛 𝓜 𝓡 wired E J _ _ g d _ =
     move ! (1 ∷ []) $ fsplit ! $ fsplit ! $ move ! (2 ∷ []) $ fsplit ! $ fsplit ! $ keep ! (1 ∷ 4 ∷ 5 ∷ []) $
     use1 𝓛 (‵ (known code_of g.name other.entries)) (front_lent 𝓛 E' J' g κs.1.0 other a.1.0.ref_ptr.0 a.1.0.ref_ptr.1) $ move ! (1 ∷ []) $
     use1 𝓛 (‵ (known code_of g.name me.entries)) (front_lent 𝓛 E' J' g κs.0 me a.0.ref_ptr.0 a.0.ref_ptr.1) $
-    -- [what one knows; what the other knows; the tokens]
+    -- [the entries of one front; those of the other; the tokens]
     enter ! 𝓣.C 𝓣.Λ fn (at ∷ at' ∷ []) Post $ alloc_all ! (λ l. pass_all ! refl ((tt, tt), ((tt, tt), tt)) $
     use2 𝓛 (given (steps.Line 𝓛 E'.coded g.name me.entries other.entries) (‵ ftrue)) (steps.in_line 𝓛 E'.coded g.name me.entries other.entries) $ learn ! (λ so. drop ! $
     sets ! (of_opd ! (unit_lit !)) refl (tt, tt) $ feq_i ! (List Val) (vunit ∷ []) (vunit ∷ []) refl $ nothing ! $ nothing ! $ fjoin ! $ nothing ! $ fjoin ! $

@@ -1,4 +1,4 @@
--- `copy` copies what is known.
+-- `copy` duplicates the known entries.
 use Rattle.std.proofs.Common.{[], ◌∷◌, refl}
 use mir.Syntax.{a_type, dcons, dnil, named}
 use mir.Val.{Val, vptr}
@@ -44,7 +44,7 @@ copy_spec 𝓤 𝓛 𝓜 𝓡 wired E J _ _ g d _ =
     let y : (walk_of 𝓛 En hs c).Ghost = ((κs, qs, bounds, a, (at ∷ [], tt)), gh) in let Post : Val → SProp 𝓤 = (walk_of 𝓛 En hs c).post y in
     qed 𝓛 ((raw (alive 𝓛 En.signature κs qs) ⊛ ‵ (owns (types_at En.signature.params κs) a y.0.4)) ∷ raw ((c κs a).requires gh) ∷ []) ∵ keep ! (0 ∷ []) $ split ! $
     move ! (1 ∷ []) $ fsplit ! $ fsplit ! $ keep ! (1 ∷ 3 ∷ []) $ use1 𝓛 (‵ (known code_of g.name me.entries)) (front_lent 𝓛 E' J' g κs.0 me a.0.ref_ptr.0 a.0.ref_ptr.1) $
-    -- [what is known; the tokens]
+    -- [the known entries; the tokens]
     enter ! 𝓣.C 𝓣.Λ fn (at ∷ []) Post $ alloc_all ! (λ l. pass_all ! refl ((tt, tt), tt) $
     sets ! (agg ! (no_more !)) refl (tt, tt) $ sets ! (agg ! (and_then ! (get ! refl) (no_more !))) refl (tt, (tt, tt)) $
     use0 𝓛 (‵ ((Token (Tuple (E' ∷ J' ∷ []))).own_val (record {}, tt) (token ∷ []))) (token_made (Tuple (E' ∷ J' ∷ [])) 𝓛) $ fjoin ! $ nothing ! $ nothing ! $ fjoin ! $

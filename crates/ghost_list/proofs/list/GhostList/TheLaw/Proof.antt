@@ -1,4 +1,4 @@
--- A `&` to a ghost list holds a share of the right to add, with which nothing can be added. Assumes `Logic`.
+-- A `&` to a ghost list holds a share of the right to add; a share alone adds nothing. Assumes `Logic`.
 use mathlib.Core.List.{[], ◌∷◌}
 use denote.RattleType.{RattleType}
 use denote.Param.Laws.{Laws}

@@ -1,4 +1,4 @@
--- What it owns names no thread.
+-- The resources that a ghost list owns name no thread.
 use base.Fraction.{full_share}
 use denote.RattleType.{RattleType}
 use denote.Param.Send.{IsSend}

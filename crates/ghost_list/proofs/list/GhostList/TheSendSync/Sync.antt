@@ -1,4 +1,4 @@
--- What a `&` to it holds names no thread.
+-- The resources that a `&` to a ghost list holds name no thread.
 use denote.RattleType.{RattleType}
 use denote.Param.Send.{IsSync, sendable}
 use denote.Struct.Struct.{Struct}

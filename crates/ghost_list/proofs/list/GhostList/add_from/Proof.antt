@@ -1,4 +1,4 @@
--- With the whole right the entries grow.
+-- The full right to add lets the entries grow.
 use Rattle.std.proofs.Common.{List, [], ◌∷◌, ◌++◌, refl}
 use mir.Syntax.{a_type, dcons, dnil, named}
 use mir.Val.{Val, vunit, vptr}

@@ -1,4 +1,4 @@
--- A share of the right to add bounds what was once known.
+-- A share of the right to add shows that each front is a prefix of the entries.
 use Rattle.std.proofs.Common.{List, [], ◌∷◌, refl}
 use mathlib.Core.List.{IsPrefix}
 use mir.Syntax.{a_type, dcons, dnil, named}
@@ -49,11 +49,11 @@ compare_spec 𝓤 𝓛 𝓜 𝓡 wired E J _ _ g d _ =
     fsplit ! $ move ! (2 ∷ []) $ fsplit ! $ fsplit ! $ move ! (2 ∷ []) $ fsplit ! $ fsplit ! $ keep ! (1 ∷ 4 ∷ 5 ∷ 6 ∷ []) $
     use1 𝓛 (‵ (known code_of g.name other.entries)) (front_lent 𝓛 E' J' g κs.1.0 other a.1.0.ref_ptr.0 a.1.0.ref_ptr.1) $ move ! (1 ∷ 2 ∷ []) $
     use1 𝓛 (‵ (fshr_bor κs.0 (held code_of g.name me.entries))) (ghost_list_lent 𝓛 E' J' g κs.0 me a.0.ref_ptr.0 a.0.ref_ptr.1) $
-    -- [the share's borrow; its token; what was known; the other tokens]
+    -- [the share's borrow; its token; the entries of the front; the other tokens]
     enter ! 𝓣.C 𝓣.Λ fn (at ∷ at' ∷ []) Post $ alloc_all ! (λ l. pass_all ! refl ((tt, tt), ((tt, tt), tt)) $
     shr_bor-open ! tt (steps.held_halves 𝓛 E'.coded g.name me.entries) (λ q. move ! (1 ∷ 2 ∷ []) $
     use2 𝓛 (given (IsPrefix other.entries me.entries) (‵ (held code_of g.name me.entries q) ⊛ ‵ (known code_of g.name other.entries))) (steps.bounds 𝓛 E'.coded g.name me.entries other.entries q) $
     learn ! (λ begins. split ! $ move ! (2 ∷ 0 ∷ []) $ obor_close ! tt $ drop ! $ move ! (0 ∷ 2 ∷ []) $ fjoin ! $
-    -- [the tokens; what was known]
+    -- [the tokens; the entries of the front]
     sets ! (of_opd ! (unit_lit !)) refl (tt, tt) $ feq_i ! (List Val) (vunit ∷ []) (vunit ∷ []) refl $ nothing ! $ nothing ! $ fjoin ! $ nothing ! $ fjoin ! $
     returns ! (look_at ! 0 refl) $ free_all ! refl $ keep ! (2 ∷ 0 ∷ 1 ∷ []) $ by ! (ends 𝓛 En hs c y vunit tt (tt, (tt, tt)) (tt, (tt, tt)) (fact_i 𝓤 _ _ begins))))))

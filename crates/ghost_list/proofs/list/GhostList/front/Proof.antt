@@ -1,4 +1,4 @@
--- A share of the right to add shows what the entries are.
+-- A share of the right to add determines the entries.
 use Rattle.std.proofs.Common.{[], ◌∷◌, refl}
 use mir.Syntax.{a_type, dcons, dnil, named}
 use mir.Val.{Val, vptr}
@@ -52,7 +52,7 @@ front_spec 𝓤 𝓛 𝓜 𝓡 wired E J _ _ g d _ =
     shr_bor-open ! tt (steps.held_halves 𝓛 E'.coded g.name me.entries) (λ q. move ! (1 ∷ []) $
     use1 𝓛 (‵ (held code_of g.name me.entries q) ⊛ ‵ (known code_of g.name me.entries)) (steps.shows 𝓛 E'.coded g.name me.entries q) $
     split ! $ move ! (2 ∷ 0 ∷ []) $ obor_close ! tt $ drop ! $ move ! (0 ∷ 2 ∷ []) $ fjoin ! $ move ! (1 ∷ []) $
-    -- [what is known; the tokens]
+    -- [the known entries; the tokens]
     sets ! (agg ! (no_more !)) refl (tt, tt) $ sets ! (agg ! (and_then ! (get ! refl) (no_more !))) refl (tt, (tt, tt)) $
     use0 𝓛 (‵ ((Token (Tuple (E' ∷ J' ∷ []))).own_val (record {}, tt) (token ∷ []))) (token_made (Tuple (E' ∷ J' ∷ [])) 𝓛) $ fjoin ! $ nothing ! $ nothing ! $ fjoin ! $
     returns ! (look_at ! 0 refl) $ free_all ! refl $ keep ! (2 ∷ 0 ∷ 1 ∷ []) $ by ! (ends 𝓛 En hs c y token (record { marker = record {}; entries = me.entries }) (tt, tt) (tt, tt) (fact_i 𝓤 _ _ refl)))))

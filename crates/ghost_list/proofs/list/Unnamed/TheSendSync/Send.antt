@@ -1,4 +1,4 @@
--- What it owns names no thread.
+-- The resources that an unnamed ghost list owns name no thread.
 use denote.Param.Send.{IsSend}
 use Rattle.ghost_list.specs.contracts.list.Unnamed.{the_row}
 use Rattle.ghost_list.proofs.Tokens.{unnamed_keyless}

@@ -1,4 +1,4 @@
--- A copy covers what it covers.
+-- A copy of a receipt covers the same states.
 use Rattle.std.proofs.Common.{sym, subst}
 use Rattle.journal.specs.Account.{Covers, ReceiptState}
 use Rattle.journal_file.proofs.journal_file.NotedEntries.receipt_for.Goals as goal

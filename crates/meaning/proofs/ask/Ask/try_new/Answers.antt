@@ -1,4 +1,4 @@
--- That each return is the one that the definition has, cause by cause.
+-- Each return is that of the definition, cause by cause.
 use Rattle.std.proofs.Common.{sym, arith}
 use Rattle.meaning.proofs.AskLemmas.{none_refused, long_refused, past_refused, ask_made}
 use Rattle.meaning.proofs.ask.Ask.try_new.Goals as goal

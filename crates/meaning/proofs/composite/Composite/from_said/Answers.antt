@@ -1,4 +1,4 @@
--- That periods make a schedule exactly where the test says so.
+-- Periods make a schedule exactly if the test succeeds.
 use Rattle.std.proofs.Common.{◌≡◌, true, false}
 use Rattle.std.proofs.lemmas.Bool.{both_ways}
 use Rattle.meaning.specs.Said.{IsSaidSchedule}

@@ -1,4 +1,4 @@
--- That a row above a level is there exactly where the row that prevails is above it.
+-- A row above a level exists exactly if the row that prevails is above it.
 use Rattle.std.proofs.Common.{rules, ◌≡◌, ◌∙◌, true}
 use Rattle.meaning.specs.View.{point_state, active_since}
 use Rattle.meaning.specs.Prevailing.{has_its_transaction}

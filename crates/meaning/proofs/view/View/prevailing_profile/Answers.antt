@@ -1,4 +1,4 @@
--- That one row more makes the best of the rows so far that of one more.
+-- With one more row, the best of the rows so far becomes that of one more.
 use Rattle.std.proofs.Common.{◌≡◌, ◌∙◌, sym, ap, cond, Bool, Option, filter, take, option_map, rules}
 use Rattle.std.specs.List.{filter_map}
 use Rattle.profile.specs.Greatest.{greatest}

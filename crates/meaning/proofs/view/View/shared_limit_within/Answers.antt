@@ -1,4 +1,4 @@
--- That one connector more adds its own limit where it is active.
+-- One more connector adds its own limit if it is active.
 use Rattle.std.proofs.Common.{◌≡◌, ℕ, ◌+◌, min, ◌∙◌, sym, ap, cond, Bool, filter, is_some, arith, rules}
 use Rattle.std.specs.List.{range_with_len, sum_by}
 use Rattle.meaning.specs.View.{point_state, active_since}

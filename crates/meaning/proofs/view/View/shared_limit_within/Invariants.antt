@@ -1,4 +1,4 @@
--- The sum is that over the connectors so far, as far as it lies within the most.
+-- The sum is that over the connectors so far, but at most `most`.
 use Rattle.std.proofs.Common.{◌≡◌, filter, min, is_some}
 use Rattle.std.specs.List.{range_with_len, sum_by}
 use Rattle.meaning.specs.View.{point_state, active_since}

@@ -1,4 +1,4 @@
--- That one connector more adds its share where it is active.
+-- One more connector adds its share if it is active.
 use Rattle.std.proofs.Common.{◌≡◌, ℕ, ◌+◌, [], ◌∷◌, ◌++◌, ◌∙◌, sym, ap, is_some, List, arith, rules}
 use Rattle.std.specs.List.{range_with_len}
 use Rattle.meaning.specs.declared.cause.Share.{Share}

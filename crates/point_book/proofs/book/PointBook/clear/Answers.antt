@@ -1,4 +1,4 @@
--- That the profiles that stay are those of a book.
+-- The remaining profiles meet the invariant.
 use Rattle.point_book.proofs.BookLemmas.{book-filtered}
 use Rattle.point_book.proofs.book.PointBook.clear.Goals as goal
 

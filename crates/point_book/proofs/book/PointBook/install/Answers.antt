@@ -1,4 +1,4 @@
--- That the profiles after an install are those of a book.
+-- The profiles after an install meet the invariant.
 use Rattle.std.proofs.Common.{◌≡◌, ◌≤◌, None, length, rules}
 use Rattle.std.specs.Arc.{arc_slice_items}
 use Rattle.point_book.specs.Book.{active_on}

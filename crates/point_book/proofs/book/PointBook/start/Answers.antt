@@ -1,4 +1,4 @@
--- That the profiles and transactions after a fresh start are those of a book.
+-- The profiles and transactions after a new start meet the invariant.
 use Rattle.std.proofs.Common.{◌≡◌, ◌≤◌, ◌-◌, length, ap, ◌∙◌, set, Some, rules}
 use Rattle.std.proofs.lemmas.Int.{to_z-of_z}
 use Rattle.std.specs.Arc.{arc_slice_items}

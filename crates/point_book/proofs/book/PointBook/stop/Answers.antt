@@ -1,4 +1,4 @@
--- That the profiles and transactions after a stop are those of a book.
+-- The profiles and transactions after a stop meet the invariant.
 use Rattle.std.proofs.Common.{◌≡◌, rules}
 use Rattle.transactions.specs.ActiveTable.{connector_of, stopped}
 use Rattle.point_book.specs.Changes.{rows_after_stop}

@@ -1,4 +1,4 @@
--- That each return is the one that the definition has, cause by cause.
+-- Each return is that of the definition, cause by cause.
 use Rattle.std.proofs.Common.{◌≡◌, ◌≤◌, length, true, false, None, ap, rules, arith}
 use Rattle.profile.specs.Limits.{max_periods}
 use Rattle.profile.specs.Kind.{kind_of}

@@ -1,4 +1,4 @@
--- That the periods that have begun stand first, and the last of them has the greatest start.
+-- The periods that have begun come first, and the last of them has the greatest start.
 use Rattle.std.proofs.Common.{◌≡◌, ◌-◌, nat_le, true, None, sym, ◌∙◌, ap, rules, arith}
 use Rattle.std.proofs.lemmas.List.Sorted.{IsPartitionPoint-from_clause}
 use Rattle.profile.specs.declared.period.Period.{Period}

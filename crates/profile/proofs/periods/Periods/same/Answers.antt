@@ -1,4 +1,4 @@
--- That `==` on periods decides whether they are equal, and so on lists of them.
+-- `==` decides equality of periods, and so of lists of periods.
 use Rattle.std.proofs.Common.{◌≡◌, ◌==◌, ◌&&◌, rules}
 use Rattle.std.specs.Bool.{Decides}
 use Rattle.std.specs.Option.{option_eq}

@@ -1,4 +1,4 @@
--- The request is at the place of the first of its number.
+-- The request is at the index of the first one with its number.
 use Rattle.std.proofs.Common.{◌+◌, Some, get_or, take, drop, ◌++◌, ◌∙◌, ap}
 use Rattle.replay.specs.declared.player.held.Held.{Held}
 use Rattle.replay.proofs.HeldLemmas.{absent, present, no_place, a_place}

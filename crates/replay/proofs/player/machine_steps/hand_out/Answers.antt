@@ -1,4 +1,4 @@
--- What comes of a compile and of its answer is what comes of them exactly, unless memory ran out.
+-- The outcomes of a compile and of its answer are the exact ones, unless memory ran out.
 use Rattle.std.proofs.Common.{sym, ◌∙◌}
 use Rattle.replay.proofs.MachineLemmas.{hands_out}
 use Rattle.replay.proofs.player.machine_steps.hand_out.Goals as goal

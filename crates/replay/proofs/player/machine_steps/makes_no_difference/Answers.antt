@@ -1,4 +1,4 @@
--- Nothing else is kept, and there is an `Ask` of the whole and of its first second.
+-- No other request is kept, and there is an `Ask` for the whole and for its first second.
 use Rattle.std.proofs.Common.{◌≡◌, length, sym, arith}
 use Rattle.std.proofs.lemmas.Bool.Decides.{nat_tests}
 use Rattle.std.proofs.lemmas.List.{nil_from_length}

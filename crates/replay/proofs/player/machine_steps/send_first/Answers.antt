@@ -1,4 +1,4 @@
--- A Send is made over the point's present link, and none is missed where there is no call to send.
+-- A Send is made over the point's present link, and none is missed if there is no call to send.
 use Rattle.std.proofs.Common.{◌≡◌, ◌∙◌, ap, sym, List, ℕ, Option, Some}
 use Rattle.messages.specs.declared.call.Call.{Call}
 use Rattle.site_core.specs.declared.step.Step.TheVariants as steps

@@ -1,4 +1,4 @@
--- The first second of a request leads to what the whole leads to.
+-- The first second of a request leads to the same state as the whole request.
 use Rattle.std.proofs.Common.{refl, sym, ap, ◌∙◌}
 use Rattle.site_core.specs.declared.step.Step.TheVariants as steps
 use Rattle.site_core.specs.declared.step.Take.{Take}

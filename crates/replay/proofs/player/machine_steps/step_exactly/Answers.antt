@@ -1,4 +1,4 @@
--- What comes of a step is what comes of it exactly.
+-- The outcome of a step is its exact outcome.
 use Rattle.std.proofs.Common.{◌≡◌, IfOk, Ok, Err}
 use Rattle.replay.specs.MachineSteps.{stepped_exactly}
 use Rattle.replay.specs.ByCases.MachineSteps.{ComesOf}

@@ -1,4 +1,4 @@
--- What came before a failed read was taken too.
+-- The bytes before a failed read were taken too.
 use Rattle.std.proofs.Common.{◌++◌, arith, length-append}
 use Rattle.std.proofs.KnownBytes.{Consumes-trans}
 use Rattle.std.proofs.lemmas.Grind.{common_steps}

@@ -1,4 +1,4 @@
--- A line that is short enough is read as a text, or is none; its form is the one that it has.
+-- A line that isn't too long is read as a text, or isn't one; the form that is found is its form.
 use Rattle.std.proofs.Common.{◌∙◌, ap}
 use Rattle.replay.specs.ByCases.Form.{form_of}
 use Rattle.replay.specs.Line.{line_of_form}

@@ -1,4 +1,4 @@
--- A text is cut off at its first line feed.
+-- A text is split at its first line feed.
 use Rattle.replay.proofs.ScriptLemmas.{cut_first, cut_last}
 use Rattle.replay.proofs.script.lines.split_line.Goals as goal
 

@@ -1,4 +1,4 @@
--- What a write took comes after what was written before it.
+-- The bytes that a write took come after those written before it.
 use Rattle.std.proofs.Common.{length, length-drop, drop, arith, ◌∙◌, ap}
 use Rattle.std.proofs.KnownBytes.{Appends-kept}
 use Rattle.replay.proofs.WriteLemmas.{prefix_more}

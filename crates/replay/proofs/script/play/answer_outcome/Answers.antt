@@ -1,4 +1,4 @@
--- No message asks for a compile.
+-- No message requests a compile.
 use Rattle.replay.proofs.AskedLemmas.{asks_no_compile}
 use Rattle.replay.proofs.script.play.answer_outcome.Goals as goal
 

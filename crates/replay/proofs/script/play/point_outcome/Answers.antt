@@ -1,4 +1,4 @@
--- What comes of a point's message, from what comes of its parts.
+-- The outcome of a point's message, from the outcomes of its parts.
 use Rattle.std.proofs.Common.{refl}
 use Rattle.replay.proofs.PlayLemmas.{point_made}
 use Rattle.replay.proofs.script.play.point_outcome.Goals as goal

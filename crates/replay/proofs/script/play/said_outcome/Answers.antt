@@ -1,4 +1,4 @@
--- No held message asks for a compile.
+-- No held message requests a compile.
 use Rattle.std.proofs.Common.{sym, ◌∙◌}
 use Rattle.replay.proofs.AskedLemmas.{hold_asks_no_compile}
 use Rattle.replay.proofs.script.play.said_outcome.Goals as goal

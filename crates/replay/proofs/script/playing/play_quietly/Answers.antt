@@ -1,4 +1,4 @@
--- The lines that are left lead to what the wanted lines do, until none is.
+-- The lines that are left lead to the outcome of the wanted lines, until none is left.
 use Rattle.std.proofs.Common.{List, length, [], ◌++◌, ap, sym, ◌∙◌, arith}
 use Rattle.std.specs.List.{fold}
 use Rattle.replay.specs.Lines.{script_lines}
@@ -11,7 +11,7 @@ use Rattle.replay.specs.Run.{Played, first_played, played_more}
 use Rattle.replay.proofs.QuietLemmas.{first_lines, no_lines_left, past_last, next_played, all_played}
 use Rattle.replay.proofs.script.playing.play_quietly.Goals as goal
 
--- how far a script was played, where its lines so far printed these
+-- the part of a script that was played, if its lines so far printed these
 abbrev so_far : PlayingState → List PrintedLine → Played
 so_far playing lines =
     record { number = playing.number; faults = playing.faults; lines = lines; state = playing.state }

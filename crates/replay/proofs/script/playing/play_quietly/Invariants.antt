@@ -1,4 +1,4 @@
--- The lines that are left, from what is known now, lead to what the wanted lines do.
+-- From the present state, the lines that are left lead to the outcome of the wanted lines.
 use Rattle.std.proofs.Common.{◌≡◌, List, length}
 use Rattle.std.specs.List.{fold}
 use Rattle.replay.specs.Lines.{script_lines}

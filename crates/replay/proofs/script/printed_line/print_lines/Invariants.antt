@@ -1,4 +1,4 @@
--- What is written and the lines that are left make the whole.
+-- The text so far and the lines that are left make the whole.
 use Rattle.std.proofs.Common.{◌≡◌, ◌++◌, drop, string_bytes}
 use Rattle.replay.specs.PrintedLine.{printed_texts}
 use Rattle.replay.proofs.script.printed_line.print_lines.Given as goal

@@ -1,4 +1,4 @@
--- Where the script isn't read, nothing is written.
+-- If the script isn't read, nothing is written.
 use Rattle.replay.specs.Run.{output_of}
 use Rattle.replay.proofs.OutputLemmas.{nothing_written}
 use Rattle.replay.proofs.script.run.replay.Goals as goal

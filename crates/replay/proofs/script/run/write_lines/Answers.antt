@@ -1,4 +1,4 @@
--- What a line prints comes after what the lines before it printed.
+-- The output of a line comes after that of the lines before it.
 use Rattle.std.proofs.Common.{◌≡◌, ◌≤◌, [], ◌++◌, cond, ap, sym, ◌∙◌, subst, eqb-true, arith, lit≤, rules}
 use Rattle.std.specs.List.{fold}
 use Rattle.std.specs.Io.KnownBytes.{Appends}

@@ -1,4 +1,5 @@
--- What was written so far is what the lines so far print, and the other lines follow from there.
+-- The bytes written so far are the output of the lines so far, and the other lines follow from
+-- there.
 use Rattle.std.proofs.Common.{◌≡◌, ◌≤◌, List, ◌+◌, length}
 use Rattle.std.specs.List.{fold}
 use Rattle.std.specs.Io.KnownBytes.{Appends}

@@ -1,4 +1,4 @@
--- That the slot of the transaction that begins is its own.
+-- The slot of the new transaction is its own.
 use Rattle.std.proofs.Common.{◌≡◌, ◌-◌, length, Some, ap, arith, rules}
 use Rattle.transactions.specs.ActiveTable.{began}
 use Rattle.transactions.specs.declared.active_table.Began.TheVariants.{Fresh}

@@ -1,4 +1,4 @@
--- That the slot of the transaction that ends is emptied.
+-- The slot of the ended transaction is emptied.
 use Rattle.std.proofs.Common.{◌-◌, None, sym}
 use Rattle.sim_point_core.proofs.RunningLemmas.{slots-set, one-stopped}
 use Rattle.sim_point_core.proofs.own_book.OwnBook.stop.Goals as goal

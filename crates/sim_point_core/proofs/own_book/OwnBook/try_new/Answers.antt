@@ -1,4 +1,4 @@
--- That nothing runs in an empty book.
+-- Nothing runs in an empty book.
 use Rattle.std.proofs.Common.{ap, ◌∙◌, None, replicate, length}
 use Rattle.point_book.specs.Book.{BookState}
 use Rattle.sim_point_core.proofs.RunningLemmas.{running-empty}

@@ -1,4 +1,4 @@
--- An action leaves the call in flight one that fits.
+-- After an action, the call in flight still fits the book.
 use Rattle.sim_point_core.proofs.StateLemmas.{flight-kept}
 use Rattle.sim_point_core.proofs.point.SimPoint.on_action.Goals as goal
 

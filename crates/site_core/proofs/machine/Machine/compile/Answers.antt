@@ -1,4 +1,4 @@
--- What is compiled is the kept request's book and `Ask`.
+-- The compiled schedule is for the kept request's book and `Ask`.
 use Rattle.site_core.proofs.MachineLemmas.{compiles_made}
 use Rattle.site_core.specs.contracts.machine.Machine.{the_view}
 use Rattle.site_core.proofs.machine.Machine.compile.Goals as goal

@@ -1,4 +1,4 @@
--- What is made at its point is made of the whole state.
+-- A step made at its point is made for the whole state.
 use Rattle.std.proofs.Common.{◌≡◌, Some, subst, sym, ◌∙◌}
 use Rattle.site_rules.specs.Site.{place_of}
 use Rattle.site_core.specs.State.{MachineState}

@@ -1,4 +1,4 @@
--- What it comes to at its point is what it comes to in the whole state.
+-- The decision at the point is the outlook in the whole state.
 use Rattle.std.proofs.Common.{◌≡◌, Ok, subst, sym, ◌∙◌}
 use Rattle.site_core.specs.State.{MachineState}
 use Rattle.site_core.specs.Step.{place_for}

@@ -1,4 +1,4 @@
--- What is posted is compiled.
+-- A posted request is compiled.
 use Rattle.site_core.proofs.MachineLemmas.{posts_made, posts_compile}
 use Rattle.site_core.specs.contracts.machine.Machine.{the_view}
 use Rattle.site_core.proofs.machine.Machine.post.Goals as goal

@@ -1,4 +1,4 @@
--- One step more.
+-- One more step.
 use Rattle.std.proofs.Common.{◌≡◌, ◌++◌, ◌∷◌, [], arith}
 use Rattle.std.proofs.lemmas.Grind.{common_steps}
 use Rattle.site_core.proofs.RunLemmas.{runs_more}

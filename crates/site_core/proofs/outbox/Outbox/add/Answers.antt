@@ -1,4 +1,4 @@
--- That the call joins the others with the next number, and that what an outbox always is stays so.
+-- The call joins the others with the next number, and the invariant stays.
 use Rattle.std.proofs.Common.{◌+◌, ◌-◌, ◌<◌, ◌≤◌, ◌≡◌, length, ◌∙◌, ap, arith, length-append, List}
 use Rattle.messages.specs.declared.call.Call.{Call}
 use Rattle.messages.specs.declared.call.CallBody.{CallBody}

@@ -1,4 +1,4 @@
--- That there are as many calls as bodies, and what an outbox always is.
+-- There are as many calls as bodies; the invariant of an outbox.
 use Rattle.std.proofs.Common.{length, sym, ◌∙◌, ap, subst}
 use Rattle.site_core.specs.Outbox.{OutboxState, IsOutbox}
 use Rattle.site_core.proofs.OutboxLemmas.{numbered_length, outbox_is}

@@ -1,4 +1,4 @@
--- That the copied body and the first number are the first call.
+-- The copied body and the first number are the first call.
 use Rattle.std.proofs.Common.{ℕ, ◌-◌, ◌<◌, ◌≡◌, length, sym, ◌∙◌, ap, refl, true, false, not, is_some, slice_index_or}
 use Rattle.messages.specs.declared.call.CallBody.{CallBody}
 use Rattle.site_core.specs.Outbox.{OutboxState, sendable}

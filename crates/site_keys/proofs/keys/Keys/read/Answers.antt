@@ -1,4 +1,4 @@
--- What was read is what the file says.
+-- The keys read are those of the file.
 use Rattle.std.proofs.Common.{sym, ◌∙◌}
 use Rattle.std.proofs.lemmas.Result.{err_from_is_err_and}
 use Rattle.site_keys.proofs.KeyFileLemmas.{file_read, file_is, no_keys, fault_of_file}

@@ -1,4 +1,4 @@
--- The ceilings of the entries so far, with that of one more.
+-- The ceilings of the entries so far, and of one more.
 use Rattle.std.proofs.Common.{◌≡◌, ◌<◌, [], length, None, Some, option_map, ap, sym, ◌∙◌, arith}
 use Rattle.json.specs.Json.{after_end_array}
 use Rattle.site_rules.specs.ByCases.Parts.{unless_empty, with_ceiling, ceilings_in}

@@ -1,4 +1,4 @@
--- The points of the entries so far, with that of one more.
+-- The points of the entries so far, and of one more.
 use Rattle.std.proofs.Common.{◌≡◌, ◌<◌, [], length, None, Ok, refl, ap, sym, ◌∙◌, arith}
 use Rattle.json.specs.Json.{after_end_array}
 use Rattle.site_rules.specs.Site.{SiteState}

@@ -1,4 +1,4 @@
--- The point of one entry more.
+-- The point of one more entry.
 use Rattle.std.proofs.Common.{refl, arith}
 use Rattle.site_rules.proofs.PartsKept.{found_more}
 use Rattle.site_rules.proofs.reading.entries.with_next.Goals as goal

@@ -1,4 +1,4 @@
--- A value is passed by its tokens: those of a list or an object one after another.
+-- A value is skipped by its tokens: those of a list or an object one after another.
 use Rattle.std.proofs.Common.{◌≡◌, ◌<◌, ◌∷◌, length, Some, None, refl, sym, ap, subst, arith}
 use Rattle.json.specs.Json.{after_end_array, read_key}
 use Rattle.json.specs.Reads.{token_of}

@@ -82,7 +82,7 @@ value_has_tree-returns-in_ok-members_have_trees-in-BeginObject-clause-tree t c =
     let found = c.in_ok-members_have_trees-in-BeginObject.ensures.trees in
     (object found.0, object_opened c.args.depth _ _ (omega arith) opens ∙ ap (parse_map object) found.1, found.2 ∙ some-mapped an_object (fields_of found.0))
 
--- a token that begins no value, and a number, which doesn't come
+-- a token that begins no value, and a number, which doesn't occur
 
 pub value_has_tree-returns-in-EndObject-clause-refused : goal.value_has_tree-returns-in-EndObject-clause-refused
 value_has_tree-returns-in-EndObject-clause-refused t c refused =

@@ -1,4 +1,4 @@
--- A text has a tree where its value has one and nothing follows.
+-- A text has a tree if its value has one and nothing follows.
 use Rattle.std.proofs.Common.{◌≡◌, Some, None, sym, ap, ◌∙◌, arith}
 use Rattle.json.specs.Json.{value}
 use Rattle.json.specs.Lex.{tokens}

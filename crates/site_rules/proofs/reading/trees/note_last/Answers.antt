@@ -1,4 +1,4 @@
--- The key is in the set or not, by whether its last member has a tree.
+-- The key is in the set exactly if its last member has no tree.
 use Rattle.std.proofs.Common.{◌≡◌, Bool, true, false, cond, not, ◌&&◌, is_some, sym, ap, ◌∙◌, arith}
 use Rattle.std.specs.Str.{bytes_eq}
 use Rattle.ocppj_frame.specs.Read.{name_of_key}

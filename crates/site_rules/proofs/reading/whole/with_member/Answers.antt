@@ -1,4 +1,4 @@
--- A member whose key is a text, and one whose key is none.
+-- A member whose key is a text, and one whose key isn't.
 use Rattle.std.proofs.Common.{◌≡◌, Some, None, arith}
 use Rattle.ocppj_frame.specs.Read.{name_of_key}
 use Rattle.site_rules.proofs.MembersRead.{site_named, site_unnamed}

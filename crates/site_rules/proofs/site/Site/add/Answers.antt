@@ -1,4 +1,4 @@
--- A new identity goes last.
+-- A new identity comes last.
 use Rattle.std.proofs.Common.{◌∙◌, ap, map, ◌++◌, [], ◌∷◌, string_bytes}
 use Rattle.std.proofs.lemmas.List.{map-append}
 use Rattle.std.specs.String.{string_eq}

@@ -1,4 +1,4 @@
--- The place in the map is that among the points.
+-- The index in the map is that among the points.
 use Rattle.std.proofs.Common.{◌∙◌, ap}
 use Rattle.site_rules.specs.Site.{SiteState, place_of}
 use Rattle.site_rules.proofs.PointLemmas.{place-kept, IsPlaceOf-place}

@@ -1,4 +1,4 @@
--- No level was passed that has a candidate.
+-- No level that was passed over has a candidate.
 use Rattle.std.proofs.Common.{◌≡◌}
 use Rattle.stacking.specs.ByCases.Candidates.{candidates_left}
 use Rattle.stacking.proofs.candidates.CandidatesIterator.next.Given as goal

@@ -1,4 +1,4 @@
--- That the last level prevails.
+-- The last level prevails.
 use Rattle.std.proofs.Common.{rules, ◌≡◌, ◌-◌, length, Some, slice_get}
 use Rattle.stacking.proofs.LevelLemmas.{last_is_top}
 use Rattle.stacking.proofs.in_force.InForce.top.Goals as goal

@@ -1,4 +1,4 @@
--- That the rows after a start with a profile are rows of a point.
+-- The rows after a start with a profile meet the invariant.
 use Rattle.std.proofs.Common.{◌≡◌, ◌<◌, length, rules}
 use Rattle.profile.specs.declared.row.Row.{Row}
 use Rattle.profile.specs.Changes.{installed, rows_beside, without_transaction_profiles}

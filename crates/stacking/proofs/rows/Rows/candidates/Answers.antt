@@ -1,4 +1,4 @@
--- That what the iterator yields are the candidates by falling level.
+-- The iterator yields the candidates by falling level.
 use Rattle.std.proofs.Common.{◌<◌, List, subst}
 use Rattle.std.specs.List.{All}
 use Rattle.std.proofs.lemmas.List.Elements.{recursion_from_All}

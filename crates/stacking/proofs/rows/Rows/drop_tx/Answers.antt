@@ -1,4 +1,4 @@
--- That the rows that stay are rows of a point.
+-- The remaining rows meet the invariant.
 use Rattle.stacking.proofs.RowLemmas.{rows-filter}
 use Rattle.stacking.proofs.rows.Rows.drop_tx.Goals as goal
 

@@ -1,4 +1,4 @@
--- That the rows after an install are rows of a point.
+-- The rows after an install meet the invariant.
 use Rattle.std.proofs.Common.{◌≡◌, ◌<◌, length, rules}
 use Rattle.profile.specs.Changes.{installed, rows_beside}
 use Rattle.stacking.specs.Limits.{max_rows}

@@ -1,4 +1,4 @@
--- That the period at a place of a schedule is in force until the next one begins.
+-- The period at an index of a schedule is in force until the next one begins.
 use Rattle.sweep_compiler.proofs.Agreeing.{period_interval_is}
 use Rattle.sweep_compiler.proofs.agreement.PeriodInterval.of.Goals as goal
 

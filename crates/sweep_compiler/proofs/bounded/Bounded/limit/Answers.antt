@@ -1,4 +1,4 @@
--- That the highest rank in force is that of the first row that has a limit.
+-- The limit of the highest rank in force is that of the first row that has one.
 use Rattle.std.proofs.Common.{ℕ, Option, ◌∙◌, ap}
 use Rattle.meaning.specs.Limit.{at_most}
 use Rattle.sweep_compiler.specs.ByCases.Running.{RunningBound, bound_now}

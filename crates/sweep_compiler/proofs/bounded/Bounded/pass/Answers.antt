@@ -1,4 +1,4 @@
--- That the row that passes has its next limit in force, and that it alone has changed.
+-- The row that passes has its next limit in force, and only that row has changed.
 use Rattle.std.proofs.Common.{◌<◌, List, length, ◌∙◌, ap, sym, subst}
 use Rattle.std.specs.List.{slice_set}
 use Rattle.sweep_compiler.specs.ByCases.Running.{Running, RunningBound, passed, bound_passed}

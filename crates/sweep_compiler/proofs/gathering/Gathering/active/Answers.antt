@@ -1,4 +1,4 @@
--- That one connector more is there where it is active.
+-- One more connector is added if it is active.
 use Rattle.meaning.specs.View.{point_state}
 use Rattle.sweep_compiler.proofs.Starting.{active_more}
 use Rattle.sweep_compiler.proofs.gathering.Gathering.active.Goals as goal

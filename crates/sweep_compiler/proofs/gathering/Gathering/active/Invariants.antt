@@ -1,4 +1,4 @@
--- The connectors so far that are active.
+-- The active ones of the connectors so far.
 use Rattle.std.proofs.Common.{filter, is_some}
 use Rattle.std.specs.List.{range_with_len}
 use Rattle.meaning.specs.View.{point_state, active_since}

@@ -1,4 +1,4 @@
--- The rows so far with those that are left are all of them.
+-- The rows so far and the remaining ones are all rows.
 use Rattle.std.proofs.Common.{◌≡◌, ◌++◌, map, length}
 use Rattle.meaning.specs.View.{point_state}
 use Rattle.stacking.specs.ByCases.Candidates.{candidates_left}

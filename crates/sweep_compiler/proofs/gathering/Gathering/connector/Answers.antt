@@ -1,4 +1,4 @@
--- That TxProfiles come before TxDefaultProfiles.
+-- TxProfiles come before TxDefaultProfiles.
 use Rattle.std.proofs.Common.{◌≡◌, ◌++◌, rules, sym, subst}
 use Rattle.meaning.specs.View.{point_state}
 use Rattle.sweep_compiler.specs.ByCases.Running.{AreFalling}

@@ -1,4 +1,4 @@
--- That what was gathered is a sweep at the start.
+-- The gathered bounds and queue are those of a sweep at the start.
 use Rattle.std.proofs.Common.{◌∙◌, ap, sym, subst, refl, length, List}
 use Rattle.meaning.specs.View.{point_state}
 use Rattle.sweep_compiler.specs.ByCases.Running.{RunningBound}

@@ -1,4 +1,4 @@
--- That the point's own rows fall by rank.
+-- The point's own rows are in falling order of rank.
 use Rattle.meaning.specs.View.{point_state}
 use Rattle.sweep_compiler.proofs.GatheredRuns.{point_falls}
 use Rattle.sweep_compiler.proofs.gathering.Gathering.point.Goals as goal

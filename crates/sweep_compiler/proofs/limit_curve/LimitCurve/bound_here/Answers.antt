@@ -1,4 +1,4 @@
--- That what is in force sets the limit.
+-- The limits in force give the bound.
 use Rattle.std.proofs.Common.{◌==◌, ◌≡◌, true, false, get_or, ◌∙◌, ap, arith}
 use Rattle.std.proofs.lemmas.Bool.{eq-eqb}
 use Rattle.std.proofs.lemmas.Bool.Decides.{nat_tests}

@@ -1,4 +1,4 @@
--- That the sweep may stand at the soonest instant, and has passed it where none waits for it any more.
+-- The sweep may go to the soonest instant, and has passed it once no row waits for it.
 use Rattle.std.proofs.Common.{refl, arith}
 use Rattle.meaning.specs.View.{point_state}
 use Rattle.sweep_compiler.proofs.LeadingOn.{swept_later, all_ahead}

@@ -1,4 +1,4 @@
--- The sweep stands at the next place, and those that have passed it wait no more.
+-- The sweep is at the next place, and the rows that have passed it no longer wait for it.
 use Rattle.std.proofs.Common.{◌≡◌}
 use Rattle.sweep_compiler.specs.ByCases.Swept.{IsSweptCurve, IsOfOneAsk, waiting_at}
 use Rattle.sweep_compiler.proofs.limit_curve.LimitCurve.go_to.Given as goal

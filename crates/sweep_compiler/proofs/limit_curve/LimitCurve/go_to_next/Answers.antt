@@ -1,4 +1,4 @@
--- That the limit and what sets it stay up to the soonest place, or to the end.
+-- The limit and its reason are constant up to the soonest place, or to the end.
 use Rattle.std.proofs.Common.{◌≡◌, ℕ, ◌+◌, ◌-◌, ◌<◌, ◌∙◌, Option, Some, subst, arith}
 use Rattle.meaning.specs.View.{point_state}
 use Rattle.meaning.specs.Limit.{limit, limit_asked}

@@ -1,4 +1,4 @@
--- That what is in force is the limit.
+-- The limits in force give the limit.
 use Rattle.std.proofs.Common.{ℕ, min, ◌∙◌, ap, arith}
 use Rattle.meaning.specs.View.{point_state}
 use Rattle.sweep_compiler.specs.ByCases.Running.{RunningBound, bound_now}

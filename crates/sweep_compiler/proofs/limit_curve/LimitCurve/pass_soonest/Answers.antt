@@ -1,4 +1,4 @@
--- That the row that waited is taken, passes its place where it is due, and waits again.
+-- The row that waited is removed, passes its place if it is due, and waits again.
 use Rattle.std.proofs.Common.{◌≡◌, ◌∙◌, ◌==◌, not, ap, sym, subst, refl, ℕ, List, drop, Some, None, arith}
 use Rattle.std.specs.Option.{option_eq}
 use Rattle.std.proofs.lemmas.List.Sorted.{IsPermutation-refl}

@@ -1,4 +1,4 @@
--- That there is a sum only where the whole point is asked.
+-- The cause is the sum only in a request for the whole point.
 use Rattle.std.proofs.Common.{◌∙◌, ap, sym}
 use Rattle.meaning.specs.Cause.{Bound}
 use Rattle.meaning.specs.View.{point_state}

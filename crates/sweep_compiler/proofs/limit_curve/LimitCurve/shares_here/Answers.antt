@@ -1,4 +1,4 @@
--- That what is in force gives the shares.
+-- The limits in force give the shares.
 use Rattle.std.proofs.Common.{◌≡◌, List, ◌∙◌, ap, subst, arith}
 use Rattle.std.specs.Result.{IfOk}
 use Rattle.meaning.specs.declared.cause.Share.{Share}

@@ -1,4 +1,4 @@
--- That the sweep stands within the request.
+-- The sweep is within the request.
 use Rattle.std.proofs.Common.{◌≡◌, ◌+◌, ◌-◌, ◌∙◌, ap, arith}
 use Rattle.meaning.specs.View.{point_state}
 use Rattle.meaning.specs.Limit.{limit}

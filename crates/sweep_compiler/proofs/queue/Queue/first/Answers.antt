@@ -1,4 +1,4 @@
--- That the heap's greatest is the soonest.
+-- The heap's greatest item is the soonest.
 use Rattle.sweep_compiler.proofs.Queueing.{first_of, least_of}
 use Rattle.sweep_compiler.proofs.queue.Queue.first.Goals as goal
 

@@ -1,4 +1,4 @@
--- That the heap has one more.
+-- The heap has one more item.
 use Rattle.sweep_compiler.proofs.Queueing.{pushed}
 use Rattle.sweep_compiler.proofs.queue.Queue.push.Goals as goal
 

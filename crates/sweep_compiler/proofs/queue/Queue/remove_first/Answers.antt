@@ -1,4 +1,4 @@
--- That the heap has lost its first.
+-- The heap has lost its first item.
 use Rattle.std.proofs.Common.{rules}
 use Rattle.std.proofs.lemmas.Option.{MatchOption-at_some}
 use Rattle.sweep_compiler.proofs.Queueing.{removed}

@@ -1,4 +1,4 @@
--- That the heap has the row in the place of its first.
+-- The heap has the row in place of its first item.
 use Rattle.std.proofs.Common.{rules}
 use Rattle.std.proofs.lemmas.Option.{MatchOption-at_some}
 use Rattle.sweep_compiler.proofs.Queueing.{replaced}

@@ -1,4 +1,4 @@
--- That the heap's first is the soonest.
+-- The heap's first item is the soonest.
 use Rattle.std.proofs.Common.{rules, sym}
 use Rattle.sweep_compiler.proofs.Queueing.{soonest_of}
 use Rattle.sweep_compiler.proofs.queue.Queue.soonest.Goals as goal

@@ -1,4 +1,4 @@
--- That the next place has the rate there.
+-- The next place has the rate there.
 use Rattle.std.proofs.Common.{Option, subst, ap, ◌∙◌}
 use Rattle.recurrence.specs.declared.place.Place.{Place}
 use Rattle.sweep_compiler.specs.ByCases.Running.{Running, IsRun, rate_running, passed}

@@ -1,4 +1,4 @@
--- That the row stands at the place that was next.
+-- The row is at the place that was next.
 use Rattle.std.proofs.Common.{Option, subst}
 use Rattle.recurrence.specs.declared.place.Place.{Place}
 use Rattle.sweep_compiler.specs.ByCases.Running.{Running, IsRun}

@@ -1,4 +1,4 @@
--- That empty slots are what a table keeps.
+-- Empty slots meet the table's invariant.
 use Rattle.transactions.proofs.SlotLemmas.{slots-empty}
 use Rattle.transactions.proofs.active_table.ActiveTable.new.Goals as goal
 

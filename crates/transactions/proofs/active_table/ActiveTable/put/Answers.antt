@@ -1,4 +1,4 @@
--- That a slot that changes keeps what the table is.
+-- A change of one slot keeps the table's invariant.
 use Rattle.transactions.proofs.SlotLemmas.{slots-set}
 use Rattle.transactions.proofs.active_table.ActiveTable.put.Goals as goal
 

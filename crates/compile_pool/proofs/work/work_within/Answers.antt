@@ -1,10 +1,10 @@
--- That the product fits, and that work which is too much for what is left is too much in all.
+-- That the product fits, and that work which is too much for the rest is too much in all.
 use Rattle.std.proofs.Common.{rules, arith}
 use Rattle.std.proofs.lemmas.Nat.{mul-le}
 use Rattle.std.proofs.lemmas.List.Sums.{sum_by_more_le}
 use Rattle.meaning.specs.View.{point_state}
 use Rattle.compile_pool.specs.Work.{work_at}
-use Rattle.compile_pool.proofs.work.is_work_at_most.Goals as goal
+use Rattle.compile_pool.proofs.work.work_within.Goals as goal
 
 pub overflow_mul-work : goal.overflow_mul-work
 overflow_mul-work c =
