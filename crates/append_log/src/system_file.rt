@@ -104,13 +104,13 @@ impl AppendedFile for SystemFile {
     }
 
     fn cut_unsynced(&mut self) {
-        // Best effort: the journal has failed already, and this can only spare the next start bytes
+        // Best effort: the log has failed already, and this can only spare the next start bytes
         // that were never acknowledged.
         let _ = self.file.set_len(self.synced);
     }
 }
 
-// Without the sync a crash could bring back the torn line, in front of lines appended since.
+// Synced, since until then a crash may still leave the bytes that were cut off.
 fn cut_and_sync(file: &File, end: u64) -> io::Result<()> {
     file.set_len(end)?;
     file.sync_data()

@@ -29,6 +29,7 @@ pub fn job_of<'a>(alloc: Global, words: &'a [String]) -> Result<Job<'a>, Error>
 {
     let mut command = central_command(alloc)?;
     let matches = command.try_get_matches_from_mut(words)?;
+    // The command requires a subcommand, so this error never occurs.
     let Some((name, given)) = matches.subcommand() else {
         return Err(Error::from(AllocError));
     };
@@ -146,7 +147,7 @@ fn running_of<'a>(given: &ArgMatches<'a>) -> Option<Running<'a>>
     let keys = text_of(given, "keys");
     let status = text_of(given, "status");
     let is_status_open = is_given(given, "status-open");
-    // As above, `1` has to be shown here: running a site requires at least one of each.
+    // Shown here, since running a site requires at least one seat and one worker.
     if seats < 1 || workers < 1 {
         return None;
     }

@@ -1,4 +1,4 @@
--- The job that comes back where it wasn't sent.
+-- The job that comes back if it wasn't sent.
 use Rattle.compile_pool.specs.declared.jobs.Unsent.{Unsent}
 use Rattle.compile_pool.specs.declared.jobs.Unsent.TheVariants.{NoRoom, NoWorker}
 use Rattle.version_store.specs.Answers.{RequestedJob}

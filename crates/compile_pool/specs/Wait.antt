@@ -1,4 +1,4 @@
--- What a session counts for an answer that it waited for.
+-- The counts of a session for an answer that it waited for.
 use Rattle.std.specs.Prelude.{◌≡◌, ◌≤◌, ◌+◌}
 use Rattle.version_store.specs.Passes.{PassState}
 

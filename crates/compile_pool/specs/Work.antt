@@ -1,5 +1,5 @@
--- How much work a request for a schedule is, at most: how often the limit of one of the profiles changes
--- that are looked at on its way (OCPP 1.6, 5.7).
+-- The most work of a request for a schedule: how often the limits of the profiles that its compilation
+-- reads can change (OCPP 1.6, 5.7).
 use Rattle.std.specs.Prelude.{ℕ, ◌+◌, ◌*◌, ◌/◌, ◌==◌, Bool, ◌||◌, nat_le, Option, Some, None, List, length, sum_by, count_by, is_some, if◌then◌else◌}
 use Rattle.profile.specs.Kind.{recurrence_length}
 use Rattle.profile.specs.declared.kind.Kind.{Kind}
@@ -14,24 +14,24 @@ use Rattle.version_store.specs.Answers.{RequestedJob}
 abbrev pub most_of_short : ℕ
 most_of_short = 10_000
 
--- how often a schedule of this kind comes to the same offset within a duration
+-- how often a schedule of this kind reaches the same offset within a duration, at most
 abbrev pub turns_within : Kind → ℕ → ℕ
 turns_within Absolute duration = 1
 turns_within (Recurring recurrency) duration = duration / recurrence_length recurrency + 1
 turns_within Relative duration = 1
 
--- A profile changes where its schedule begins, where a period starts and where its duration is over, each
--- time that it comes there, and at its validFrom and validTo (OCPP 1.6, chapter 7).
+-- A profile's limit can change at the start of its schedule, at the start of a period and at the end of its
+-- duration, each time around, and at its validFrom and validTo (OCPP 1.6, chapter 7).
 abbrev pub changes_of : Row → ℕ → ℕ
 changes_of row duration =
     (length row.profile.schedule.periods + 2) * turns_within row.profile.kind duration + 2
 
--- how many connectors have an active transaction
+-- the number of connectors with an active transaction
 abbrev pub active_count : List (Option ℕ) → ℕ
 active_count starts = count_by is_some starts
 
--- How often a row at a connector may be looked at: one at the whole point for that, and for each connector
--- whose limit is looked for. For the whole point these are the ones with an active transaction.
+-- How many limits may read a row at a connector. A row at connector 0 is read for the point's limit, and for
+-- each connector whose limit is needed: for the whole point those with an active transaction.
 abbrev pub looks_at : ℕ → ℕ → ℕ → ℕ
 looks_at active asked connector =
     if connector == 0

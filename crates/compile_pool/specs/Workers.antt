@@ -1,4 +1,4 @@
--- What a worker makes of a job.
+-- The result of a worker for a job.
 use Rattle.std.specs.Prelude.{ℕ, ◌≡◌, ◌⊎◌}
 use Rattle.sweep_compiler.specs.Compiled.{CompiledAnswer}
 use Rattle.site_core.specs.Requests.{request_of}
@@ -8,12 +8,12 @@ use Rattle.version_store.specs.Answers.{RequestedJob}
 use Rattle.version_store.specs.Calls.{PostsTo}
 use Rattle.version_store.specs.Store.{StoreState}
 
--- compiled for the book and the `Ask` of a job; that it is right for these is kept by its type
+-- compiled for the book and the `Ask` of a job; its type ensures that it is right for these
 pub record IsOfJob (job : RequestedJob) (compiled : CompiledAnswer) : Type 0 where
   pub book : compiled.book ≡ job.book
   pub ask : compiled.ask ≡ job.ask
 
--- It is dropped only where its post is refused, and then nothing has changed.
+-- It is dropped only if its post is refused, and then nothing has changed.
 pub record Drops (old : StoreState) (number : ℕ) (compiled : CompiledAnswer) (new : StoreState)
     : Type 0 where
   pub refusal : Refusal

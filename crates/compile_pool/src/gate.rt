@@ -1,15 +1,15 @@
-//! What a worker passes before it compiles.
+//! The gate that a worker passes before it compiles.
 
-/// A worker passes it with the number of each request before it compiles that. It can hold a worker
-/// up, as tests do, and can't change what is compiled.
+/// A gate that a worker passes with the number of each request before it compiles that. It can
+/// delay a worker, as tests do, and can't change the compiled schedule.
 pub trait Gate {
     fn enter(&self, number: u64);
 
-    /// A worker begins to compile the request of this number: somebody still waits for it.
+    /// Called when a worker begins to compile the request of this number, which had no answer yet.
     fn begin(&self, _number: u64) {}
 }
 
-/// Holds nobody up.
+/// A gate that delays no worker.
 #[derive(Clone, Copy, Default)]
 pub struct Open;
 

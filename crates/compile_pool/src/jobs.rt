@@ -1,4 +1,4 @@
-//! The ways to the workers.
+//! The channels to the workers.
 
 ghost use Rattle.std.specs.Prelude.{◌≡◌, ◌⊎◌, IfErr, IsTrue};
 ghost use Rattle.compile_pool.specs.Unsent.{job_of};
@@ -9,8 +9,8 @@ use crossbeam_channel::{Sender, TrySendError};
 use std::sync::Wait;
 use version_store::Job;
 
-/// The ways to the workers. Short jobs have a way of their own, so that they don't wait behind long
-/// ones; both ways may be one.
+/// The channels to the workers. Short jobs have a channel of their own, so that they don't wait
+/// behind long ones. Both may be the same channel.
 #[derive(Clone, Copy, Drop)]
 pub struct Jobs<'a> {
     short: &'a Sender<Job>,
@@ -20,21 +20,21 @@ pub struct Jobs<'a> {
 /// A job that wasn't sent.
 #[derive(Drop)]
 pub enum Unsent {
-    /// There is no room for it.
+    /// Its channel is full.
     NoRoom(Job),
-    /// Nobody takes it.
+    /// Its channel has no worker any more.
     NoWorker(Job),
 }
 
 impl<'a> Jobs<'a> {
-    /// The ways of short jobs and of long ones.
+    /// Takes the channels of short jobs and of long ones.
     pub fn new(short: &'a Sender<Job>, long: &'a Sender<Job>) -> Jobs<'a>
         ensures { (result.short ≡ short.entry) × (result.long ≡ long.entry) }
     {
         Jobs { short, long }
     }
 
-    /// One way for all jobs.
+    /// Takes one channel for all jobs.
     pub fn one(all: &'a Sender<Job>) -> Jobs<'a> {
         Jobs {
             short: all,
@@ -42,7 +42,7 @@ impl<'a> Jobs<'a> {
         }
     }
 
-    /// The way of a job: only short ones go the way of short ones.
+    /// Returns the channel of a job. Only a short job gets that of short ones.
     fn way_of(&self, job: &Job, short: bool) -> &'a Sender<Job>
         requires { IsTrue short → IsTrue (is_short job.now) }
         ensures { (result ≡ self.now.long)
@@ -51,7 +51,8 @@ impl<'a> Jobs<'a> {
         if short { self.short } else { self.long }
     }
 
-    /// Sends a job on its way, once there is room. It comes back where nobody takes it.
+    /// Sends a job to its channel, once that has room. The job comes back if the channel has no
+    /// worker any more.
     pub fn send<R: Wait>(&self, rt: &R, job: Job) -> Result<(), Job>
         ensures back { IfErr result (λ back. back ≡ job) }
     {
@@ -62,7 +63,8 @@ impl<'a> Jobs<'a> {
         }
     }
 
-    /// The same, if there is room at once, of a job that is known to be short or not.
+    /// Sends a job to its channel, if that has room at once. `short` may be true only of a short
+    /// job.
     pub fn try_send<R: Wait>(&self, rt: &R, job: Job, short: bool) -> Result<(), Unsent>
         requires short { IsTrue short → IsTrue (is_short job) }
         ensures back { IfErr result (λ unsent. job_of unsent ≡ job) }

@@ -14,5 +14,6 @@ pub use wait::{collect_answer, wait_answer};
 pub use work::short_work;
 pub use workers::{answer_job, answer_unmade, run_pool, worker};
 
-/// How many jobs wait for a worker at most: as many as there are requests.
+/// The most jobs that wait for a worker: as many as kept requests.
+// Each kept request is in a channel at most once, so with this room a session needn't wait to send.
 pub const MAX_JOBS: usize = 64;

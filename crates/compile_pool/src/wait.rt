@@ -1,4 +1,4 @@
-//! Waiting for an answer.
+//! The wait for an answer.
 
 ghost use Rattle.std.specs.Prelude.{◌≡◌, false, IfOk, IfErr};
 ghost use Rattle.ocpp_scalars.specs.declared.refusal.Refusal.{Refusal};
@@ -13,7 +13,7 @@ use std::sync::ledger::Ledger;
 use version_store::{Answer, Book, Pass, Shared};
 
 /// Waits until the request of a number has its answer, and collects it (chapter 5.7). The refusal
-/// is `UnknownRequest`, where the request isn't kept, or another session has collected it.
+/// is `UnknownRequest`, if the request isn't kept, or another session has collected it.
 pub fn wait_answer<C: Ledger, A: Ledger, R: Wait, N: ListName>(
     rt: &R,
     shared: &Shared<C, A, N>,

@@ -1,4 +1,4 @@
-//! How much work a job is at most.
+//! The most work of a job.
 
 ghost use Rattle.std.specs.Prelude.{◌≡◌, ◌≤◌, ◌<◌, ◌^◌, IfSome, IsTrue, length};
 ghost use Rattle.meaning.specs.Limits.{max_duration};
@@ -11,11 +11,11 @@ use ocpp_scalars::Instant;
 use profile::{Kind, Row};
 use version_store::Job;
 
-/// A job of no more changes of limits than these is short. They take some 3 milliseconds.
+/// The most changes of limits of a short job. They take some 3 milliseconds.
 const MOST_OF_SHORT: u64 = 10_000;
 
-/// The work of a short job: how many changes of limits it takes at most, whatever its profiles are.
-/// None of a long job, or of one that can't be examined.
+/// Returns the work of a short job: the most changes of limits that it may take. Returns none for a
+/// long job, or if memory runs out.
 pub fn short_work(job: &Job) -> Option<u64>
     ensures work { IfSome result (λ work. work ≡ work_of (state_of job.now.book) job.now.ask) }
     ensures short { IfSome result (λ work. IsTrue (is_short job.now)) }
@@ -26,8 +26,8 @@ pub fn short_work(job: &Job) -> Option<u64>
     }
 }
 
-/// The work of a request, if it is at most this. Each row's work is taken from the rest, so that no
-/// sum grows large.
+/// Returns the work of a request, if it is at most `most`.
+// Each row's work is subtracted from the rest, so that no sum can overflow.
 fn work_within(view: &View<'_>, ask: &Ask, most: u64) -> Option<u64>
     requires few { length view.now.starts.now < 2 ^ 32 }
     ensures { result ≡ work_if_within most (work_of (point_state view.now) ask.now) }
@@ -45,7 +45,7 @@ fn work_within(view: &View<'_>, ask: &Ask, most: u64) -> Option<u64>
     Some(most - left)
 }
 
-/// How many connectors have an active transaction.
+/// Counts the connectors with an active transaction.
 fn active_count(starts: &[Option<Instant>]) -> u32
     requires few { length starts.now < 2 ^ 32 }
     ensures { result ≡ active_count starts.now }
@@ -59,12 +59,14 @@ fn active_count(starts: &[Option<Instant>]) -> u32
     count
 }
 
-/// How often a row at a connector may be looked at, where so many connectors have a transaction.
+/// Returns how many limits may read a row at a connector, if `active` connectors have a
+/// transaction.
 fn looks_at(active: u32, asked: u32, connector: u32) -> u64
     ensures looks { result ≡ looks_at active asked connector }
     ensures few { result ≤ 4_294_967_296 }
 {
     if connector == 0 {
+        // A row at connector 0 bounds the whole point, and may be the default of each connector.
         if asked == 0 { u64::from(active) + 1 } else { 2 }
     } else if asked == 0 || asked == connector {
         1
@@ -73,7 +75,7 @@ fn looks_at(active: u32, asked: u32, connector: u32) -> u64
     }
 }
 
-/// How often the limit of a row changes at most within so many seconds.
+/// Returns how often the limit of a row can change within `duration` seconds, at most.
 fn changes_of(row: &Row, duration: u32) -> u64
     requires { duration ≤ max_duration }
     ensures changes { result ≡ changes_of row.now duration }
@@ -83,7 +85,7 @@ fn changes_of(row: &Row, duration: u32) -> u64
     (periods + 2) * turns_within(row.profile.kind, duration) + 2
 }
 
-/// How often a schedule of a kind comes to the same offset at most within so many seconds.
+/// Returns how often a schedule of a kind can reach the same offset within `duration` seconds.
 fn turns_within(kind: Kind, duration: u32) -> u64
     requires { duration ≤ max_duration }
     ensures turns { result ≡ turns_within kind duration }

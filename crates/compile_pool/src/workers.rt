@@ -20,8 +20,8 @@ use std::thread::Threads;
 use sweep_compiler::Compiled;
 use version_store::{Book, Job, Shared};
 
-/// What a job asks for, compiled for what its point had when it was taken. Where memory runs out,
-/// that is the answer.
+/// Compiles the schedule of a job for the book that its point had when it was taken. If memory runs
+/// out, that is the answer.
 fn compile_job(alloc: Global, job: Job) -> (u64, Compiled)
     ensures number { result.0 ≡ job.number }
     ensures compiled { IsOfJob job result.1 }
@@ -30,7 +30,7 @@ fn compile_job(alloc: Global, job: Job) -> (u64, Compiled)
     (number, Compiled::make(alloc, book, ask))
 }
 
-/// Posts what was compiled. What the book refuses is dropped: its request was answered or handed
+/// Posts a compiled answer, or drops it if the book refuses it: its request was answered or handed
 /// out meanwhile.
 fn post_or_drop<C: Ledger, A: Ledger, N: ListName>(
     book: &mut Book<C, A, N>,
@@ -42,8 +42,8 @@ fn post_or_drop<C: Ledger, A: Ledger, N: ListName>(
     let _ = book.post(number, compiled);
 }
 
-/// Compiles a job outside the lock, posts the answer under it, and wakes who waits. So does a
-/// worker, and a session whose job can't be sent to one.
+/// Compiles a job outside the lock, posts the answer under it, and wakes the session that waits.
+/// Workers call it, and sessions that send no job to a worker.
 pub fn answer_job<C: Ledger, A: Ledger, R: Wait, N: ListName>(
     rt: &R,
     alloc: Global,
@@ -53,12 +53,14 @@ pub fn answer_job<C: Ledger, A: Ledger, R: Wait, N: ListName>(
     let (number, compiled) = compile_job(alloc, job);
     let mut book = shared.lock(rt);
     post_or_drop(&mut book, number, compiled);
+    // Unlocked before the wake-up, since the woken session locks the book first.
     drop(book);
     shared.wake_for(number);
 }
 
-/// Answers a request that nobody waits for any more by that memory ran out, which is right for each,
-/// so that no worker begins it. It keeps an answer that it has.
+/// Answers a request that no client waits for any more by `OutOfMemory`, so that no worker begins
+/// it. A request with an answer keeps that.
+// `OutOfMemory` is a right answer to every request, and no session has to be woken for it.
 pub fn answer_unmade<C: Ledger, A: Ledger, R: Wait, N: ListName>(
     rt: &R,
     shared: &Shared<C, A, N>,
@@ -71,7 +73,7 @@ pub fn answer_unmade<C: Ledger, A: Ledger, R: Wait, N: ListName>(
     post_or_drop(&mut book, number, unmade);
 }
 
-/// A job that is to be compiled, since its request has no answer yet. Else it comes back as an
+/// Returns a job whose request has no answer yet, to be compiled. Otherwise it comes back as an
 /// error: its session has ended, or the central system is stopped.
 fn job_to_begin<C: Ledger, A: Ledger, N: ListName>(
     book: &Book<C, A, N>,
@@ -88,8 +90,8 @@ fn job_to_begin<C: Ledger, A: Ledger, N: ListName>(
     }
 }
 
-/// Answers jobs, one after the other, until all senders of the channel are gone. One that nobody
-/// waits for any more is dropped.
+/// Answers jobs, one after the other, until all senders of the channel are gone. Drops a job whose
+/// request has an answer, or isn't kept.
 pub fn worker<C: Ledger, A: Ledger, R: Wait, G: Gate, N: ListName>(
     rt: &R,
     alloc: Global,
@@ -102,6 +104,7 @@ pub fn worker<C: Ledger, A: Ledger, R: Wait, G: Gate, N: ListName>(
             break;
         };
         gate.enter(job.number());
+        // The guard is dropped at the end of this statement: the lock isn't held while compiling.
         let begun = job_to_begin(&shared.lock(rt), job);
         if let Ok(job) = begun {
             gate.begin(job.number());
@@ -111,7 +114,7 @@ pub fn worker<C: Ledger, A: Ledger, R: Wait, G: Gate, N: ListName>(
 }
 
 /// Answers jobs on this thread and on up to `workers - 1` more, until all senders of the channel
-/// are gone. Gives how many threads did so: fewer than `workers` where a thread couldn't be made.
+/// are gone. Returns the number of these threads: fewer than `workers` if one couldn't be made.
 pub fn run_pool<
     C: Ledger + Send + Sync,
     A: Ledger + Send + Sync,
@@ -145,6 +148,7 @@ pub fn run_pool<
                     ran += 1;
                 }
             }
+            // This thread works too, so that jobs are answered even if no thread can be made.
             worker(rt, alloc, jobs, shared, gate);
             ran
         },

@@ -1,4 +1,4 @@
--- What entries lead to, one after another.
+-- The states that entries lead to, one after another.
 use Rattle.std.proofs.Common.{◌≡◌, ℕ, true, List, [], ◌∷◌, ◌++◌, Result, Ok, Err, refl, sym, ap, ◌∙◌, subst, append_assoc}
 use Rattle.std.specs.Prelude.{Bool, flat_map}
 use Rattle.append_log.specs.Contents.{Contents, file_of, with_added}
@@ -21,7 +21,7 @@ pub append_nil : {A : Type 0} (xs : List A) → xs ++ [] ≡ xs
 append_nil [] = refl
 append_nil {A} (x ∷ xs) = ap (λ (rest : List A). x ∷ rest) (append_nil xs)
 
--- two ends of one list are one
+-- two last items of one list are equal
 same_end : {A : Type 0} (before behind : List A) (x y : A) → before ++ x ∷ [] ≡ behind ++ y ∷ []
     → x ≡ y
 same_end [] [] x y same = cc same
@@ -38,7 +38,7 @@ last_is_one : (states : List MachineState) (old new : MachineState) → EndsAt s
 last_is_one states old new was is =
     same_end was.0 is.0 (forget old) (forget new) (sym was.1 ∙ is.1)
 
--- one account goes on with another
+-- one account continues another
 pub goes_on : (first middle last : List MachineState) (entries others : List NumberedEntry)
     → AccountsFor first entries middle → AccountsFor middle others last
     → AccountsFor first (entries ++ others) last
@@ -54,7 +54,7 @@ goes_on first _ _ entries _ accounts (more middle states later others entry behi
     moved [] = refl
     moved (e ∷ es) = ap (λ (rest : List NumberedEntry). e ∷ rest) (moved es)
 
--- none are noted
+-- no step is noted
 pub none_noted : (first last : List MachineState) (entries : List NumberedEntry) → first ≡ last
     → entries ≡ [] → AccountsFor first entries last
 none_noted first last entries same none =
@@ -83,13 +83,13 @@ step_noted named first last before after entries items entry number accounts sam
       leads = made.leads;
     }))
 
--- the texts of both
+-- the texts of two lists of entries
 pub texts_of_both : (entries others : List NumberedEntry)
     → texts_of (entries ++ others) ≡ texts_of entries ++ texts_of others
 texts_of_both entries others =
     flat_map-append (λ (e : NumberedEntry). entry_text e.entry e.number) entries others
 
--- a file goes on from what it has
+-- a file goes on from its own contents
 pub from_itself : (file : FileState) → GoesOn file file
 from_itself file = record {
   entries = [];
@@ -97,7 +97,7 @@ from_itself file = record {
   accounts = nothing file.states;
 }
 
--- and with the lines of others, up to where these lead
+-- and with the lines of other entries, up to the states that these lead to
 pub lines_added : (start : FileState) (old new : Contents) (states : List MachineState)
     (taken : NotedState) (lines : List ℕ)
     → GoesOn start (record { bytes = file_of old; states = states }) → taken.first ≡ states
@@ -123,7 +123,7 @@ bind_ok : (result : Result MachineState RestoreFault) (state : MachineState)
 bind_ok (Ok one) state is = is
 bind_ok (Err fault) state is = absurd (cc is)
 
--- a line leads to the same where requests are forgotten
+-- a line leads to the same state if requests are forgotten
 line_forgets : NotedRunsAreRestored → (old new : MachineState) (line : LineState)
     → restored old line ≡ Ok new → restored (forget old) line ≡ Ok (forget new)
 line_forgets law old new line is =
@@ -137,7 +137,7 @@ bind_goes : (result : Result MachineState RestoreFault)
 bind_goes (Ok next) first second middle new goes is = goes next is
 bind_goes (Err fault) first second middle new goes is = absurd (cc is)
 
--- one line more
+-- one more line
 line_behind : (old middle new : MachineState) (lines : List LineState) (line : LineState)
     → restored_lines old lines ≡ Ok middle → restored middle line ≡ Ok new
     → restored_lines old (lines ++ line ∷ []) ≡ Ok new

@@ -1,4 +1,4 @@
--- A step that is about no request does the same where requests are forgotten.
+-- A step that isn't about a request has the same effect if requests are forgotten.
 use Rattle.std.proofs.Common.{◌≡◌, ℕ, Bool, true, false, cond, not, List, [], ◌∷◌, Option, Some, None, is_some, Result, Ok, Err, refl, sym, ap, ◌∙◌, subst}
 use Rattle.std.specs.Prelude.{slice_set}
 use Rattle.ocpp_scalars.specs.ResultSteps.{◌>>=◌}
@@ -47,7 +47,7 @@ abbrev IsSame : Work → Type 0
 IsSame (AtPoint at) = IsSameThere at
 IsSame other = Unit {0}
 
--- how steps come to their point: by its name, over a link, and by its audit
+-- the ways in which steps find their point: by its name, over a link, and by its audit
 abbrev by_name : PointStep
 by_name = at_point [] (λ site numbers point. Err UnknownConnector)
 
@@ -78,7 +78,7 @@ start_same : (began : Began) (numbers : Numbers)
 start_same Fresh numbers = refl
 start_same (Repeat number) numbers = refl
 
--- no step looks at requests, nor at their numbers
+-- no step depends on requests, or on their numbers
 step_same : (step : Step) → IsSame (work step)
 step_same (steps.Take take) = tt
 step_same (steps.Compile number) = tt
@@ -141,7 +141,7 @@ done_reply : (old : MachineState) (place : ℕ) (reply : Reply) (deed : Option D
 done_reply old place reply None = refl
 done_reply old place reply (Some deed) = refl
 
--- what a step at a point comes to
+-- the outcome of a step at a point
 pub there_same : (old : MachineState) (step : Step) (at : PointStep) → work step ≡ AtPoint at
     → (reply : Reply) (new : MachineState) → made_there old step at ≡ Ok (made_with reply new)
     → made_there (forget old) step at ≡ Ok (made_with reply (forget new))

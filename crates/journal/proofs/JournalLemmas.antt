@@ -17,7 +17,7 @@ use Rattle.journal.specs.Journal.{AreReadAs, IsRestored, IsUnrestored, restored_
 use Rattle.journal.specs.ByCases.Restore.{LeadsByLine}
 use Rattle.journal.proofs.LostLemmas.{lines_join}
 
--- these lines were read of a text, and lead to the new state; the next one has this number
+-- these lines were read from a text, and lead to the new state; the next one has this number
 pub record IsReadSoFar (old : MachineState) (text rest : List ℕ) (number : ℕ) (new : MachineState)
     : Type 0 where
   pub texts : List (List ℕ)

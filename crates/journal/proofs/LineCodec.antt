@@ -1,4 +1,4 @@
--- A line that is written is read back, and no line feed is inside.
+-- A written line is read back, and no line feed is inside.
 use Rattle.std.proofs.Common.{◌≡◌, ◌≢◌, ℕ, zero, suc, ◌+◌, ◌/◌, ◌%◌, ◌<◌, ◌≤◌, Bool, true, false, cond, eqb, ◌||◌, ◌&&◌, nat_lt, List, [], ◌∷◌, ◌++◌, length, get_or, Some, Ok, codes, refl, ap, ◌∙◌, arith, append_assoc, length-append}
 use Rattle.std.specs.Prelude.{All}
 use Rattle.std.specs.Fmt.{decimal}
@@ -72,7 +72,7 @@ visible_decimal n within =
     (λ n digits above are. visible_both are (visible_one (48 + n % 10) (omega arith)))
     n (omega (arith, within))
 
--- ---- the word that a text begins with
+-- ---- the first word of a text
 
 test_of_other : (b c : ℕ) → b ≢ c → eqb b c ≡ false
 test_of_other b c other = elim (eqb b c) as (λ t. eqb b c ≡ t → t ≡ false) [
@@ -122,7 +122,7 @@ number_and_rest n rest within =
     rw (word_read (decimal n) rest (decimal_nonempty n (omega (arith, within))) (no_space (decimal n) (visible_decimal n within)))
     (rw (number_read n within) refl)
 
--- ---- what is noted
+-- ---- the noted event
 
 abbrev named : NotedState → LineWord
 named (message sides.Operator number frame) = words.Operator

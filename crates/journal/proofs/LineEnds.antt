@@ -8,7 +8,7 @@ use Rattle.std.proofs.lemmas.List.Elements.{All-nil, All-cons}
 use Rattle.journal.specs.Line.{HasNoLineFeed}
 use Rattle.journal.specs.Lines.{with_feed, SplitsAtLastFeed}
 
--- what stands before a line feed, as lines: at least one
+-- the text before a line feed, as lines: at least one
 record AreLines (front : List ℕ) : Type 0 where
   first : List ℕ
   more : List (List ℕ)
@@ -43,7 +43,7 @@ lines_before (b ∷ front) = go (eqb b 10) refl (lines_before front)
       each = later.each;
     }
 
--- a text that is cut behind its last line feed, or at its beginning where it has none
+-- a text that is split after its last line feed, or at its beginning if it has none
 pub cut_text : (text : List ℕ) (end : ℕ) → end ≤ length text
     → (0 < end → get_or text (end - 1) 0 ≡ 10) → HasNoLineFeed (drop end text)
     → SplitsAtLastFeed text (take end text) (drop end text)

@@ -53,7 +53,7 @@ put_together line =
     ∙ ap (λ (t : List ℕ). first ++ t) (pieces line.noted)
     )
 
--- ---- and of an entry: the number that the line has makes no difference to it
+-- ---- and from an entry: the number of the line makes no difference to it
 
 record IsSame (noted : NotedState) (number : ℕ) : Type 0 where
   word : word_of (with_number noted number) ≡ word_of noted

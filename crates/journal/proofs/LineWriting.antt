@@ -1,4 +1,4 @@
--- How a message is written on one line, piece by piece.
+-- A message is written on one line, piece by piece.
 use Rattle.std.proofs.Common.{◌≡◌, ◌≢◌, ℕ, zero, suc, ◌<◌, true, false, cond, eqb, List, [], ◌∷◌, ◌++◌, map, length, get_or, refl, sym, ap, ◌∙◌, append_assoc, Result, Ok, Err, arith}
 use Rattle.std.specs.Prelude.{is_ok}
 use Rattle.std.proofs.lemmas.Bool.{eqb-true}
@@ -47,7 +47,7 @@ pub no_return : (text : List ℕ) → Lacks 13 text → without_returns text ≡
 no_return text lacks =
     stays (λ byte. cond (eqb byte 13) 9 byte) 13 (λ b other. rw (other_test b 13 other) refl) text lacks
 
--- ---- one that is cut at the first of them
+-- ---- a message that is split at the first of them
 
 pub cut_at_feed : (text piece others : List ℕ) → text ≡ piece ++ 10 ∷ others → Lacks 10 piece
     → on_one_line text ≡ without_returns piece ++ 9 ∷ on_one_line others
@@ -61,7 +61,7 @@ cut_at_return text piece others is lacks =
     ap without_returns is ∙ map-append (λ byte. cond (eqb byte 13) 9 byte) piece (13 ∷ others)
     ∙ ap (λ (t : List ℕ). t ++ 9 ∷ without_returns others) (no_return piece lacks)
 
--- ---- a piece and a tab more
+-- ---- one more piece and a tab
 
 pub record GoesOn (start new more whole : List ℕ) : Type 0 where
   pub done : List ℕ
@@ -90,7 +90,7 @@ last_piece start old new done piece left whole was pieced last makes =
     pieced ∙ ap (λ (t : List ℕ). t ++ piece) was ∙ append_assoc start done piece
     ∙ ap (λ (t : List ℕ). start ++ (done ++ t)) (sym last) ∙ ap (λ (t : List ℕ). start ++ t) makes
 
--- where memory lasts for it
+-- if memory lasts for it
 pub ends : {A E : Type 0} (result : Result A E) (start old new done piece left whole : List ℕ)
     → old ≡ start ++ done → new ≡ cond (is_ok result) (old ++ piece) old → left ≡ piece
     → done ++ left ≡ whole → Appends result start new whole
@@ -99,7 +99,7 @@ ends (Ok a) start old new done piece left whole was pieced last makes =
 ends (Err e) start old new done piece left whole was pieced last makes =
     record { behind = done; is = pieced ∙ was }
 
--- also where it was appended by a call
+-- also if a call appended it
 pub ends_by_call : {A E : Type 0} (result : Result A E)
     (start old new done piece left whole : List ℕ)
     → old ≡ start ++ done → Appends result old new piece → left ≡ piece → done ++ left ≡ whole

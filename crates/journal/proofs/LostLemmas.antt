@@ -1,4 +1,4 @@
--- What the loss of a link does, and losses one after another.
+-- The effect of the loss of a link, and losses one after another.
 use Rattle.std.proofs.Common.{◌≡◌, ℕ, zero, suc, ◌+◌, ◌<◌, Bool, true, false, cond, List, [], ◌∷◌, ◌++◌, length, get_or, Option, Some, None, Result, Ok, Err, inl, inr, refl, sym, ap, ◌∙◌, subst, append_assoc, append-nil, arith}
 use Rattle.std.specs.Prelude.{slice_set, slice_get, flat_map}
 use Rattle.std.specs.List.{AllByRecursion}
@@ -155,7 +155,7 @@ still_none old new place gives none point is =
     gives.none point.id (none point
     (ap (λ (site : SiteState). slice_get site.points place) (sym gives.site) ∙ is))
 
--- one place more
+-- one more place
 pub one_place_more : (old new : MachineState) (place : ℕ) → GivesNoLink old new
     → ((k : ℕ) → k < place → HasNoLinkAt old k) → HasNoLinkAt new place
     → (k : ℕ) → k < place + 1 → HasNoLinkAt new k
@@ -173,7 +173,7 @@ entry_at [] place d within = absurd (omega (arith, within))
 entry_at (point ∷ points) zero d within = refl
 entry_at (point ∷ points) (suc place) d within = entry_at points place d (omega (arith, within))
 
--- where no place has a link, no identity has one
+-- if no place has a link, no identity has one
 pub no_links : (state : MachineState)
     → ((k : ℕ) → k < length state.site.points → HasNoLinkAt state k) → HasNoLinks state
 no_links state none point = go (place_of state.site point) refl

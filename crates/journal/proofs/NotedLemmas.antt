@@ -1,4 +1,4 @@
--- What is noted of a step leads where the step led.
+-- The noted event of a step leads to the step's state.
 use Rattle.std.proofs.Common.{◌≡◌, ℕ, Bool, true, false, cond, Option, Some, None, Result, Ok, Err, refl, sym, ap, ◌∙◌, eqb}
 use Rattle.std.proofs.lemmas.Bool.{eqb-false}
 use Rattle.ocpp_scalars.specs.ResultSteps.{◌>>=◌}
@@ -30,7 +30,7 @@ pub same_number : (number : ℕ) → number_fault (Some number) (Some number) �
 same_number number =
     ap (λ (same : Bool). cond same None (Some (OtherNumber number number))) (is_itself number)
 
--- a step that was made, with its number
+-- a made step, with its number
 pub made_again : (state : MachineState) (step : Step) (made : Made) (written : Option ℕ)
     → stepped no_answer state step ≡ Ok made
     → number_fault written (number_drawn made.reply made.after.numbers.version) ≡ None

@@ -1,4 +1,4 @@
--- A line leads to the same where requests are forgotten, and so do the lines of a run.
+-- A line leads to the same state if requests are forgotten, and so do the lines of a run.
 use Rattle.std.proofs.Common.{◌≡◌, ℕ, Bool, true, false, cond, List, [], ◌∷◌, ◌++◌, Option, Some, None, Result, Ok, Err, refl, sym, ap, ◌∙◌, subst}
 use Rattle.ocpp_scalars.specs.ResultSteps.{◌>>=◌}
 use Rattle.ocpp_scalars.specs.declared.refusal.Refusal.{Refusal}
@@ -88,7 +88,7 @@ noted_at state line (noted_as.sent link call) step is =
 noted_at state line (noted_as.lost link) step is =
     same_step (steps.Lost line.point link) step (is_at _ _ refl) is
 
--- ---- and doesn't look at requests
+-- ---- and doesn't depend on requests
 
 job_same : (old : MachineState) (found : Option ℕ) (call : ℕ)
     → audit_job_at (forget old) found call ≡ audit_job_at old found call

@@ -1,4 +1,4 @@
--- What a call on the book makes of its state, as what a line makes of it.
+-- The effect of a call on the book's state, as the effect of a line.
 use Rattle.std.proofs.Common.{◌≡◌, ℕ, ◌⊎◌, inl, inr, Bool, true, false, cond, eqb, List, Option, Some, None, Result, Ok, Err, refl, sym, ap, ◌∙◌, subst, arith}
 use Rattle.ocpp_scalars.specs.ResultSteps.{◌>>=◌}
 use Rattle.ocpp_scalars.specs.declared.refusal.Refusal.{Refusal}
@@ -25,7 +25,7 @@ use Rattle.journal.specs.ByCases.Restore.{Leads, judged}
 abbrev pub made_so : Reply → MachineState → Made
 made_so reply after = record { reply = reply; after = after }
 
--- ---- what a call made
+-- ---- a call that made a step
 
 pub step_made : (old new : StoreState) (step : Step) (reply : Reply) → Makes old step reply new
     → stepped no_answer old.present step ≡ Ok (made_so reply new.present)
@@ -33,13 +33,13 @@ step_made old new step reply (inl adds) = adds.made
 step_made old new step reply (inr alone) =
     alone.made ∙ ap (λ (s : StoreState). Ok (made_so reply s.present)) (sym alone.kept)
 
--- what is no event leaves the state
+-- a reply that isn't an event leaves the state
 pub left : (old new : StoreState) (step : Step) (reply : Reply) → Makes old step reply new
     → is_event old.present reply ≡ false → new.present ≡ old.present
 left old new step reply (inl adds) none = absurd (cc (none, adds.event))
 left old new step reply (inr alone) none = ap (λ (s : StoreState). s.present) alone.kept
 
--- a change that draws no number is no event
+-- a change that draws no number isn't an event
 pub no_number : (old : MachineState) (step : Step) (reply : Reply) (version : ℕ)
     → is_change step ≡ true → is_reply_to step reply ≡ true → number_drawn reply version ≡ None
     → is_event old reply ≡ false
@@ -67,9 +67,9 @@ change_folds (steps.Answer number) change = absurd (cc change)
 change_folds steps.Finish change = absurd (cc change)
 change_folds step change = refl
 
--- ---- what it leads to
+-- ---- the state that it leads to
 
--- a fault that leaves the state is that nothing was drawn
+-- a fault that leaves the state means that nothing was drawn
 nothing_drawn : (written drawn : Option ℕ) (fault : RestoreFault)
     → number_fault written drawn ≡ Some fault → is_made fault ≡ false → drawn ≡ None
 nothing_drawn None drawn fault is other = absurd (cc is)
@@ -87,7 +87,7 @@ nothing_drawn (Some written) (Some drawn) fault is other = go (eqb written drawn
 abbrev pub told : Option RestoreFault → Result Unit RestoreFault
 told fault = unless_fault fault tt
 
--- the step was made: where the number is the one that is written, that is what was wanted
+-- the step was made: with the written number, it led to the wanted state
 pub leads : (old after : MachineState) (written : Option ℕ) (step : Step) (reply : Reply)
     (result : Result Unit RestoreFault)
     → stepped no_answer old step ≡ Ok (made_so reply after)
@@ -149,7 +149,7 @@ leads_refused old new written step refusal fault cause is kept = record {
   kept = λ other. ap (λ (s : StoreState). s.present) kept;
 }
 
--- memory ran out before that
+-- memory ran out before the step
 pub leads_short : (wanted : Result MachineState RestoreFault) (old new : MachineState) → new ≡ old
     → Leads {A = Unit} wanted old (Err faults.OutOfMemory) new
 leads_short wanted old new kept = record { done = tt; fault = inr refl; kept = λ made. kept }

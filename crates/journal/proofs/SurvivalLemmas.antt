@@ -1,4 +1,4 @@
--- What a crash leaves of a file leads to each state that a receipt shows.
+-- The bytes that a crash leaves of a file lead to each state that a receipt shows.
 use Rattle.std.proofs.Common.{◌≡◌, ◌⊎◌, inl, inr, ⊎_elim, ℕ, List, [], ◌∷◌, ◌++◌, refl, sym, ap, ◌∙◌, append_assoc}
 use Rattle.std.specs.List.{AllByRecursion}
 use Rattle.append_log.specs.Contents.{Contents, IsFirstPart, MayLeave}
@@ -10,7 +10,7 @@ use Rattle.journal.specs.declared.numbered_entry.NumberedEntry.{NumberedEntry}
 use Rattle.journal.specs.Account.{AccountsFor, nothing, more, AnsweredSurvives, AnsweredSurvivesCalls, GoesOn, ReceiptState, texts_of}
 use Rattle.journal.proofs.AccountLemmas.{append_nil, led, texts_of_both}
 
--- one of a list with one more is that, or was in the list
+-- an item of a list with one more item is that item, or was in the list
 within : {A : Type 0} (before behind rest : List A) (x last : A)
     → before ++ x ∷ behind ≡ rest ++ last ∷ []
     → (behind ≡ []) ⊎ ((others : List A) × (rest ≡ before ++ x ∷ others))
@@ -26,7 +26,7 @@ within (b ∷ before) behind (r ∷ rest) x last same =
     (λ found. inr (found.0, cc (first, found.1)))
     (within before behind rest x last others)
 
--- entries of which the first ones lead to a state
+-- entries whose first ones lead to a state
 record Reaches (first : List MachineState) (entries : List NumberedEntry) (state : MachineState)
     : Type 0 where
   part : List NumberedEntry
@@ -48,7 +48,7 @@ further first entries entry state reaches = record {
   is = reaches.is;
 }
 
--- each state that entries account for was there before, or the first of them lead to it
+-- each state that entries account for was there before, or the first entries lead to it
 reached : (first last : List MachineState) (entries : List NumberedEntry) (state : MachineState)
     → AccountsFor first entries last → HasState last state
     → HasState first state ⊎ Reaches first entries state
@@ -69,7 +69,7 @@ reached _ _ _ state (more first states later entries entry accounts leads) has =
     (reached first states entries state accounts (has.0, found.0, found.1)))
     (within has.0 has.1 states (forget state) leads.is_next.0 (sym has.2 ∙ leads.is_next.1))
 
--- what is left begins with the start and a first part of the entries
+-- the bytes that are left begin with those of the start and a first part of the entries
 left_begins : (receipt : ReceiptState) (contents : Contents) (left : List ℕ)
     (goes : GoesOn receipt.start receipt.synced) (part rest : List NumberedEntry)
     → goes.entries ≡ part ++ rest → IsFirstPart receipt.synced.bytes contents.synced

@@ -1,4 +1,4 @@
--- What a file had at its syncs is still there.
+-- The contents of a file at its syncs are still there.
 use Rattle.std.proofs.Common.{◌≡◌, ℕ, List, [], ◌∷◌, ◌++◌, refl, sym, ap, ◌∙◌, subst, append_assoc}
 use Rattle.std.specs.Prelude.{Bool, Option, Some, None}
 use Rattle.std.specs.List.{AllByRecursion}
@@ -16,7 +16,7 @@ longer : (part bytes more : List ℕ) → IsFirstPart part bytes → IsFirstPart
 longer part bytes more is =
     (is.0 ++ more, ap (λ t. t ++ more) is.1 ∙ append_assoc part is.0 more)
 
--- what stood there at each sync stands there behind more bytes
+-- the contents at each sync are still there with more bytes after them
 stand_on : (start : FileState) (bytes more : List ℕ) (syncs : List FileState)
     → AllByRecursion (StandsSince start bytes) syncs
     → AllByRecursion (StandsSince start (bytes ++ more)) syncs
@@ -38,7 +38,7 @@ all_at P (y ∷ before) x behind all = all_at P before x behind all.1
 
 -- ---- a sync
 
--- what the file has on its disk after a sync
+-- the contents of the file on its disk after a sync
 abbrev pub synced_now : (written : WrittenState) → FileState
 synced_now written = record { bytes = file_of written.contents; states = written.states }
 
@@ -57,7 +57,7 @@ is_synced written files is =
           (record { goes_on = is.lines; stands = ([], sym (append_nil now)) });
     }
 
--- ---- as the code has it
+-- ---- the code's view
 
 pub last_is : (none file : FileState) (before : List FileState) → last_of none (before ++ file ∷ [])
     ≡ file
@@ -68,7 +68,7 @@ pub first_is : (none start : FileState) (files others : List FileState) → file
     → first_of none files ≡ start
 first_is none start files others are = ap (λ (fs : List FileState). first_of none fs) are
 
--- what a receipt of a sync shows
+-- the contents that a receipt of a sync shows
 pub receipt_is : (recorded : List MachineState) (files : List FileState)
     (sync : HasSync files recorded)
     → receipt_of recorded (Some files) ≡ record { start = sync.start; synced = sync.synced }
@@ -85,7 +85,7 @@ states_of named recorded None given = refl
 states_of named recorded (Some files) sync =
     ap (λ (r : ReceiptState). r.synced.states) (receipt_is recorded files sync) ∙ sync.states_are
 
--- of a beginning of a file's syncs
+-- the same for a beginning of a file's syncs
 pub is_among : (recorded : List MachineState) (known files : List FileState)
     → HasSync known recorded → IsPrefix known files → IsAmong (receipt_of recorded (Some known)) files
 is_among recorded known files sync begins =
@@ -99,7 +99,7 @@ is_among recorded known files sync begins =
           (append_assoc sync.before (sync.synced ∷ []) begins.0);
     })
 
--- what a receipt was given for stands there since
+-- the contents that a receipt was given for have been there since
 pub stands_since : (written : WrittenState) (files : List FileState) (receipt : ReceiptState)
     → IsWritten written files → IsAmong receipt files
     → (receipt.start ≡ written.start) × StandsSince written.start written.contents.synced receipt.synced
@@ -114,7 +114,7 @@ stands_since written files receipt is among =
           (StandsSince written.start written.contents.synced) fs) (sym rest) is.stand),
     )
 
--- what a receipt shows covers whatever it begins with
+-- a receipt covers each beginning of the states that it shows
 pub covers : (named : Bool) (recorded others : List MachineState)
     (files : Option (List FileState)) (receipt : ReceiptState)
     → receipt_of recorded files ≡ receipt → IsGiven named recorded files
@@ -141,7 +141,7 @@ known_among named recorded files receipt known all view given is begins =
 
 -- ---- a file's calls
 
--- a file begins with what it has at the start
+-- a file begins with its contents at the start
 pub begun_so : (contents : Contents) (history : History) (states : List MachineState)
     (taken : NotedState) (files : List FileState)
     → files ≡ (record { bytes = file_of contents; states = states }) ∷ [] → taken.first ≡ states
@@ -184,7 +184,7 @@ added_so old new before after states copied taken cleared files lines is noted l
           is.stand;
     })
 
--- what is always so doesn't speak of the history
+-- the invariant doesn't mention the history
 moved : (contents : Contents) (before after : History) (states : List MachineState)
     (taken : NotedState) (files : List FileState)
     → IsWritten (written_of contents before states taken files) files
@@ -227,7 +227,7 @@ synced_so old new before after states taken files others is made added =
     })
     (files ++ now ∷ [])) (sym made) (is_synced written files (moved old before after states taken files is))))
 
--- and what is given then shows just that
+-- and the receipt shows just these contents
 pub receipt_so : (old new : Contents) (states copied : List MachineState)
     (files others front : List FileState) (receipt : ReceiptState)
     → new ≡ only_synced (file_of old)

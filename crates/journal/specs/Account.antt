@@ -1,4 +1,5 @@
--- What the lines of a journal account for: each leads from one recorded state to the next.
+-- The states that the lines of a journal account for: each line leads from one recorded state to
+-- the next.
 use Rattle.std.specs.Prelude.{ℕ, ◌≡◌, ◌⊎◌, Bool, true, false, List, [], ◌∷◌, ◌++◌, flat_map, Option, Some, None, Ok}
 use Rattle.std.specs.List.{AllByRecursion}
 use Rattle.append_log.specs.Contents.{Contents, IsFirstPart, MayLeave, file_of}
@@ -14,7 +15,7 @@ use Rattle.journal.specs.declared.numbered_entry.NumberedEntry.{NumberedEntry}
 abbrev pub texts_of : List NumberedEntry → List ℕ
 texts_of entries = flat_map (λ (e : NumberedEntry). entry_text e.entry e.number) entries
 
--- An entry is a line that leads from the last state that was recorded to the next one.
+-- An entry is a line that leads from the last recorded state to the next one.
 pub record LeadsOn (entry : NumberedEntry) (states later : List MachineState) : Type 0 where
   pub line : LineState
   pub entry_is : IsEntryOf entry.entry line
@@ -25,7 +26,7 @@ pub record LeadsOn (entry : NumberedEntry) (states later : List MachineState) : 
   pub is_next : IsNextOf states later
   pub leads : restored old (numbered line entry.number) ≡ Ok new
 
--- Entries lead, one after another, from the last state that was recorded first to the last of the
+-- Entries lead, one after another, from the last of the states recorded first to the last of the
 -- later ones.
 pub data AccountsFor : List MachineState → List NumberedEntry → List MachineState → Type 0 where
   nothing : (states : List MachineState) → AccountsFor states [] states
@@ -36,47 +37,47 @@ pub data AccountsFor : List MachineState → List NumberedEntry → List Machine
 
 -- steps that were noted, and not written yet
 pub record NotedState : Type 0 where
-  -- what was recorded before the first of them
+  -- the states recorded before the first of them
   pub first : List MachineState
   pub entries : List NumberedEntry
-  -- and with the last one
+  -- the states recorded with the last one
   pub last : List MachineState
 
 abbrev pub IsNoted : NotedState → Type 0
 IsNoted noted = AccountsFor noted.first noted.entries noted.last
 
--- ---- what a file has
+-- ---- the contents of a file
 
--- what stands in a file, and what was recorded by its last line
+-- the bytes of a file, and the states recorded by its last line
 pub record FileState : Type 0 where
   pub bytes : List ℕ
   pub states : List MachineState
 
--- Behind what stood in a file stand the lines of entries, which lead on from what was recorded
--- then.
+-- The bytes of a file at the start are followed by the lines of entries, which lead on from the
+-- states recorded then.
 pub record GoesOn (start later : FileState) : Type 0 where
   pub entries : List NumberedEntry
   pub bytes_are : later.bytes ≡ start.bytes ++ texts_of entries
   pub accounts : AccountsFor start.states entries later.states
 
--- what a receipt shows: what a file had at the start, and what it had on the disk at a sync
+-- the contents that a receipt shows: those of a file at the start, and those on its disk at a sync
 pub record ReceiptState : Type 0 where
   pub start : FileState
   pub synced : FileState
 
--- that of a book whose states aren't recorded
+-- the contents for a book whose states aren't recorded
 abbrev pub nothing_at : List MachineState → FileState
 nothing_at states = record { bytes = []; states = states }
 
--- Where states are recorded, the one with which some ended is among those of a receipt.
+-- If states are recorded, the last of some is among those of a receipt.
 abbrev pub Covers : Bool → ReceiptState → List MachineState → Type 0
 Covers is_recorded receipt states =
     (state : MachineState) → is_recorded ≡ true → EndsAt states state
     → HasState receipt.synced.states state
 
--- ---- what that means
+-- ---- the meaning of entries
 
--- Entries are lines that a restart restores: they lead from the one state to the other, but for
+-- Entries are lines that a restart restores: they lead from the one state to the other, except for
 -- requests, which no line keeps.
 pub record AreRestored (entries : List NumberedEntry) (old new : MachineState) : Type 0 where
   pub lines : List LineState
@@ -89,7 +90,7 @@ EntriesAreRestored =
     → AccountsFor first entries last → EndsAt first old → EndsAt last new
     → AreRestored entries old new
 
--- What is left of a file begins with what stood there at the start, and then with lines that lead
+-- The bytes that are left of a file begin with its bytes at the start. Then come lines that lead
 -- from the state of the start to this one. Or the state was recorded before the start.
 pub record Survives (start : FileState) (old : MachineState) (left : List ℕ) (state : MachineState)
     : Type 0 where
@@ -98,8 +99,8 @@ pub record Survives (start : FileState) (old : MachineState) (left : List ℕ) (
   pub leads : HasState start.states state
       ⊎ (restored_lines (forget old) lines ≡ Ok (forget state))
 
--- Whatever a crash leaves of a file that has on its disk what a receipt shows: each state that the
--- receipt shows survives.
+-- A file has on its disk the contents that a receipt shows. Whatever a crash leaves of it, each
+-- state that the receipt shows survives.
 abbrev pub AnsweredSurvives : Type 0
 AnsweredSurvives =
     (receipt : ReceiptState) (contents : Contents) (left : List ℕ) (old state : MachineState)
@@ -107,7 +108,7 @@ AnsweredSurvives =
     → MayLeave contents left → EndsAt receipt.start.states old
     → HasState receipt.synced.states state → Survives receipt.start old left state
 
--- The same at each moment of a call, which leaves at each what may be left of such a file.
+-- The same at each moment of a call, if the bytes left at each moment may be left of such a file.
 abbrev pub AnsweredSurvivesCalls : Type 0
 AnsweredSurvivesCalls =
     (receipt : ReceiptState) (contents : Contents) (before after : History)
@@ -121,22 +122,22 @@ AnsweredSurvivesCalls =
 
 -- a file's lines, and the steps that were taken to be written to it
 pub record WrittenState : Type 0 where
-  -- what the file had at the start
+  -- the contents of the file at the start
   pub start : FileState
   pub contents : Contents
-  -- what the file has and had, at each moment
+  -- the contents of the file at each moment so far
   pub history : History
-  -- what was recorded by its last line
+  -- the states recorded by its last line
   pub states : List MachineState
   pub taken : NotedState
 
--- what a file had at a sync: it goes on from the start, and stands on the disk since
+-- the contents of a file at a sync: they go on from the start, and have been on the disk since
 pub record StandsSince (start : FileState) (bytes : List ℕ) (synced : FileState) : Type 0 where
   pub goes_on : GoesOn start synced
   pub stands : IsFirstPart synced.bytes bytes
 
--- What is always so: the lines lead to the states, the steps that were taken lead on from there,
--- and what was there at each sync is still on the disk.
+-- The invariant: the lines lead to the states, the taken steps lead on from there, and the contents
+-- at each sync are still on the disk.
 pub record IsWritten (written : WrittenState) (files : List FileState) : Type 0 where
   pub lines : GoesOn written.start
       (record { bytes = file_of written.contents; states = written.states })
@@ -145,7 +146,7 @@ pub record IsWritten (written : WrittenState) (files : List FileState) : Type 0 
   pub files_are : files ≡ written.start ∷ syncs
   pub stand : AllByRecursion (StandsSince written.start written.contents.synced) syncs
 
--- ---- as the code has it: what a file had at the start, and then at each sync
+-- ---- the code's view: the contents of a file at the start, and then at each sync
 
 abbrev pub first_of : FileState → List FileState → FileState
 first_of none [] = none
@@ -188,7 +189,7 @@ pub record IsAmong (receipt : ReceiptState) (files : List FileState) : Type 0 wh
   pub behind : List FileState
   pub files_are : files ≡ receipt.start ∷ (before ++ receipt.synced ∷ behind)
 
--- what is always so of a receipt
+-- the invariant of a receipt
 abbrev pub IsGiven : Bool → List MachineState → Option (List FileState) → Type 0
 IsGiven is_recorded states None = is_recorded ≡ false
 IsGiven is_recorded states (Some files) = HasSync files states

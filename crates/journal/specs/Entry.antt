@@ -1,10 +1,10 @@
--- A line that is built before the step is made that draws its number.
+-- A line that is built before the step that draws its number is made.
 use Rattle.std.specs.Prelude.{ℕ, ◌≡◌, List, [], ◌++◌, codes, Bool, true, false, Option, Some, None, is_some}
 use Rattle.std.specs.Fmt.{decimal}
 use Rattle.ocpp_scalars.specs.Writing.{instant_text}
 use Rattle.journal.specs.Line.{NotedState, LineState, message, attached, sent, word_of, number_written, noted_text, on_one_line, line_text}
 
--- what stands before the number and behind it
+-- the parts before the number and after it
 pub record EntryState : Type 0 where
   pub before : List ℕ
   -- whether the step draws a number
@@ -30,29 +30,29 @@ abbrev pub entry_text : EntryState → ℕ → List ℕ
 entry_text entry number =
     entry.before ++ number_text entry.is_numbered number ++ entry.behind
 
--- whatever number is drawn, it becomes the line with that number
+-- with any drawn number, the entry becomes the line with that number
 abbrev pub IsEntryOf : EntryState → LineState → Type 0
 IsEntryOf entry line = (number : ℕ) → entry_text entry number ≡ line_text (numbered line number)
 
 -- ---- its parts
 
--- the number that a step draws, where it draws one
+-- the number that a step draws, if it draws one
 abbrev pub drawn_text : Option ℕ → List ℕ
 drawn_text None = []
 drawn_text (Some number) = decimal number
 
--- whether a step draws the number of such a line
+-- whether the step of such a line draws a number
 abbrev pub draws_number : NotedState → Bool
 draws_number noted = is_some (number_written noted)
 
--- between the point and the number that is drawn, or the line's end
+-- the part between the point and the drawn number, or up to the line's end
 abbrev pub noted_before : NotedState → List ℕ
 noted_before (message sender number frame) = []
 noted_before (attached link) = []
 noted_before (sent link call) = decimal link ++ codes " "
 noted_before noted = noted_text noted
 
--- behind the number that is drawn
+-- the part after the drawn number
 abbrev pub noted_behind : NotedState → List ℕ
 noted_behind (message sender number frame) = codes " " ++ on_one_line frame
 noted_behind noted = []

@@ -1,4 +1,4 @@
--- Requests for schedules change nothing else: a history leads where it leads without them.
+-- Requests for schedules change nothing else: a history leads to the same state without them.
 use Rattle.std.specs.Prelude.{not, List, filter}
 use Rattle.site_core.specs.State.{MachineState}
 use Rattle.site_core.specs.History.{Event, Legal}

@@ -1,4 +1,4 @@
--- The first line of a journal: its format, and the digest of the site file that it was begun with.
+-- The first line of a journal: its format, and the digest of the site file with which it was begun.
 use Rattle.std.specs.Prelude.{ℕ, ◌≡◌, List, ◌++◌, codes, length}
 use Rattle.hex.specs.Hex.{IsBytes, encode_lower}
 

@@ -12,7 +12,7 @@ use Rattle.journal.specs.Line.{LineState}
 use Rattle.journal.specs.Lines.{BeginsWithLines, AreLinesOf}
 use Rattle.journal.specs.Restore.{restored, restored_lines, IsFaultOf, is_made}
 
--- ---- what is read
+-- ---- the lines that are read
 
 -- texts, without their line feeds, are read as these lines
 abbrev pub AreReadAs : List (List ℕ) → List LineState → Type 0
@@ -20,7 +20,7 @@ AreReadAs texts lines = map line_in texts ≡ map Ok lines
 
 -- ---- states
 
--- A text was restored whole, but for what is torn. Its lines are counted with the header.
+-- A text was restored whole, except for a torn line. Its lines are counted with the header.
 pub record IsRestored (old : MachineState) (text : List ℕ) (restored : Restored)
     (new : MachineState) : Type 0 where
   pub texts : List (List ℕ)
@@ -41,8 +41,8 @@ restored_bytes state bytes = do
   line ← line_or_fault (line_in bytes)
   restored state line
 
--- The first line of a text that can't be restored, counted from 1 with the header, and why. The
--- lines before it lead to a state of which it makes nothing, or something with another number.
+-- The first line of a text that can't be restored, counted from 1 with the header, and its fault.
+-- The lines before it lead to a state. There it changes nothing, or its step draws another number.
 pub record IsUnrestored (old : MachineState) (text : List ℕ) (refused : Unrestored)
     (new : MachineState) : Type 0 where
   pub texts : List (List ℕ)

@@ -1,4 +1,4 @@
--- A line of a journal: what it notes, and its text, printed from its parts.
+-- A line of a journal: the event that it notes, and its text, printed from its parts.
 use Rattle.std.specs.Prelude.{ℕ, ◌≡◌, ◌==◌, ◌||◌, ◌≤◌, ◌<◌, ◌≢◌, All, Bool, List, ◌++◌, map, length, codes, Option, Some, None, if◌then◌else◌}
 use Rattle.std.specs.Fmt.{decimal}
 use Rattle.ocpp_scalars.specs.Ascii.{line_feed, space}
@@ -10,9 +10,9 @@ use Rattle.site_core.specs.Limits.{max_number}
 use Rattle.journal.specs.declared.line.Noted.{Noted}
 use Rattle.journal.specs.declared.line.Noted.TheVariants as kinds
 
--- what a line notes of its point
+-- the event that a line notes of its point
 pub data NotedState : Type 0 where
-  -- a message of this side whose step was made, the number that the step drew, and the message
+  -- a message from this side whose step was made, the number that the step drew, and the message
   message : Side → ℕ → List ℕ → NotedState
   -- a reply of the point that confirmed its call, over this link
   reply : ℕ → List ℕ → NotedState
@@ -20,7 +20,7 @@ pub data NotedState : Type 0 where
   verdict : ℕ → List ℕ → NotedState
   -- the point got this link
   attached : ℕ → NotedState
-  -- over this link went the call of this number
+  -- the call of this number went out over this link
   sent : ℕ → ℕ → NotedState
   -- this link was lost
   lost : ℕ → NotedState
@@ -31,7 +31,7 @@ pub record LineState : Type 0 where
   pub point : List ℕ
   pub noted : NotedState
 
--- as the code has it
+-- the event of the code's type
 abbrev pub noted_state : Noted → NotedState
 noted_state (kinds.Message sender number frame) = message sender number frame.now
 noted_state (kinds.Reply link frame) = reply link frame.now
@@ -40,7 +40,7 @@ noted_state (kinds.Attached link) = attached link
 noted_state (kinds.Sent link call) = sent link call
 noted_state (kinds.Lost link) = lost link
 
--- the number that its step draws, where it draws one
+-- the number that its step draws, if it draws one
 abbrev pub number_written : NotedState → Option ℕ
 number_written (message sender number frame) = Some number
 number_written (reply link frame) = None
@@ -64,7 +64,7 @@ word_of (attached link) = codes "attached"
 word_of (sent link call) = codes "sent"
 word_of (lost link) = codes "lost"
 
--- A line feed and a carriage return stand as a tab. To JSON all three are blanks (RFC 8259, 2), and
+-- A line feed and a carriage return become a tab. To JSON all three are blanks (RFC 8259, 2), and
 -- no string has one of them unescaped (RFC 8259, 7).
 abbrev pub carriage_return : ℕ
 carriage_return = 13
@@ -85,7 +85,7 @@ on_one_line frame = map unbroken frame
 abbrev pub numbered_frame : ℕ → List ℕ → List ℕ
 numbered_frame number frame = decimal number ++ codes " " ++ on_one_line frame
 
--- what stands behind the point
+-- the text after the point
 abbrev pub noted_text : NotedState → List ℕ
 noted_text (message sender number frame) = numbered_frame number frame
 noted_text (reply link frame) = numbered_frame link frame
@@ -104,7 +104,7 @@ line_words line =
 abbrev pub line_text : LineState → List ℕ
 line_text line = line_words line ++ codes "\n"
 
--- ---- which lines can be read back, and as what
+-- ---- the lines that can be read back, and their contents then
 
 abbrev pub HasNoLineFeed : List ℕ → Type 0
 HasNoLineFeed text = All (λ byte. byte ≢ line_feed) text
@@ -123,7 +123,7 @@ CanBeNoted (attached link) = link ≤ max_number
 CanBeNoted (sent link call) = (link ≤ max_number) × (call ≤ max_number)
 CanBeNoted (lost link) = link ≤ max_number
 
--- of a point of a site, whose numbers are within their limits
+-- a line of a point of a site, whose numbers are within their limits
 pub record CanBeWritten (line : LineState) : Type 0 where
   pub moment : line.moment ≤ last_second
   pub point : IsPointWord line.point

@@ -14,7 +14,7 @@ pub record IsLossAt (moment : ℕ) (line : LineState) : Type 0 where
   pub link : ℕ
   pub noted : line.noted ≡ lost link
 
--- The lines that were appended say what was lost, and lead from the old state to the new one.
+-- The appended lines note the lost links, and lead from the old state to the new one.
 pub record LosesLinks (moment : ℕ) (old new : MachineState) (before behind : List ℕ) : Type 0 where
   pub lines : List LineState
   pub losses : AllByRecursion (IsLossAt moment) lines

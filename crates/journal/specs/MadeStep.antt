@@ -9,9 +9,9 @@ use Rattle.journal.specs.Entry.{EntryState, IsEntryOf, numbered}
 use Rattle.journal.specs.Line.{LineState}
 use Rattle.journal.specs.NotedStep.{LeadsTo}
 
--- A step was made on the book while the session had it, and the entry with this number is a line that
--- leads where the step led. What is recorded of the book ended with the state before the step, and
--- with the one after it.
+-- A step was made on the book while the session held it. The entry with this number is a line that
+-- leads to the step's state. The recorded states of the book ended with the state before the step,
+-- and then with the one after it.
 pub record IsOfMadeStep (entry : EntryState) (number : ℕ) (before after : MachineState → Type 0)
     : Type 0 where
   pub line : LineState

@@ -1,4 +1,4 @@
--- What is noted of a step, and that the line leads where the step led.
+-- The noted event of a step, whose line leads to the step's state.
 use Rattle.std.specs.Prelude.{ℕ, ◌≡◌, Bool, true, List, Option, Some, None, Ok, if◌then◌else◌}
 use Rattle.messages.specs.declared.call.Call.{Call}
 use Rattle.messages.specs.declared.action_kind.ActionKind.{ActionKind}
@@ -17,18 +17,18 @@ use Rattle.site_core.specs.Step.{Made, stepped, no_answer}
 use Rattle.journal.specs.Line.{NotedState, LineState, message, reply, verdict, attached, sent, lost}
 use Rattle.journal.specs.Restore.{is_change, judged_exactly, number_drawn, restored}
 
--- what is noted of the step that a message asks for, with 0 for the number that it draws: nothing of
--- a request for a schedule or a status
+-- the event to note of a step that a message requests, with 0 for the number that it draws: none
+-- for a request for a schedule or a status
 abbrev pub noted_by : Step → Side → List ℕ → Option NotedState
 noted_by (steps.Confirm point link call accepted) side frame = Some (reply link frame)
 noted_by step side frame = if is_change step then Some (message side 0 frame) else None
 
--- ---- each line leads where its step led
+-- ---- each line leads to the state of its step
 
 abbrev pub line_at : ℕ → List ℕ → NotedState → LineState
 line_at moment point noted = record { moment = moment; point = point; noted = noted }
 
--- a step was made, and its line leads where it led
+-- a step was made, and its line leads to the same state
 abbrev pub IsStep : MachineState → Step → Made → Type 0
 IsStep state step made = stepped no_answer state step ≡ Ok made
 
@@ -52,7 +52,7 @@ ConfirmsAreRestored =
     → IsStep state (steps.Confirm text.point link call accepted) made
     → LeadsTo state (line_at text.moment text.point (reply link text.frame)) made
 
--- a verdict that was kept, where memory lasted for it
+-- a verdict that was kept, if memory lasted for it
 abbrev pub VerdictsAreRestored : Type 0
 VerdictsAreRestored =
     (state : MachineState) (text : Sent) (call : ℕ) (job : AuditRequest) (made : Made)

@@ -1,5 +1,5 @@
--- What a line of a journal makes of the state, or why it can't be restored. Each line is a step of
--- the machine, and the numbers that the step draws are those that the line has.
+-- The effect of a line of a journal on the state, or the reason for which it can't be restored.
+-- Each line is a step of the machine, which draws the numbers that the line has.
 use Rattle.std.specs.Prelude.{ℕ, unsigned_abs, ◌≡◌, ◌≤◌, ◌⊎◌, ◌==◌, Bool, true, false, List, [], ◌∷◌, Option, Some, None, Result, Ok, Err, if◌then◌else◌}
 use Rattle.ocpp_scalars.specs.ResultSteps.{◌>>=◌}
 use Rattle.ocpp_scalars.specs.declared.refusal.Refusal.{Refusal}
@@ -27,8 +27,8 @@ use Rattle.journal.specs.Line.{NotedState, LineState, message, reply, verdict, a
 
 -- ---- the step of a line
 
--- a step of a message that changes something, or asks a point: neither a request for a schedule nor
--- for a status, which change nothing that lasts
+-- a step of a message that changes something, or requests something of a point. Requests for a
+-- schedule or a status change nothing that lasts
 abbrev pub is_change : Step → Bool
 is_change (steps.Install point row) = true
 is_change (steps.Clear point criteria) = true
@@ -38,28 +38,28 @@ is_change (steps.Audit point connector duration) = true
 is_change (steps.RemoteStart point connector id_tag profile) = true
 is_change step = false
 
--- the change that a message asks for
+-- the change that a message requests
 abbrev pub change_asked : Asked → Result Step RestoreFault
 change_asked (asked.Step id kind step) = if is_change step then Ok step else Err OtherStep
 change_asked _ = Err OtherStep
 
--- the confirm that a point's reply asks for, over this link
+-- the confirm that a point's reply requests, over this link
 abbrev pub confirm_asked : ℕ → Asked → Result Step RestoreFault
 confirm_asked link (asked.Confirm point call accepted) =
     Ok (steps.Confirm point link call accepted)
 confirm_asked link _ = Err OtherStep
 
--- an audit is judged by what the point said, where memory lasts
+-- an audit is judged by its point's reply, if memory lasts
 abbrev pub judged_exactly : AuditRequest → Said → Judgement
 judged_exactly job said =
     record { audit = job; verdict = verdict_of job said; short = false }
 
--- the verdict on a reply to the audit that has none yet
+-- the verdict on a reply to the audit, if that has none yet
 abbrev pub judge_asked : List ℕ → ℕ → Said → Option AuditRequest → Result Step RestoreFault
 judge_asked point call said None = Err (Refused UnknownRequest)
 judge_asked point call said (Some job) = Ok (steps.Judge point call (judged_exactly job said))
 
--- the message of a line, as it came
+-- the message of a line
 abbrev pub reply_on : LineState → List ℕ → texts.Sent
 reply_on line frame = texts.sent line.moment Point line.point frame
 
@@ -73,10 +73,10 @@ step_noted state line (attached link) = Ok (steps.Attach line.point)
 step_noted state line (sent link call) = Ok (steps.Send line.point link)
 step_noted state line (lost link) = Ok (steps.Lost line.point link)
 
--- ---- the number that it draws
+-- ---- the number that a step draws
 
--- Of a step with this reply that left the store at this version: the transaction's, the call's, the
--- link's, or else the version. None where nothing changed, or nothing was drawn.
+-- The number of a step with this reply that left the store at this version: the transaction's, the
+-- call's, the link's, or else the version. None if nothing changed, or nothing was drawn.
 abbrev pub number_drawn : Reply → ℕ → Option ℕ
 number_drawn replies.Accepted version = Some version
 number_drawn (replies.Started id) version = Some (unsigned_abs id)
@@ -87,7 +87,7 @@ number_drawn (replies.Attached link) version = Some link
 number_drawn (replies.Sent call) version = Some call.number
 number_drawn other version = None
 
--- where a number is written, it is the one that is drawn
+-- a number that is written has to be the drawn one
 abbrev pub number_fault : Option ℕ → Option ℕ → Option RestoreFault
 number_fault None drawn = None
 number_fault (Some written) None = Some Unchanged
@@ -104,14 +104,14 @@ abbrev pub made_or_refused : Result Made Refusal → Result Made RestoreFault
 made_or_refused (Ok made) = Ok made
 made_or_refused (Err refusal) = Err (Refused refusal)
 
--- a step is made, and draws the number that is written
+-- a step is made, and draws the written number
 abbrev pub made_with : MachineState → Option ℕ → Step → Result MachineState RestoreFault
 made_with state written step = do
   made ← made_or_refused (stepped no_answer state step)
   unless_fault
       (number_fault written (number_drawn made.reply made.after.numbers.version)) made.after
 
--- the state after a line, where memory lasts
+-- the state after a line, if memory lasts
 unfoldable pub restored : MachineState → LineState → Result MachineState RestoreFault
 restored state line = do
   step ← step_noted state line line.noted
@@ -124,18 +124,18 @@ restored_lines state (line ∷ lines) = do
   next ← restored state line
   restored_lines next lines
 
--- why a line isn't restored: its fault, or memory ran out
+-- the reason for which a line isn't restored: its fault, or memory ran out
 abbrev pub IsFaultOf : {A : Type 0} → Result A RestoreFault → RestoreFault → Type 0
 IsFaultOf result fault = (result ≡ Err fault) ⊎ (fault ≡ OutOfMemory)
 
--- whether the step of a line with this fault was made all the same
+-- whether the step of a line with this fault was made even so
 abbrev pub is_made : RestoreFault → Bool
 is_made (OtherNumber written drawn) = true
 is_made fault = false
 
 -- ---- passes
 
--- a pass counts no less than before
+-- the counters of a pass don't decrease
 pub record KeepsPass (old new : PassState) : Type 0 where
   pub changes : old.totals.changes ≤ new.totals.changes
   pub answers : old.totals.answers ≤ new.totals.answers

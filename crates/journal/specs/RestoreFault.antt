@@ -1,4 +1,4 @@
--- A refusal as the fault of a line. That memory ran out is no line's fault.
+-- A refusal as the fault of a line. Lack of memory isn't a line's fault.
 use Rattle.ocpp_scalars.specs.declared.refusal.Refusal.{Refusal}
 use Rattle.ocpp_scalars.specs.declared.refusal.Refusal.TheVariants as refusals
 use Rattle.journal.specs.declared.restore_fault.RestoreFault.{RestoreFault}

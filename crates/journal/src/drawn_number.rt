@@ -1,4 +1,4 @@
-//! The number that a step draws, and the one that is written of it.
+//! The number that a step draws, and the written number of its line.
 
 ghost use Rattle.std.specs.Prelude.{◌≡◌, Some};
 ghost use Rattle.journal.specs.Restore.{number_drawn, number_fault, unless_fault};
@@ -6,14 +6,15 @@ ghost use Rattle.journal.specs.Restore.{number_drawn, number_fault, unless_fault
 use crate::restore_fault::RestoreFault;
 use site_core::Reply;
 
-/// The number that the journal has for a step with this reply, which left the store at this version:
-/// the number of the transaction, of the call or of the link, or else the version. None for a step
-/// that changed nothing, and for one that draws none.
+/// Returns the number that the journal has for a step with this reply, which left the store at this
+/// version: the number of the transaction, of the call or of the link, or else the version. Returns
+/// `None` for a step that changed nothing, and for one that draws no number.
 pub fn number_drawn(reply: &Reply, version: u64) -> Option<u64>
     ensures { result ≡ number_drawn reply.now version }
 {
     match reply {
         Reply::Accepted | Reply::Ended => Some(version),
+        // Transaction numbers are positive, so this keeps their value.
         Reply::Started(transaction) => Some(u64::from(transaction.unsigned_abs())),
         Reply::Audited { call, .. } | Reply::Called(call) => Some(*call),
         Reply::Attached(link) => Some(*link),
@@ -34,7 +35,7 @@ pub fn number_drawn(reply: &Reply, version: u64) -> Option<u64>
     }
 }
 
-/// Compares the number that is written with the one that was drawn.
+/// Compares the written number with the drawn one.
 pub(crate) fn compare(written: u64, drawn: Option<u64>) -> Result<(), RestoreFault>
     ensures { result ≡ unless_fault (number_fault (Some written) drawn) tt }
 {

@@ -9,15 +9,15 @@ use ocpp_scalars::push_integer;
 use std::alloc::{AllocError, Global};
 use std::marker::Model;
 
-/// A line of a journal that is built before the step is made that draws its number, so that none is
+/// A line of a journal that is built before the step that draws its number is made. So no line is
 /// built while the book is locked.
 #[derive(Drop)]
 pub struct Entry {
-    /// What stands before the number that the step draws.
+    /// The part before the number that the step draws.
     before: String,
-    /// Whether it draws one.
+    /// Whether the step draws a number.
     is_numbered: bool,
-    /// What stands behind it, with the line feed.
+    /// The part after the number, with the line feed.
     behind: String,
 }
 
@@ -35,7 +35,7 @@ impl Model for Entry {
 }
 
 impl Entry {
-    /// The entry of a line. The number that its step draws isn't looked at.
+    /// Builds the entry of a line, whatever number the line has.
     pub fn new(alloc: Global, line: &Line<'_>) -> Result<Entry, AllocError>
         ensures { IfOk result (λ entry. IsEntryOf entry line.now) }
     {
@@ -50,8 +50,8 @@ impl Entry {
         })
     }
 
-    /// Appends the line with the number that its step drew, which makes no difference where it
-    /// draws none.
+    /// Appends the line with the number that its step drew. If the step draws none, `number` is
+    /// ignored.
     pub fn push(&self, text: &mut String, number: u64) -> Result<(), AllocError>
         ensures { Appends result (string_bytes text.old) (string_bytes text.new)
             (entry_text self.now number) }

@@ -1,4 +1,4 @@
-//! The first line of a journal, written and read.
+//! The first line of a journal.
 
 ghost use Rattle.std.specs.Prelude.{ℕ, ◌≡◌, ◌≢◌, ◌++◌, List, string_bytes, IfNone, IfOk, IfSome, OnErr};
 ghost use Rattle.hex.specs.Hex.{encode_lower};
@@ -9,13 +9,13 @@ use hex::FromHex;
 use std::alloc::{AllocError, Global};
 use thiserror::Error;
 
-/// Why a text is no first line of a journal.
+/// The reason for which a text isn't the first line of a journal.
 #[derive(Clone, Copy, Debug, PartialEq, Eq, Error)]
 pub enum HeaderFault {
     /// It doesn't begin as a journal does.
     #[error("not a journal")]
     NotAJournal,
-    /// It is of a format that isn't known here.
+    /// Its format is unknown here.
     #[error("a journal of another format")]
     OtherFormat,
     /// It doesn't name the SHA-256 of a site file.
@@ -37,7 +37,7 @@ pub fn push_header(alloc: Global, text: &mut String, digest: &[u8; 32]) -> Resul
     Ok(())
 }
 
-/// The digest of the site file in the first line of a journal, without its line feed.
+/// Reads the digest of the site file from the first line of a journal, without its line feed.
 #[tactic(auto, unfolding(crate::specs::Header::header_words))]
 pub fn read_header(line: &str) -> Result<[u8; 32], HeaderFault>
     ensures read { IfOk result (λ digest. header_words digest ≡ line.now) }
@@ -53,7 +53,7 @@ pub fn read_header(line: &str) -> Result<[u8; 32], HeaderFault>
     }
 }
 
-/// Why a text that doesn't begin as a first line does is none.
+/// Returns the fault of a text that doesn't begin as a first line does.
 fn fault_of(line: &str) -> HeaderFault {
     let Some(rest) = line.strip_prefix("central journal ") else {
         return HeaderFault::NotAJournal;
@@ -65,7 +65,7 @@ fn fault_of(line: &str) -> HeaderFault {
     }
 }
 
-/// What follows this beginning of a text, if it begins so.
+/// Returns the rest of a text after this beginning, if the text begins so.
 fn strip<'a>(text: &'a str, beginning: &str) -> Option<&'a str>
     ensures some { IfSome result (λ rest. beginning.now ++ rest.now ≡ text.entry.now) }
     ensures none { IfNone result ((rest : List ℕ) → beginning.now ++ rest ≢ text.entry.now) }
@@ -73,7 +73,7 @@ fn strip<'a>(text: &'a str, beginning: &str) -> Option<&'a str>
     text.strip_prefix(beginning)
 }
 
-/// The digest whose lower case hex digits a text is.
+/// Reads a digest from its hex digits in lower case.
 fn read_digest(text: &str) -> Option<[u8; 32]>
     ensures some { IfSome result (λ digest. encode_lower digest ≡ text.now) }
     ensures none { IfNone result
@@ -82,7 +82,7 @@ fn read_digest(text: &str) -> Option<[u8; 32]>
     let Ok(digest) = <[u8; 32] as FromHex>::from_hex(text) else {
         return None;
     };
-    // Digits in upper case were read too.
+    // `from_hex` accepts digits in upper case too.
     let mut digits = [0u8; 64];
     let Ok(()) = hex::encode_to_slice(digest, &mut digits) else {
         return None;

@@ -1,4 +1,4 @@
-//! Where sessions note what their steps change.
+//! The trait by which sessions note the changes of their steps.
 
 ghost use Rattle.std.specs.Prelude.{IfOk, IfSome};
 ghost use Rattle.journal.specs.Account.{Covers};
@@ -16,12 +16,12 @@ use ocpp_scalars::Instant;
 use std::alloc::AllocError;
 use version_store::RecordedStates;
 
-/// Takes down the steps that change something, in the order in which they are made, and sees to it
-/// that they are kept before any message leaves that depends on them.
+/// Notes the steps that change something, in the order in which they are made. A message leaves
+/// only once the steps that it depends on are kept.
 pub trait Journal<N: ListName> {
-    /// Makes the entry of a step that is about to be made, or none where nothing is noted. The
-    /// number that the step draws, if it draws one, is 0. Nobody has the book: a long message takes
-    /// its time here. On an error the step may not be made, since it couldn't be noted.
+    /// Makes the entry of a step that is about to be made, or none if nothing is noted. In `noted`,
+    /// the number that the step draws is 0. No session holds the book: a long message takes its
+    /// time here. On an error the step can't be noted, so it must not be made.
     fn prepare(
         &self,
         moment: Instant,
@@ -31,23 +31,24 @@ pub trait Journal<N: ListName> {
         ensures { IfOk result (λ entry. IfSome entry
             (λ e. IsEntryOf e (line_at moment point.now (noted_state noted.entry)))) };
 
-    /// Notes a step by its entry and the number that it drew, between what was recorded of the book
-    /// before it and with it. Whoever notes it has had the book since before the step, so this waits
-    /// for nothing that takes long.
+    /// Notes a step by its entry and the number that it drew, between the recorded states of the
+    /// book before it and with it. The caller has held the book since before the step, so this
+    /// waits for nothing that takes long.
     fn note(&self, entry: Entry, number: u64, before: &RecordedStates<N>, after: &RecordedStates<N>)
         requires { IsOfMadeStep entry number
             (IsAt N.is_recorded before.now) (IsAt N.is_recorded after.now) };
 
-    /// Waits until all is kept that led to what was recorded by some moment, whoever noted it. The
-    /// session doesn't have the book. On an error no message may leave that depends on any of it.
+    /// Waits until all steps that led to these recorded states are kept, whichever session noted
+    /// them. The caller doesn't hold the book. On an error, no message that depends on any of them
+    /// may leave.
     fn receipt(&self, recorded: &RecordedStates<N>) -> Result<Receipt<N>, JournalFault>
         ensures { IfOk result (λ receipt. Covers N.is_recorded receipt recorded.now) };
 
-    /// Waits until all that is noted by now is kept, whoever noted it.
+    /// Waits until all steps that are noted by now are kept, whichever session noted them.
     fn write_out(&self) -> Result<(), JournalFault>;
 }
 
-/// Why a step can't be noted, or what is noted can't be kept.
+/// The reason for which a step can't be noted, or noted steps can't be kept.
 #[derive(Clone, Copy, PartialEq, Eq)]
 pub enum JournalFault {
     /// Nothing can be written at present.
@@ -62,7 +63,7 @@ impl From<AllocError> for JournalFault {
     }
 }
 
-/// Notes nothing.
+/// A journal that notes nothing.
 #[derive(Clone, Copy, Default)]
 pub struct NoJournal;
 

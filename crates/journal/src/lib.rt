@@ -1,8 +1,8 @@
 //! The journal of a site: a file of lines, each a step of the central system that changed
-//! something. How a line is written and read; how a book is restored from the lines, and how its
-//! points lose their links after that; and how steps come to the file: noted under the book's lock,
-//! taken, written and synced. What a line is stands in `specs/Line.antt`, what it makes of the state
-//! in `specs/Restore.antt`, and which states the file accounts for in `specs/Account.antt`.
+//! something. This crate writes and reads lines, restores a book from them, and then removes the
+//! links of its points. Steps come to the file in order: noted under the book's lock, taken,
+//! written and synced. `specs/Line.antt` defines a line, `specs/Restore.antt` its effect on the
+//! state, and `specs/Account.antt` the states that the file accounts for.
 #![tactic(auto)]
 
 mod drawn_number;

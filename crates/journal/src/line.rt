@@ -1,4 +1,4 @@
-//! A line of a journal, and how it is written.
+//! A line of a journal, and its text.
 
 ghost use Rattle.std.specs.Prelude.{◌≡◌, string_bytes};
 ghost use Rattle.ocpp_scalars.specs.Appending.{Appends};
@@ -11,7 +11,7 @@ use ocpp_scalars::{Instant, push_instant, push_integer};
 use std::alloc::AllocError;
 use std::marker::Model;
 
-/// What a line notes of its point.
+/// The event that a line notes of its point.
 #[derive(Clone, Copy, PartialEq, Eq)]
 pub enum Noted<'a> {
     /// A message from this side whose step was made. The number is the one that the step drew: of
@@ -69,7 +69,7 @@ impl<'a> Model for Line<'a> {
 }
 
 impl Noted<'_> {
-    /// The second word of its line.
+    /// Returns the second word of its line.
     pub(crate) fn word(&self) -> &'static str
         ensures { result.now ≡ word_of (noted_state self.now) }
     {
@@ -83,7 +83,7 @@ impl Noted<'_> {
         }
     }
 
-    /// The number that its step draws, if it draws one.
+    /// Returns the number that its step draws, if it draws one.
     pub(crate) fn number(&self) -> Option<u64>
         ensures { result ≡ number_written (noted_state self.now) }
     {
@@ -124,8 +124,8 @@ fn push_drawn(text: &mut String, number: Option<u64>) -> Result<(), AllocError>
     }
 }
 
-/// Appends a line up to the number that its step draws. One that draws none is whole but for its
-/// line feed.
+/// Appends a line up to the number that its step draws. If the step draws none, only the line feed
+/// is missing.
 pub(crate) fn push_before_number(text: &mut String, line: &Line<'_>) -> Result<(), AllocError>
     ensures { Appends result (string_bytes text.old) (string_bytes text.new)
         (before_number line.now) }
@@ -139,7 +139,7 @@ pub(crate) fn push_before_number(text: &mut String, line: &Line<'_>) -> Result<(
     push_noted_before(text, &line.noted)
 }
 
-/// Appends what stands between the point and the number that is drawn, or the line's end.
+/// Appends the part between the point and the drawn number, or up to the line's end.
 fn push_noted_before(text: &mut String, noted: &Noted<'_>) -> Result<(), AllocError>
     ensures { Appends result (string_bytes text.old) (string_bytes text.new)
         (noted_before (noted_state noted.now)) }
@@ -157,7 +157,7 @@ fn push_noted_before(text: &mut String, noted: &Noted<'_>) -> Result<(), AllocEr
     }
 }
 
-/// Appends what stands behind the number that the line's step draws, and the line feed.
+/// Appends the part after the drawn number, and the line feed.
 pub(crate) fn push_behind_number(text: &mut String, line: &Line<'_>) -> Result<(), AllocError>
     ensures { Appends result (string_bytes text.old) (string_bytes text.new)
         (behind_number line.now) }
@@ -180,12 +180,12 @@ fn push_numbered_frame(text: &mut String, number: u64, frame: &str) -> Result<()
     push_on_one_line(text, frame)
 }
 
-/// Appends a message on one line: a line feed or a carriage return in it stands as a tab, which is
-/// the same to JSON.
+/// Appends a message on one line, with a tab for each line feed and each carriage return.
 fn push_on_one_line(text: &mut String, frame: &str) -> Result<(), AllocError>
     ensures { Appends result (string_bytes text.old) (string_bytes text.new)
         (on_one_line frame.now) }
 {
+    // To JSON all three are blanks (RFC 8259, 2), and no string has one unescaped (RFC 8259, 7).
     let mut rest = frame;
     while let Some((piece, others)) = rest.split_once('\n') {
         push_without_returns(text, piece)?;
@@ -195,7 +195,7 @@ fn push_on_one_line(text: &mut String, frame: &str) -> Result<(), AllocError>
     push_without_returns(text, rest)
 }
 
-/// Appends a text in which each carriage return stands as a tab.
+/// Appends a text with a tab for each carriage return.
 fn push_without_returns(text: &mut String, piece: &str) -> Result<(), AllocError>
     ensures { Appends result (string_bytes text.old) (string_bytes text.new)
         (without_returns piece.now) }

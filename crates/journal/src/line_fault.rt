@@ -1,8 +1,8 @@
-//! Why a text is no line of a journal.
+//! The reasons for which a text isn't a line of a journal.
 
 use thiserror::Error;
 
-/// Why a text is no line of a journal, in the order in which the faults are checked.
+/// The reason for which a text isn't a line of a journal, in the order of the checks.
 #[derive(Clone, Copy, Debug, PartialEq, Eq, Error)]
 pub enum LineFault {
     /// It isn't UTF-8.
@@ -14,7 +14,7 @@ pub enum LineFault {
     /// Its first word isn't an instant.
     #[error("its first word is no instant")]
     Moment,
-    /// A number of its form is none from 0 to 1,000,000,000,000 in decimal.
+    /// A number of its form isn't one from 0 to 1,000,000,000,000 in decimal.
     #[error("a number is missing or too high")]
     Number,
 }

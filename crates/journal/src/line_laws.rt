@@ -1,4 +1,4 @@
-//! What is written is read back: a law of definitions alone.
+//! Written lines are read back: a law about definitions only.
 
 ghost use Rattle.std.specs.Prelude.{◌≡◌, Ok};
 ghost use Rattle.journal.specs.ByCases.Line.{line_of};
@@ -6,8 +6,8 @@ ghost use Rattle.journal.specs.Line.{CanBeWritten, HasNoBreak, HasNoLineFeed, Li
 
 use ocpp_scalars::instant_texts;
 
-/// Each line that can be written is read back as it was, but that a tab stands for each line break
-/// of its message. No line feed is inside, so the lines of a text are those that were written.
+/// Each line that can be written is read back as it was, but with a tab for each line break of its
+/// message. No line feed is inside, so the lines of a text are those that were written.
 pub fn lines_read_back()
     ensures read { (line : LineState) → CanBeWritten line
         → line_of (line_words line) ≡ Ok (line_on_one_line line) }
@@ -15,6 +15,6 @@ pub fn lines_read_back()
         → line_of (line_words line) ≡ Ok line }
     ensures one { (line : LineState) → CanBeWritten line → HasNoLineFeed (line_words line) }
 {
-    // A law that this one stands on: nothing runs.
+    // A law that the proof of this one uses: nothing runs.
     instant_texts();
 }

@@ -1,9 +1,9 @@
-//! The second word of a line, which tells what it notes.
+//! The second word of a line, which gives its kind.
 
 ghost use Rattle.std.specs.Prelude.{◌≡◌};
 ghost use Rattle.journal.specs.ByCases.Line.{word_named};
 
-/// What a line notes, by its second word.
+/// The kind of a line, by its second word.
 #[derive(Clone, Copy, PartialEq, Eq)]
 pub(crate) enum LineWord {
     Operator,
@@ -16,7 +16,7 @@ pub(crate) enum LineWord {
 }
 
 impl LineWord {
-    /// The one that a word is, if it is one.
+    /// Returns the kind that a word names, if it names one.
     pub(crate) fn named(word: &str) -> Option<LineWord>
         ensures { result ≡ word_named word.now }
     {

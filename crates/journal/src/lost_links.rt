@@ -1,4 +1,4 @@
-//! What is done after a restore: each point loses its link.
+//! The loss of all links after a restore.
 
 ghost use Rattle.std.specs.Prelude.{◌≡◌, None, OnOk, string_bytes};
 ghost use Rattle.site_core.specs.State.{link_of};
@@ -13,7 +13,7 @@ use std::alloc::Global;
 use std::sync::ledger::Ledger;
 use version_store::Book;
 
-/// Each point that has a link loses it, and the lines that say so at this moment are appended to a
+/// Ends the link of each point that has one. Appends the lines that say so at this moment to a
 /// text, for the journal. Calls that were in flight wait again.
 pub fn lose_links<C: Ledger, A: Ledger, N: ListName>(
     alloc: Global,
@@ -25,6 +25,7 @@ pub fn lose_links<C: Ledger, A: Ledger, N: ListName>(
     ensures lines { OnOk result (LosesLinks moment book.old.present book.new.present
         (string_bytes text.old) (string_bytes text.new)) }
 {
+    // With these lines, a later restart comes to this state too.
     let points = book.present().site().len();
     for place in 0..points {
         lose_link(alloc, book, place, moment, text)?;
@@ -32,7 +33,7 @@ pub fn lose_links<C: Ledger, A: Ledger, N: ListName>(
     Ok(())
 }
 
-/// The point at a place of the site file loses its link, if it has one.
+/// Ends the link of the point at a place of the site file, if it has one.
 fn lose_link<C: Ledger, A: Ledger, N: ListName>(
     alloc: Global,
     book: &mut Book<C, A, N>,
@@ -55,7 +56,7 @@ fn lose_link<C: Ledger, A: Ledger, N: ListName>(
     lose(book, point, link, moment, text)
 }
 
-/// The point of an identity loses this link.
+/// Ends this link of a point.
 fn lose<C: Ledger, A: Ledger, N: ListName>(
     book: &mut Book<C, A, N>,
     point: PointId,

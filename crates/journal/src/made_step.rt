@@ -1,4 +1,4 @@
-//! A step that is noted.
+//! A made step that is to be noted.
 
 use crate::entry::Entry;
 use ghost_list::ListName;
@@ -10,7 +10,7 @@ pub struct MadeStep<N: ListName> {
     /// Its entry, and the number that it drew.
     pub entry: Entry,
     pub number: u64,
-    /// What was recorded of the book before it, and with it.
+    /// The recorded states of the book before it, and with it.
     pub before: RecordedStates<N>,
     pub after: RecordedStates<N>,
 }

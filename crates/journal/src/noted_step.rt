@@ -1,4 +1,4 @@
-//! What is noted of a step that a message asks for.
+//! The event that is noted of a step which a message requests.
 
 ghost use Rattle.std.specs.Prelude.{◌≡◌, option_map};
 ghost use Rattle.journal.specs.Line.{noted_state};
@@ -9,8 +9,9 @@ use crate::restoring::is_change;
 use messages::Side;
 use site_core::Step;
 
-/// What is to be noted of the step that a message asks for, once it is made: nothing of a request
-/// for a schedule or a status. The number that it draws isn't known yet, and 0.
+/// Returns the event to note of a step that a message requests, once it is made. For a request for
+/// a schedule or a status there is none. The number that the step draws isn't known yet, so it is
+/// 0.
 pub fn noted_by<'a>(step: &Step, sender: Side, frame: &'a str) -> Option<Noted<'a>>
     ensures { option_map noted_state result ≡ noted_by step.now sender frame.entry.now }
 {
@@ -28,9 +29,9 @@ pub fn noted_by<'a>(step: &Step, sender: Side, frame: &'a str) -> Option<Noted<'
     }
 }
 
-/// The line that is noted of a step that was made leads where the step led. So who notes these
-/// steps in their order has a journal that is restored to the state, but for the requests for
-/// schedules: these aren't noted, and no other step looks at them.
+/// The noted line of a made step leads to the step's state. So a journal with these steps in their
+/// order is restored to the state, except for the requests for schedules. These aren't noted, and
+/// no other step depends on them.
 pub fn noted_steps_are_restored()
     ensures changes { ChangesAreRestored }
     ensures confirms { ConfirmsAreRestored }

@@ -13,8 +13,8 @@ use std::marker::Model;
 use std::mem;
 use version_store::RecordedStates;
 
-/// Steps that were noted, and not written yet. Their entries lead from what was recorded before the
-/// first of them to what was recorded with the last one.
+/// Steps that were noted, and not written yet. Their entries lead from the states recorded before
+/// the first of them to those recorded with the last one.
 #[derive(Drop)]
 pub struct NotedSteps<N: ListName> {
     first: RecordedStates<N>,
@@ -34,7 +34,7 @@ impl<N: ListName> Model for NotedSteps<N> {
 }
 
 impl<N: ListName> NotedSteps<N> {
-    /// None, after these states. There is room for so many.
+    /// Makes an empty list after these states, with room for `room` steps.
     pub fn new(
         alloc: Global,
         states: RecordedStates<N>,
@@ -50,23 +50,23 @@ impl<N: ListName> NotedSteps<N> {
         })
     }
 
-    /// Whether there are none.
+    /// Returns whether there are no steps.
     pub fn is_empty(&self) -> bool
         ensures { IsTrue result → self.now.entries ≡ [] }
     {
         self.entries.is_empty()
     }
 
-    /// Makes room for so many more.
+    /// Makes room for `room` more steps.
     pub fn reserve(&mut self, room: usize) -> Result<(), AllocError>
         ensures { self.new ≡ self.old }
     {
         self.entries.reserve(room)
     }
 
-    /// Notes a step, where it is the next one: before it was recorded what was recorded with the
-    /// last one, and it recorded one state more. False where it isn't, or there is no room: then
-    /// nothing is noted.
+    /// Notes a step, if it is the next one: the states recorded before it are those of the last
+    /// step, and it recorded one state more. Returns false, and notes nothing, if it isn't the next
+    /// one or there is no room.
     pub fn note(&mut self, step: MadeStep<N>) -> bool
         requires { IsOfMadeStep step.entry step.number
             (IsAt N.is_recorded step.before) (IsAt N.is_recorded step.after) }
@@ -84,6 +84,7 @@ impl<N: ListName> NotedSteps<N> {
             before,
             after,
         } = step;
+        // Without a step that wasn't noted, the lines wouldn't lead to the recorded states.
         if !self.last.is_same(&before) || !after.is_next_of(&before) {
             return false;
         }
@@ -92,12 +93,13 @@ impl<N: ListName> NotedSteps<N> {
                 self.last = after;
                 true
             }
+            // Never, if room was reserved before the step was made.
             Err(_) => false,
         }
     }
 
-    /// Takes all steps of another, behind which none are left, in place of its own, which there are
-    /// none of. False where these aren't the next ones: then nothing is taken.
+    /// Takes all steps of another list, and leaves none there. This list has to be empty. Returns
+    /// false, and takes nothing, if these steps aren't the next ones.
     pub fn take(&mut self, noted: &mut NotedSteps<N>) -> bool
         requires { self.old.entries ≡ [] }
         ensures taken { result ≡ true → self.new ≡ noted.old }
@@ -114,13 +116,14 @@ impl<N: ListName> NotedSteps<N> {
             return false;
         }
         self.first = noted.first.copy();
+        // A swap, so that the other list gets the room of this one, and need not allocate.
         mem::swap(&mut self.entries, &mut noted.entries);
         self.last = noted.last.copy();
         noted.first = noted.last.copy();
         true
     }
 
-    /// Appends the lines of all steps to a text. Where memory runs out, some may be missing.
+    /// Appends the lines of all steps to a text. If memory runs out, some may be missing.
     pub(crate) fn push_lines(&self, text: &mut String) -> Result<(), AllocError>
         ensures lines { OnOk result
             (string_bytes text.new ≡ string_bytes text.old ++ texts_of self.now.entries) }
@@ -132,7 +135,7 @@ impl<N: ListName> NotedSteps<N> {
         Ok(())
     }
 
-    /// All of them are written.
+    /// Removes all steps, since they are written.
     pub(crate) fn clear(&mut self)
         ensures { self.new ≡ record {
           first = self.old.last;
@@ -144,14 +147,14 @@ impl<N: ListName> NotedSteps<N> {
         self.entries.clear();
     }
 
-    /// What was recorded with the last one.
+    /// Returns the states recorded with the last step.
     pub fn last(&self) -> &RecordedStates<N>
         ensures { result.now ≡ self.now.last }
     {
         &self.last
     }
 
-    /// What was recorded before the first one.
+    /// Returns the states recorded before the first step.
     pub fn first(&self) -> &RecordedStates<N>
         ensures { result.now ≡ self.now.first }
     {

@@ -1,4 +1,4 @@
-//! How a line of a journal is read.
+//! Reading of a line of a journal.
 
 ghost use Rattle.std.specs.Prelude.{◌≡◌};
 ghost use Rattle.std.specs.Result.{result_map_both};
@@ -18,11 +18,11 @@ struct Words<'a> {
     instant: &'a str,
     word: LineWord,
     point: &'a str,
-    /// What stands behind the point.
+    /// The text after the point.
     rest: &'a str,
 }
 
-/// Reads a line, without its line feed, that may be no text.
+/// Reads a line, without its line feed, from bytes that may not be UTF-8.
 pub fn read_bytes(line: &[u8]) -> Result<Line<'_>, LineFault>
     ensures { result ≡ line_in line.entry.now }
 {
@@ -54,7 +54,7 @@ pub fn read_line(text: &str) -> Result<Line<'_>, LineFault>
     }
 }
 
-/// The words of a line.
+/// Splits a line into its words.
 fn split_words(text: &str) -> Result<Words<'_>, LineFault>
     ensures { result_map_both words_view (λ fault. fault) result ≡ words_of text.entry.now }
 {
@@ -72,7 +72,7 @@ fn split_words(text: &str) -> Result<Words<'_>, LineFault>
     }
 }
 
-/// What is noted by a line with this second word, by what stands behind its point.
+/// Reads the event of a line with this second word, from the text after its point.
 fn read_noted(word: LineWord, text: &str) -> Result<Noted<'_>, LineFault>
     ensures { result_map_both noted_state (λ fault. fault) result ≡ noted_in word text.entry.now }
 {
@@ -101,7 +101,7 @@ fn read_noted(word: LineWord, text: &str) -> Result<Noted<'_>, LineFault>
     }
 }
 
-/// A message from this side.
+/// Reads a message from this side.
 fn read_message(sender: Side, text: &str) -> Result<Noted<'_>, LineFault>
     ensures { result_map_both noted_state (λ fault. fault) result
         ≡ message_in sender text.entry.now }
@@ -114,7 +114,7 @@ fn read_message(sender: Side, text: &str) -> Result<Noted<'_>, LineFault>
     })
 }
 
-/// The number that a text begins with, and what follows the one space after it.
+/// Returns the number at the beginning of a text, and the text after the one space behind it.
 fn split_number(text: &str) -> Result<(u64, &str), LineFault>
     ensures { result_map_both (λ parts. (parts.0, parts.1.now)) (λ fault. fault) result
         ≡ number_at text.now }
@@ -123,10 +123,11 @@ fn split_number(text: &str) -> Result<(u64, &str), LineFault>
     Ok((read_number(word)?, rest))
 }
 
-/// The number from 0 on that a word is, in decimal without leading zeros.
+/// Reads a number from 0 on, in decimal without leading zeros.
 fn read_number(word: &str) -> Result<u64, LineFault>
     ensures { result ≡ number_or_fault word.now }
 {
+    // Calls are counted from 0, and `number_of` reads the numbers from 1 on.
     if word == "0" {
         return Ok(0);
     }
@@ -136,7 +137,7 @@ fn read_number(word: &str) -> Result<u64, LineFault>
     }
 }
 
-/// The word that a text begins with, and what follows the one space after it.
+/// Returns the first word of a text, and the text after the one space behind it.
 fn split_word(text: &str) -> Result<(&str, &str), LineFault>
     ensures { result_map_both (λ parts. (parts.0.now, parts.1.now)) (λ fault. fault) result
         ≡ word_at text.now }

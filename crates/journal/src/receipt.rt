@@ -1,4 +1,4 @@
-//! What shows that lines are on the disk.
+//! Receipts: they show that lines are on the disk.
 
 ghost use Rattle.std.specs.Prelude.{◌≡◌, true, Some, IfSome};
 ghost use Rattle.journal.specs.Account.{Covers, HasSync, IsAmong, receipt_of};
@@ -8,8 +8,8 @@ use ghost_list::ListName;
 use std::marker::Model;
 use version_store::RecordedStates;
 
-/// What shows that lines are on the disk which account for these states. Only a file that has synced
-/// such lines makes one, or a book whose states aren't recorded.
+/// A receipt: it shows that the lines that account for these states are on the disk. Only a file
+/// that has synced such lines makes one, or a book whose states aren't recorded.
 #[derive(Drop)]
 pub struct Receipt<N: ListName> {
     recorded: RecordedStates<N>,
@@ -29,7 +29,7 @@ impl<N: ListName> Model for Receipt<N> {
 }
 
 impl<N: ListName> Receipt<N> {
-    /// That of a file whose last sync was with these states.
+    /// Makes the receipt of a file whose last sync was with these states.
     pub(crate) fn new(recorded: RecordedStates<N>, syncs: KnownSyncs<N>) -> Receipt<N>
         requires { HasSync syncs.entries recorded }
         ensures { result ≡ receipt_of recorded (Some syncs.entries) }
@@ -40,10 +40,11 @@ impl<N: ListName> Receipt<N> {
         }
     }
 
-    /// That of a book whose states aren't recorded. `None` where they are.
+    /// Makes the receipt of a book whose states aren't recorded. Returns `None` if they are.
     pub fn of_nothing(recorded: &RecordedStates<N>) -> Option<Receipt<N>>
         ensures { IfSome result (λ receipt. Covers N.is_recorded receipt recorded.now) }
     {
+        // Recorded states need a file, and this receipt has none.
         if recorded.is_recorded() {
             return None;
         }
@@ -53,7 +54,7 @@ impl<N: ListName> Receipt<N> {
         })
     }
 
-    /// A copy.
+    /// Returns a copy.
     pub fn copy(&self) -> Receipt<N>
         ensures { result ≡ self.now }
     {
@@ -66,14 +67,15 @@ impl<N: ListName> Receipt<N> {
         }
     }
 
-    /// Whether it covers what was recorded by some moment: the states with which that ended.
+    /// Returns whether it covers these recorded states: the last of them is among its own.
     pub fn covers(&self, recorded: &RecordedStates<N>) -> bool
         ensures { result ≡ true → Covers N.is_recorded self.now recorded.now }
     {
         self.recorded.is_at_least(recorded)
     }
 
-    /// Shows that a file has on its disk what this receipt was given for, if it was given for one.
+    /// Shows that a file has on its disk the lines that this receipt was given for, if it was given
+    /// for a file.
     pub(crate) fn compare(&self, syncs: &Syncs<N>)
         ensures { N.is_recorded ≡ true → IsAmong self.now syncs.now.entries }
     {

@@ -1,4 +1,4 @@
-//! Why a line of a journal can't be restored.
+//! The reasons for which a line of a journal can't be restored.
 
 ghost use Rattle.std.specs.Prelude.{◌≡◌};
 
@@ -7,13 +7,13 @@ use ocpp_scalars::Refusal;
 use std::alloc::AllocError;
 use thiserror::Error;
 
-/// Why a line of a journal can't be restored.
+/// The reason for which a line of a journal can't be restored.
 #[derive(Clone, Copy, Debug, PartialEq, Eq, Error)]
 pub enum RestoreFault {
     /// It isn't a line of a journal.
     #[error("{0}")]
     Line(LineFault),
-    /// Its message asks for no step of those that such a line notes.
+    /// Its message doesn't request a step of the kind that such a line notes.
     #[error("its message asks for no such step")]
     OtherStep,
     /// Its step is refused.
@@ -22,7 +22,7 @@ pub enum RestoreFault {
     /// Its step changes nothing.
     #[error("its step changes nothing")]
     Unchanged,
-    /// Its step was made, and drew another number.
+    /// Its step was made, but drew another number.
     #[error("its step draws {drawn}, and {written} is written")]
     OtherNumber { written: u64, drawn: u64 },
     /// Memory ran out.

@@ -1,4 +1,4 @@
-//! The lines of a journal after its first one, and the book that is restored from them.
+//! The restore of a book from the lines of a journal after its first one.
 
 ghost use Rattle.std.specs.Prelude.{◌≡◌, false, IfErr, IfOk, OnOk};
 ghost use Rattle.journal.specs.ByCases.Restore.{LeadsByLine};
@@ -19,10 +19,10 @@ use version_store::{Book, Pass};
 /// The number of the first line after the header.
 const FIRST_LINE: u64 = 2;
 
-/// What was restored.
+/// The result of a restore.
 #[derive(Clone, Copy, PartialEq, Eq)]
 pub struct Restored {
-    /// How many lines the journal has, the header among them.
+    /// The number of lines of the journal, including the header.
     pub lines: u64,
 }
 
@@ -35,8 +35,8 @@ pub struct Unrestored {
     pub fault: RestoreFault,
 }
 
-/// Restores a book from the lines of a journal after its header. What stands behind the last line
-/// feed is torn, and isn't read. After an error the book is good for nothing.
+/// Restores a book from the lines of a journal after its header. The text after the last line feed
+/// is torn, and isn't read. After an error the book must be discarded.
 pub fn restore<C: Ledger, A: Ledger, N: ListName>(
     alloc: Global,
     book: &mut Book<C, A, N>,
@@ -52,6 +52,7 @@ pub fn restore<C: Ledger, A: Ledger, N: ListName>(
     let mut memory = ReadingMemory::new(alloc);
     let mut number = FIRST_LINE;
     let mut rest = text;
+    // A torn last line can be dropped: it was never acknowledged.
     while let Some((line, others)) = split_line(rest) {
         match restore_bytes(alloc, &mut memory, book, pass, line) {
             Ok(()) => number += 1,
@@ -67,7 +68,7 @@ pub fn restore<C: Ledger, A: Ledger, N: ListName>(
     Ok(Restored { lines: number - 1 })
 }
 
-/// Restores a line, without its line feed, that may be no text.
+/// Restores a line, without its line feed, from bytes that may not be UTF-8.
 fn restore_bytes<C: Ledger, A: Ledger, N: ListName>(
     alloc: Global,
     memory: &mut ReadingMemory,

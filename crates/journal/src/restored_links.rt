@@ -1,4 +1,4 @@
-//! Lines of links and of calls that are sent, restored.
+//! The restore of lines about links and about sent calls.
 
 ghost use Rattle.std.specs.Prelude.{None, Some};
 ghost use Rattle.site_core.specs.declared.step.Step.TheVariants as steps;
@@ -13,7 +13,7 @@ use std::alloc::Global;
 use std::sync::ledger::Ledger;
 use version_store::{Book, Pass};
 
-/// The point gets a new link, which has to have this number.
+/// Gives the point a new link, which has to have this number.
 pub(crate) fn attach<C: Ledger, A: Ledger, N: ListName>(
     alloc: Global,
     book: &mut Book<C, A, N>,
@@ -32,7 +32,7 @@ pub(crate) fn attach<C: Ledger, A: Ledger, N: ListName>(
     }
 }
 
-/// Over this link goes a call, which has to have this number.
+/// Sends a call over this link. The call has to have this number.
 pub(crate) fn send<C: Ledger, A: Ledger, N: ListName>(
     alloc: Global,
     book: &mut Book<C, A, N>,
@@ -51,7 +51,7 @@ pub(crate) fn send<C: Ledger, A: Ledger, N: ListName>(
     }
 }
 
-/// This link is lost.
+/// Ends this link.
 pub(crate) fn lose<C: Ledger, A: Ledger, N: ListName>(
     alloc: Global,
     book: &mut Book<C, A, N>,

@@ -1,4 +1,4 @@
-//! Lines of replies, restored: a call that is confirmed, and an audit that is judged.
+//! The restore of lines about replies: a call is confirmed, or an audit is judged.
 
 ghost use Rattle.std.specs.Prelude.{◌≡◌, None, IfOk};
 ghost use Rattle.site_core.specs.State.{audit_job};
@@ -19,8 +19,8 @@ use sweep_compiler::{AuditJob, Judged, verdicts_are_computed};
 use texts::{Asked, SentText, asked_of, said_of};
 use version_store::Book;
 
-/// A reply that stands on a `verdict` line in place of one that was judged short of memory: read
-/// again, that might come to another verdict, and this one comes to Unsettled as it did.
+/// The reply on a `verdict` line in place of one whose verdict was short of memory.
+// That reply, read again, might lead to another verdict. This one leads to Unsettled, as it did.
 pub const UNREAD_REPLY: &str = r#"[3,"",{"status":"Accepted"}]"#;
 
 /// Confirms the call that a point's reply names, over this link.
@@ -65,7 +65,7 @@ fn confirm<C: Ledger, A: Ledger, N: ListName>(
     }
 }
 
-/// Judges the point's audit whose call has this number by what the point replied.
+/// Judges the point's audit whose call has this number, by the point's reply.
 pub(crate) fn judge_audit<C: Ledger, A: Ledger, N: ListName>(
     alloc: Global,
     memory: &mut ReadingMemory,
@@ -104,7 +104,7 @@ fn judge<C: Ledger, A: Ledger, N: ListName>(
     }
 }
 
-/// The verdict on what a point replied to its audit. One that is short of memory is none.
+/// Returns the verdict on a point's reply to its audit. Fails if memory runs out.
 fn judged_by(
     alloc: Global,
     memory: &mut ReadingMemory,
@@ -113,10 +113,11 @@ fn judged_by(
 ) -> Result<Judged, AllocError>
     ensures { IfOk result (λ judged. judged ≡ judged_exactly job (said_of text.now)) }
 {
-    // A law: nothing runs.
+    // A law that the proof uses: nothing runs.
     verdicts_are_computed();
     let said = said_of(alloc, memory, text)?;
     let judged = Judged::make(alloc, job, said);
+    // A verdict that is short of memory may not be the one that was noted.
     if judged.short() {
         return Err(AllocError);
     }

@@ -1,5 +1,5 @@
-//! A line of a journal, restored: its step made once more by the book's own call, and the number
-//! that it draws compared with the one that is written.
+//! The restore of a line of a journal: the book's own call makes its step again, and the number
+//! that this draws is compared with the written one.
 
 ghost use Rattle.std.specs.Prelude.{◌≡◌, Ok, Some, true, IfErr, IfOk};
 ghost use Rattle.texts.specs.Asked.{asked_of};
@@ -20,8 +20,8 @@ use std::sync::ledger::Ledger;
 use texts::{Asked, SentText, asked_of};
 use version_store::{Book, Pass};
 
-/// Makes the step of a line, where it is made and draws the number that is written. Only after
-/// `OtherNumber` it was made all the same.
+/// Makes the step of a line, if it can be made and draws the written number. After an error the
+/// step wasn't made, except after `OtherNumber`.
 #[tactic(auto, unfolding(crate::specs::Restore::restored))]
 pub(crate) fn restore_line<C: Ledger, A: Ledger, N: ListName>(
     alloc: Global,
@@ -34,6 +34,7 @@ pub(crate) fn restore_line<C: Ledger, A: Ledger, N: ListName>(
         book.old.present result book.new.present }
     ensures pass { KeepsPass pass.old pass.new }
 {
+    // Only calls of the book make steps, so the laws of histories hold whatever the file has.
     match line.noted {
         Noted::Message {
             sender,
@@ -59,7 +60,7 @@ pub(crate) fn restore_line<C: Ledger, A: Ledger, N: ListName>(
 
 // ---- messages
 
-/// Makes the change that a message asks for, which has to draw this number.
+/// Makes the change that a message requests. It has to draw this number.
 fn change<C: Ledger, A: Ledger, N: ListName>(
     alloc: Global,
     memory: &mut ReadingMemory,
@@ -78,7 +79,7 @@ fn change<C: Ledger, A: Ledger, N: ListName>(
     }
 }
 
-/// The change that a message asks for.
+/// Returns the change that a message requests.
 fn change_asked(
     alloc: Global,
     memory: &mut ReadingMemory,
@@ -103,7 +104,7 @@ fn change_asked(
     }
 }
 
-/// Whether a step changes what a point has, or asks the point for something.
+/// Returns whether a step changes a point's book, or requests something of the point.
 pub(crate) fn is_change(step: &Step) -> bool
     ensures { result ≡ is_change step.now }
 {
@@ -139,6 +140,7 @@ fn make_change<C: Ledger, A: Ledger, N: ListName>(
     ensures pass { KeepsPass pass.old pass.new }
 {
     match book.make_step(pass, step) {
+        // Compared only now, since the step itself draws the number.
         Ok(reply) => compare(number, number_drawn(&reply, book.version())),
         Err(refused) => Err(RestoreFault::from(refused.refusal)),
     }

@@ -1,4 +1,4 @@
-//! What a file had at its start, and at each sync.
+//! The contents of a file at its start, and at each sync.
 
 ghost use Rattle.append_log.specs.Contents.{file_of};
 ghost use Rattle.append_log.specs.Log.{contents};
@@ -8,8 +8,8 @@ use ghost_list::{Companion, EntryFrom, Front, GhostList, ListName};
 use std::marker::Model;
 use version_store::RecordedStates;
 
-/// What stood in a file, and what was recorded by its last line. There is none at run time: it is an
-/// entry of a ghost list.
+/// The contents of a file, and the states recorded by its last line. No value of it exists at run
+/// time: it is an entry of a ghost list.
 pub(crate) struct SyncedFile<N: ListName> {
     bytes: Vec<u8>,
     states: RecordedStates<N>,
@@ -23,20 +23,20 @@ impl<N: ListName> Model for SyncedFile<N> {
     ghost view = { λ s. record { bytes = s.bytes.items; states = s.states } };
 }
 
-/// What a file had at its start, and then at each sync.
+/// The contents of a file at its start, and then at each sync.
 pub(crate) type Syncs<N> = GhostList<SyncedFile<N>, Companion<N>>;
 
-/// That by some moment.
+/// The first of these contents, up to some moment.
 pub(crate) type KnownSyncs<N> = Front<SyncedFile<N>, Companion<N>>;
 
-/// A log, and what was recorded by its last line.
+/// A log, and the states recorded by its last line.
 #[derive(Drop)]
 pub(crate) struct AccountedLog<F: AppendedFile, N: ListName> {
     pub log: Log<F>,
     pub states: RecordedStates<N>,
 }
 
-/// What stands in the file of a log.
+/// Makes the ghost entry of a log's file.
 pub(crate) struct InFile;
 
 impl<F: AppendedFile, N: ListName> EntryFrom<AccountedLog<F, N>, SyncedFile<N>> for InFile {

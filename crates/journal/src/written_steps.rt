@@ -15,14 +15,14 @@ use std::alloc::{AllocError, Global};
 use std::marker::Model;
 use version_store::RecordedStates;
 
-/// A log that has what stood in its file at the start, and then the lines of all steps up to some
+/// A log of the contents of its file at the start, followed by the lines of all steps up to some
 /// recorded states. Steps that were taken wait for their lines.
 #[derive(Drop)]
 pub struct WrittenSteps<F: AppendedFile, N: ListName> {
     alloc: Global,
     accounted: AccountedLog<F, N>,
     taken: NotedSteps<N>,
-    /// What the file had at the start, and at each sync.
+    /// The contents of the file at the start, and at each sync.
     syncs: Syncs<N>,
 }
 
@@ -42,8 +42,8 @@ impl<F: AppendedFile, N: ListName> Model for WrittenSteps<F, N> {
 }
 
 impl<F: AppendedFile + Drop, N: ListName> WrittenSteps<F, N> {
-    /// A log that has its lines up to these states, and that starts here. There is room for so many
-    /// steps. What it has at each sync is known from then on under this name.
+    /// Starts with a log that has its lines up to these states, and with room for `room` steps.
+    /// From then on the contents at each sync are known under this name.
     pub fn new(
         alloc: Global,
         log: Log<F>,
@@ -72,13 +72,13 @@ impl<F: AppendedFile + Drop, N: ListName> WrittenSteps<F, N> {
         })
     }
 
-    /// The file, which only the log appends to.
+    /// Returns the file. Only the log appends to it.
     pub fn file(&self) -> &F {
         self.accounted.log.file()
     }
 
-    /// Takes all steps that were noted, where those that were taken before have their lines. False
-    /// where they haven't, or these aren't the next ones: then nothing is taken.
+    /// Takes all noted steps, if those that were taken before have their lines. Returns false, and
+    /// takes nothing, if they don't have them or the noted steps aren't the next ones.
     pub fn take(&mut self, noted: &mut NotedSteps<N>) -> bool
         ensures taken { result ≡ true → self.new ≡ record self.old { taken = noted.old } }
         ensures left { result ≡ true → noted.new ≡ record {
@@ -88,20 +88,22 @@ impl<F: AppendedFile + Drop, N: ListName> WrittenSteps<F, N> {
         } }
         ensures kept { result ≡ false → (self.new ≡ self.old) × (noted.new ≡ noted.old) }
     {
+        // After a failed allocation, earlier steps are still without their lines.
         if !self.taken.is_empty() {
             return false;
         }
         self.taken.take(noted)
     }
 
-    /// Adds the lines of the steps that were taken to the log, and writes none. Afterwards there is room for so many
-    /// more. Where memory runs out no step is lost, and it may be tried again.
+    /// Adds the lines of the taken steps to the log, but doesn't write them. Then makes room for
+    /// `room` more steps. If memory runs out, no step is lost, and the call may be repeated.
     pub fn add_lines(&mut self, room: usize) -> Result<(), AllocError>
         ensures lines { OnOk result (self.new.states ≡ self.old.taken.last) }
         ensures taken { OnOk result (self.new.taken.entries ≡ []) }
         ensures start { self.new.start ≡ self.old.start }
         ensures history { self.new.history ≡ self.old.history }
     {
+        // A text of their own, so that after a failed allocation the log has none of the lines.
         let mut lines = String::new(self.alloc);
         self.taken.push_lines(&mut lines)?;
         self.accounted.log.add(lines.as_bytes())?;
@@ -110,15 +112,15 @@ impl<F: AppendedFile + Drop, N: ListName> WrittenSteps<F, N> {
         self.taken.reserve(room)
     }
 
-    /// Writes the lines that aren't in the file, and syncs it. Then all lines up to the states are
-    /// on the disk, as the receipt shows.
+    /// Writes the lines that aren't in the file yet, and syncs it. Then all lines up to the states
+    /// are on the disk, as the receipt shows.
     pub fn write_and_sync(&mut self) -> Result<Receipt<N>, LogFault>
         ensures contents { self.new ≡ record self.old {
           contents = after_trial self.old.contents result;
           history = self.new.history;
         } }
-        // A crash at any moment of the call leaves what was on the disk before, and behind it a
-        // first part of the lines that aren't, or any bytes if the call failed.
+        // A crash at any moment of the call leaves the bytes that were on the disk before. They are
+        // followed by a first part of the other lines, or by any bytes if the call failed.
         ensures any_moment { AtEachMoment (MayLeave (record self.old.contents {
           has_failed = self.new.contents.has_failed;
         }))
@@ -131,11 +133,12 @@ impl<F: AppendedFile + Drop, N: ListName> WrittenSteps<F, N> {
         self.accounted.log.write_and_sync()?;
         self.syncs
             .add_from::<AccountedLog<F, N>, InFile>(&self.accounted);
+        // Only now: a receipt shows lines that are synced.
         Ok(Receipt::new(self.accounted.states.copy(), self.syncs.front()))
     }
 
-    /// Shows that what a receipt was given for stands on the disk, whenever that was: lines that lead
-    /// from the start to its states.
+    /// Shows that the lines of a receipt are on the disk, whenever it was given. They lead from the
+    /// start to its states.
     pub fn compare(&self, receipt: &Receipt<N>)
         ensures start { N.is_recorded ≡ true → receipt.now.start ≡ self.now.start }
         ensures goes_on { N.is_recorded ≡ true → GoesOn receipt.now.start receipt.now.synced }
@@ -145,7 +148,7 @@ impl<F: AppendedFile + Drop, N: ListName> WrittenSteps<F, N> {
         receipt.compare(&self.syncs);
     }
 
-    /// What was recorded by the last line.
+    /// Returns the states recorded by the last line.
     pub fn states(&self) -> &RecordedStates<N>
         ensures { result.now ≡ self.now.states }
     {

@@ -111,6 +111,8 @@ fn is_some_schedule(duration: u32, periods: &[CompositePeriod]) -> bool
 {
     let mut before = None;
     for period in periods {
+        // Neighbours may have equal limits: a point may split a period, and an audit compares
+        // seconds.
         if !is_next(before, period.start) || period.start >= duration {
             return false;
         }

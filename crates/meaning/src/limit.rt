@@ -53,6 +53,7 @@ impl View<'_> {
     fn transaction_limit(&self, connector: usize, asked: Instant, instant: Instant) -> Option<u32>
         ensures { result ≡ transaction_limit (point_state self.now) connector asked instant }
     {
+        // Second by second: a TxProfile without a limit at this one leaves the default in force.
         match self.prevailing(Purpose::TxProfile, connector, asked, instant) {
             Some(limit) => Some(limit),
             None => self.prevailing(Purpose::TxDefaultProfile, connector, asked, instant),

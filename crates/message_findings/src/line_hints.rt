@@ -68,8 +68,7 @@ fn bad_instant(alloc: Global, word: &str) -> Result<String, AllocError> {
 
 /// Describes the mistake in a line that has none of the forms.
 fn form_hint(alloc: Global, text: &str) -> Result<String, AllocError> {
-    // This comes before the words: of two blanks one would begin an empty word, and a tab is no
-    // end.
+    // This comes first, since two blanks would begin an empty word, and a tab would end none.
     if let Some(hint) = plain_hint(text) {
         return String::from_str(alloc, hint);
     }

@@ -126,6 +126,7 @@ pub(crate) fn check_ended_start(report: &mut Report, ended: &EndedStart) -> Resu
     let alloc = report.alloc;
     let id = ended.profile;
     let tag = excerpt(alloc, ended.id_tag.as_str())?;
+    // With an equal idTag, only the limit of profiles keeps the profile out.
     let message = if ended.is_same_tag {
         format!(in alloc;
             "TxProfile {id} of the remote start by idTag \"{tag}\" is given up: the point would have more than 200 profiles"

@@ -1,4 +1,4 @@
--- The lines of a script behind its first one, and behind its end.
+-- The lines of a script after its first one, and after its end.
 use Rattle.std.proofs.Common.{◌≡◌, ◌∙◌, ◌+◌, ◌-◌, ℕ, suc, List, [], ◌∷◌, refl, sym, ap, ◌≤◌, arith}
 use Rattle.replay.specs.Lines.{script_lines}
 use Rattle.operator_calls.specs.UndoneLine.{line_at, line_behind}
@@ -9,7 +9,7 @@ line_behind-first script line later first = rw first refl
 pub line_behind-later : (script line later : List ℕ) (k : ℕ) → script_lines script ≡ line ∷ script_lines later → line_behind script (suc k) ≡ line_behind later k
 line_behind-later script line later k first = rw first refl
 
--- what is left behind some lines, and its first line
+-- the rest after some lines, and its first line
 pub rest-later : (script rest line later : List ℕ) (passed : ℕ) → ((k : ℕ) → line_behind rest k ≡ line_behind script (passed + k)) → script_lines rest ≡ line ∷ script_lines later → (k : ℕ) → line_behind later k ≡ line_behind script (passed + 1 + k)
 rest-later script rest line later passed behind first k =
     let same : passed + suc k ≡ passed + 1 + k = omega arith in

@@ -1,4 +1,4 @@
-//! The script of a journal with calls behind it.
+//! The script of a journal, with calls after it.
 
 ghost use Rattle.std.specs.Prelude.{◌≤◌, IfOk, IfSome, vec_len};
 ghost use Rattle.replay.specs.Limits.{max_script_bytes};
@@ -9,16 +9,16 @@ use ocpp_scalars::{Instant, push_instant};
 use replay::{LONGEST_FRAME, MAX_SCRIPT_BYTES};
 use std::alloc::{AllocError, Global};
 
-/// A journal's script with calls behind it.
+/// A journal's script, with calls after it.
 #[derive(Drop)]
 pub struct CallScript {
     pub script: Vec<u8>,
-    /// How many lines of it are the journal's.
+    /// The number of the journal's lines in it.
     pub lines: u64,
 }
 
-/// A journal's script with the calls of visits behind it, each a line at this moment. None where that
-/// is longer than a script may be.
+/// Appends the calls of visits to a journal's script, each as a line at this moment. Returns none
+/// if that is longer than a script may be.
 pub fn script_of_calls(
     journal: Vec<u8>,
     moment: Instant,
@@ -32,6 +32,7 @@ pub fn script_of_calls(
     let mut script = journal;
     for visit in visits {
         push_visit(&mut script, moment, calls, visit)?;
+        // Long calls to 1,000 points would take far more memory than the longest script.
         if script.len() > MAX_SCRIPT_BYTES {
             break;
         }
@@ -57,8 +58,9 @@ fn push_visit(
     Ok(())
 }
 
-/// Appends a call to a point as a line of a script. One that is too long for a line is an empty line,
+/// Appends a call to a point as a line of a script. A call that is too long becomes an empty line,
 /// and isn't checked.
+// Each call has to be one line, since the lines are played in step with the calls.
 fn push_call(
     script: &mut Vec<u8>,
     moment: Instant,
@@ -78,7 +80,8 @@ fn push_call(
     script.extend_from_slice(line.as_str().as_bytes())
 }
 
-/// A JSON text on one line. A line break stands between two words of it, for no string has one.
+/// Writes a JSON text on one line.
+// JSON allows no line break in a string, so each one is white space between two tokens.
 pub fn on_one_line(alloc: Global, text: &str) -> Result<String, AllocError> {
     let mut line = String::new(alloc);
     for character in text.chars() {
@@ -91,7 +94,7 @@ pub fn on_one_line(alloc: Global, text: &str) -> Result<String, AllocError> {
     Ok(line)
 }
 
-/// The number of lines, each of which ends with a line feed.
+/// Returns the number of lines, each of which ends with a line feed.
 fn count_lines(script: &[u8]) -> u64 {
     let mut count = 0u64;
     for byte in script {

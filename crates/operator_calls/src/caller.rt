@@ -1,4 +1,4 @@
-//! Who decides which of an operator's messages are sent, and says what is wrong with them.
+//! Decides which of an operator's messages are sent, and reports their faults.
 
 ghost use Rattle.std.specs.Prelude.{◌≡◌, ◌||◌, not, IfOk};
 ghost use Rattle.findings.specs.ExitStatus.{has_fault};
@@ -12,26 +12,26 @@ use message_findings::{SentCheck, answer_sentence, check_sent, json_break};
 use std::alloc::{AllocError, AllocGlobal};
 use std::fmt::Display;
 
-/// The exit status where something wasn't sent, or wasn't accepted.
+/// The exit status if something wasn't sent or wasn't accepted.
 const REFUSED: u8 = 2;
 
-/// The exit status where the connection to a point's operator failed.
+/// The exit status if the connection to a point's operator failed.
 const FAILED: u8 = 3;
 
-/// How messages are sent.
+/// The options for sending messages.
 #[derive(Drop)]
 pub struct Sending<'a> {
-    /// The operator's URL; where points are called by their identities, without these.
+    /// The operator's URL, without an identity if points are called by theirs.
     pub url: &'a str,
-    /// The name and the key that the client tells, if any.
+    /// The name and the key for authentication, if any.
     pub login: Option<String>,
-    /// Whether what has a fault is sent, too.
+    /// Whether messages with a fault are sent too.
     pub force: bool,
-    /// Whether nothing is sent: what would be is printed.
+    /// Whether nothing is sent, and the messages are printed instead.
     pub dry_run: bool,
 }
 
-/// Who sends messages, and what came of them so far.
+/// A sender of messages, with the exit status by their outcomes so far.
 #[derive(Drop)]
 pub struct Caller<'a, R> {
     pub rt: &'a R,
@@ -48,12 +48,12 @@ impl<'a, R: Print + Eprint + AllocGlobal> Caller<'a, R> {
         }
     }
 
-    /// The exit status, by what came of the messages.
+    /// Returns the exit status by the outcomes so far.
     pub fn status(&self) -> u8 {
         self.status
     }
 
-    /// The calls that are to be sent. Says what is wrong with each.
+    /// Returns the calls that are to be sent. Reports the findings in each.
     pub fn passed(&mut self, calls: Vec<GivenCall>) -> Result<Vec<GivenCall>, ClientFault> {
         let mut passed = Vec::new(self.rt.alloc());
         for call in calls {
@@ -64,7 +64,8 @@ impl<'a, R: Print + Eprint + AllocGlobal> Caller<'a, R> {
         Ok(passed)
     }
 
-    /// Whether the call of an option is to be sent. Its JSON text has to be JSON by itself.
+    /// Returns whether the call of an option is to be sent. Its text has to be JSON by itself.
+    // The break's place is in the text that the operator wrote, not in the frame built of it.
     fn passes_given(&mut self, call: &GivenCall) -> Result<bool, ClientFault> {
         let name = call.name;
         if let Some(given) = &call.given {
@@ -77,7 +78,7 @@ impl<'a, R: Print + Eprint + AllocGlobal> Caller<'a, R> {
         self.passes(name, call.frame.as_str())
     }
 
-    /// Whether a message is to be sent, which is reported by this name. Says what is wrong with it.
+    /// Returns whether a message is to be sent. Reports its findings by this name.
     pub fn passes<N: Display + Copy + Drop>(
         &mut self,
         name: N,
@@ -89,6 +90,7 @@ impl<'a, R: Print + Eprint + AllocGlobal> Caller<'a, R> {
             self.report(name, "NotACall")?;
             return Ok(false);
         }
+        // Not even `--force` sends this: it would remove fuse limits too, which is hardly intended.
         if checked.clears_by_mistake {
             self.report(name, "NoCriterion")?;
             return Ok(false);
@@ -96,8 +98,8 @@ impl<'a, R: Print + Eprint + AllocGlobal> Caller<'a, R> {
         self.passes_with("", name, checked.findings.as_slice())
     }
 
-    /// Whether the call of an option is to be sent to the point of an identity, about which these
-    /// findings tell. Says them. The identity is named where the URL lacks it.
+    /// Returns whether the call of an option is to be sent to a point, by these findings. Reports
+    /// them, with the point's identity if the URL lacks it.
     pub fn passes_at(
         &mut self,
         point: Option<&str>,
@@ -112,7 +114,7 @@ impl<'a, R: Print + Eprint + AllocGlobal> Caller<'a, R> {
         self.passes_with(label.as_str(), call.name, findings)
     }
 
-    /// Whether a message is to be sent of which this was found.
+    /// Returns whether a message with these findings is to be sent.
     fn passes_with<N: Display + Copy + Drop>(
         &mut self,
         label: &str,
@@ -132,8 +134,8 @@ impl<'a, R: Print + Eprint + AllocGlobal> Caller<'a, R> {
         Ok(false)
     }
 
-    /// Whether an undo is to be sent to the point of an identity that takes back these later changes,
-    /// too. Says them.
+    /// Returns whether an undo that reverts these later changes too is to be sent to a point.
+    /// Reports the changes.
     pub fn passes_undo(
         &mut self,
         point: Option<&str>,
@@ -155,7 +157,7 @@ impl<'a, R: Print + Eprint + AllocGlobal> Caller<'a, R> {
         Ok(false)
     }
 
-    /// What each line about a point begins with, where it is called by its identity.
+    /// Returns the beginning of each line about a point: its identity, if the URL lacks it.
     pub fn label_of(&self, point: Option<&str>) -> Result<String, AllocError> {
         match point {
             Some(point) => format!(in self.rt.alloc(); "{point} "),
@@ -163,8 +165,8 @@ impl<'a, R: Print + Eprint + AllocGlobal> Caller<'a, R> {
         }
     }
 
-    /// Notes that the connection to a point's operator failed, and says so. Any other fault stops the
-    /// program.
+    /// Notes and reports that the connection to a point's operator failed. Returns any other fault,
+    /// which stops the program.
     pub fn note_failed(&mut self, point: &str, fault: ClientFault) -> Result<(), ClientFault> {
         if !is_of_one_point(fault) {
             return Err(fault);
@@ -174,7 +176,7 @@ impl<'a, R: Print + Eprint + AllocGlobal> Caller<'a, R> {
         Ok(())
     }
 
-    /// Says what is wrong with a message before it is sent.
+    /// Reports the findings in a message before it is sent.
     fn say_of<N: Display + Copy + Drop>(
         &self,
         name: N,
@@ -186,7 +188,7 @@ impl<'a, R: Print + Eprint + AllocGlobal> Caller<'a, R> {
         self.say_findings("", name, checked.findings.as_slice())
     }
 
-    /// Says what is found, behind the label of a point and the name of its message.
+    /// Reports findings, each after the label of a point and the name of its message.
     fn say_findings<N: Display + Copy + Drop>(
         &self,
         label: &str,
@@ -205,7 +207,7 @@ impl<'a, R: Print + Eprint + AllocGlobal> Caller<'a, R> {
         Ok(())
     }
 
-    /// Notes that a message was refused, and says what its answer means.
+    /// Notes that a message was refused, and explains its answer.
     pub fn refused<N: Display + Drop>(
         &mut self,
         label: &str,
@@ -219,7 +221,7 @@ impl<'a, R: Print + Eprint + AllocGlobal> Caller<'a, R> {
         Ok(())
     }
 
-    /// Prints why a message isn't sent.
+    /// Prints the reason why a message isn't sent.
     pub fn report<N: Display + Drop>(&mut self, name: N, why: &str) -> Result<(), ClientFault> {
         self.note_refused();
         self.print(format!(in self.rt.alloc(); "! {name} {why}")?)
@@ -229,7 +231,8 @@ impl<'a, R: Print + Eprint + AllocGlobal> Caller<'a, R> {
         self.status = self.status.max(REFUSED);
     }
 
-    /// Says something more on standard error. Where that can't be written no answer is lost.
+    /// Writes a line to standard error.
+    // A failed write is ignored: the answers go to standard output, so none is lost.
     pub fn say(&self, words: String) {
         let _ = self.rt.eprintln(&words);
     }
@@ -243,7 +246,8 @@ impl<'a, R: Print + Eprint + AllocGlobal> Caller<'a, R> {
     }
 }
 
-/// Whether a client stopped by what may be so at one point alone.
+/// Returns whether a fault may concern one point only.
+// Any other fault, such as one of standard output, would recur at the other points.
 fn is_of_one_point(fault: ClientFault) -> bool {
     matches!(fault, ClientFault::Closed | ClientFault::Socket)
 }

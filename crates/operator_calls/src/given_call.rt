@@ -1,18 +1,18 @@
-//! A call that an option of a command gives.
+//! The call of a command-line option.
 
-/// The call that an option gives.
+/// The call of an option.
 #[derive(Drop)]
 pub struct GivenCall {
     /// The option's name.
     pub name: &'static str,
-    /// The JSON text that it was given, where it is given one.
+    /// The JSON text given to the option, if it takes one.
     pub given: Option<String>,
     /// The call's frame.
     pub frame: String,
 }
 
 impl GivenCall {
-    /// The call of an option that is given a JSON text.
+    /// Makes the call of an option with a JSON text.
     pub fn with_json(name: &'static str, given: String, frame: String) -> GivenCall {
         GivenCall {
             name,
@@ -21,7 +21,7 @@ impl GivenCall {
         }
     }
 
-    /// The call of an option without a JSON text.
+    /// Makes the call of an option without a JSON text.
     pub fn plain(name: &'static str, frame: String) -> GivenCall {
         GivenCall {
             name,

@@ -1,4 +1,4 @@
-//! The profiles that a point has or had, as an undo compares them.
+//! The profiles of a point at a line, as an undo compares them.
 
 use meaning::PrevailingProfile;
 use messages::push_profile;
@@ -6,19 +6,20 @@ use profile::Row;
 use site_core::Machine;
 use std::alloc::{AllocError, Global};
 
-/// A profile that a point has or had.
+/// A profile of a point at a line.
 #[derive(Drop)]
 pub(crate) struct Kept {
     pub(crate) name: PrevailingProfile,
     /// The payload that installs it.
+    // A profile is compared by this text, since it has all fields and the connector.
     pub(crate) payload: String,
-    /// The number of its connector's active transaction, of a TxProfile.
+    /// The number of its connector's active transaction, if there is one.
     pub(crate) transaction: Option<i32>,
-    /// Whether it is gone, and is to be installed again.
+    /// Whether it is gone and will be installed again.
     pub(crate) comes_back: bool,
 }
 
-/// The profiles that a point has.
+/// Returns the profiles that a point has.
 pub(crate) fn kept_by(
     alloc: Global,
     machine: &Machine,
@@ -38,7 +39,7 @@ pub(crate) fn kept_by(
     Ok(kept)
 }
 
-/// A profile by its id, its purpose and where it stands.
+/// Names a profile by its id, purpose, stack level and connector.
 fn name_of(row: &Row) -> PrevailingProfile {
     PrevailingProfile {
         id: row.profile.id,
@@ -48,7 +49,7 @@ fn name_of(row: &Row) -> PrevailingProfile {
     }
 }
 
-/// The payload of the SetChargingProfile that installs a profile.
+/// Returns the payload of the SetChargingProfile that installs a profile.
 fn payload_of(alloc: Global, row: &Row) -> Result<String, AllocError> {
     let connector = row.connector;
     let mut payload = format!(in alloc; "{{\"connectorId\":{connector},\"csChargingProfiles\":")?;
@@ -57,14 +58,14 @@ fn payload_of(alloc: Global, row: &Row) -> Result<String, AllocError> {
     Ok(payload)
 }
 
-/// The number of the active transaction at a connector of a point.
+/// Returns the number of the active transaction at a connector of a point.
 pub(crate) fn transaction_of(machine: &Machine, point: &str, connector: u32) -> Option<i32> {
     let book = machine.book_of(point)?;
     let transaction = book.transaction_at(connector)?;
     Some(transaction.id)
 }
 
-/// Whether one of these profiles is the same, and stands at the same connector.
+/// Returns whether one of these profiles is the same, at the same connector.
 pub(crate) fn is_among(kept: &Kept, others: &[Kept]) -> bool {
     let payload = kept.payload.as_str();
     others.iter().any(|other| other.payload.as_str() == payload)

@@ -1,4 +1,4 @@
-//! What later lines of a script changed at the point of an undo, and which of that is taken back.
+//! Finds the changes of later lines at the point of an undo, and which of them it reverts.
 
 use crate::kept::{Kept, is_among, kept_by};
 use meaning::PrevailingProfile;
@@ -8,19 +8,19 @@ use replay::{PlayedLine, PointChange, ScriptLine};
 use site_core::Machine;
 use std::alloc::{AllocError, Global};
 
-/// A profile that a line brought to its point, or took away from it.
+/// A profile that a line installed at its point, or removed from it.
 #[derive(Clone, Copy, PartialEq, Eq)]
 pub struct LaterChange {
-    /// The line's number and its moment.
+    /// The line's number.
     pub line: u64,
     pub moment: Instant,
     pub profile: PrevailingProfile,
-    /// Whether the line brought it.
+    /// Whether the line installed it.
     pub is_install: bool,
 }
 
 impl LaterChange {
-    /// What is said where an undo takes it back, too.
+    /// Describes the change for an operator whose undo reverts it too.
     pub fn sentence(&self, alloc: Global) -> Result<String, AllocError> {
         let line = self.line;
         let mut text = format!(in alloc; "undo takes back line {line} of ")?;
@@ -33,18 +33,18 @@ impl LaterChange {
     }
 }
 
-/// Who follows the profiles of a point, line after line.
+/// A follower of the profiles of a point, line by line.
 #[derive(Drop)]
 pub(crate) struct PointFollower<'a> {
     alloc: Global,
     point: &'a str,
-    /// Those that it has.
+    /// The profiles that the point has.
     kept: Vec<Kept>,
     changes: Vec<LaterChange>,
 }
 
 impl<'a> PointFollower<'a> {
-    /// Begins with what the point has now.
+    /// Begins with the profiles that the point has now.
     pub(crate) fn begin(
         alloc: Global,
         machine: &Machine,
@@ -58,7 +58,7 @@ impl<'a> PointFollower<'a> {
         })
     }
 
-    /// Takes in a line that was played.
+    /// Follows a line that was played.
     pub(crate) fn follow(
         &mut self,
         machine: &Machine,
@@ -73,6 +73,8 @@ impl<'a> PointFollower<'a> {
         if sent.point() != self.point {
             return Ok(());
         }
+        // The lists are compared since a line has more effects than it names: an install replaces
+        // others, and a transaction ends TxProfiles.
         let now = kept_by(self.alloc, machine, self.point)?;
         for profile in without(self.alloc, now.as_slice(), self.kept.as_slice())? {
             self.changes.push(LaterChange {
@@ -94,8 +96,8 @@ impl<'a> PointFollower<'a> {
         Ok(())
     }
 
-    /// Those of the changes that are taken back where the point has these profiles again. Of several
-    /// changes of one profile the last counts. A line that brought a profile goes by that one.
+    /// Returns the changes that are reverted if the point has these profiles again. Of several
+    /// changes of one profile the last counts. A line with an install is named by that.
     pub(crate) fn taken_back(self, before: &[Kept]) -> Result<Vec<LaterChange>, AllocError> {
         let cleared = without(self.alloc, self.kept.as_slice(), before)?;
         let mut back = Vec::new(self.alloc);
@@ -110,6 +112,7 @@ impl<'a> PointFollower<'a> {
             if !names.contains(&change.profile) || self.is_outdated(change) {
                 continue;
             }
+            // An install that replaces a profile is one change for the operator, and no clear.
             let said = self.install_in(change.line).unwrap_or(*change);
             if !taken.contains(&said) {
                 taken.push(said)?;
@@ -118,7 +121,7 @@ impl<'a> PointFollower<'a> {
         Ok(taken)
     }
 
-    /// Whether a later line brought the same profile, too, or took it away, too.
+    /// Returns whether a later line installed the same profile again, or removed it again.
     fn is_outdated(&self, change: &LaterChange) -> bool {
         self.changes.iter().any(|other| {
             other.line > change.line
@@ -127,7 +130,7 @@ impl<'a> PointFollower<'a> {
         })
     }
 
-    /// What the line of a number brought, if it did.
+    /// Returns the install of the line of this number, if it has one.
     fn install_in(&self, line: u64) -> Option<LaterChange> {
         self.changes
             .iter()
@@ -136,12 +139,12 @@ impl<'a> PointFollower<'a> {
     }
 }
 
-/// Whether a line that changed this may have changed the profiles of its point.
+/// Returns whether a line with this change may have changed the profiles of its point.
 fn may_change_profiles(change: PointChange) -> bool {
     matches!(change, PointChange::Profiles | PointChange::Transaction)
 }
 
-/// The names of the profiles that aren't among the others.
+/// Returns the names of the profiles that aren't among the others.
 fn without(
     alloc: Global,
     profiles: &[Kept],

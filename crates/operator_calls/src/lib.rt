@@ -1,5 +1,5 @@
-//! What an operator's client sends to which points (OCPP-J 1.6, chapter 3), and which calls bring a
-//! point back to the profiles that it had before a line of a journal.
+//! The calls that an operator's client sends to each point (OCPP-J 1.6, chapter 3), and those that
+//! restore the profiles that a point had before a line of a journal.
 #![tactic(auto)]
 
 mod call_script;

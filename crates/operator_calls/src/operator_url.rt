@@ -1,13 +1,13 @@
-//! The URL of an operator, with the identity of a point and without it.
+//! The URL of an operator, with or without the identity of a point.
 
 use std::alloc::{AllocError, Global};
 
-/// Whether an operator's URL lacks the point's identity.
+/// Returns whether an operator's URL lacks the point's identity.
 pub fn is_without_point(url: &str) -> bool {
     url.trim_end_matches('/').ends_with("/operator")
 }
 
-/// The identity of the point that an operator's URL names, if it names one.
+/// Returns the identity of the point that an operator's URL names, if it names one.
 pub fn point_of_url(url: &str) -> Option<&str> {
     if is_without_point(url) {
         None
@@ -16,13 +16,13 @@ pub fn point_of_url(url: &str) -> Option<&str> {
     }
 }
 
-/// The URL of the operator of a point.
+/// Returns the URL of the operator of a point.
 pub fn url_of_point(alloc: Global, base: &str, point: &str) -> Result<String, AllocError> {
     let base = base.trim_end_matches('/');
     format!(in alloc; "{base}/{point}")
 }
 
-/// The last segment of a URL.
+/// Returns the last segment of a URL.
 pub(crate) fn last_segment(url: &str) -> &str {
     match url.rsplit_once('/') {
         Some((_base, segment)) => segment,

@@ -1,4 +1,4 @@
-//! What brings a point back to the profiles that it had before a line of a journal.
+//! Finds the calls that restore the profiles that a point had before a line of a journal.
 
 ghost use Rattle.std.specs.Prelude.{◌≤◌, length};
 ghost use Rattle.replay.specs.Limits.{max_script_bytes};
@@ -15,17 +15,17 @@ use site_rules::Site;
 use std::alloc::{AllocError, AllocGlobal, Global};
 use std::rt::Clock;
 
-/// The name of each call of an undo, as its option has it.
+/// The name of each call of an undo: that of its option.
 pub const UNDO: &str = "undo";
 
-/// What brings a point back.
+/// The calls of an undo, and its further effects.
 #[derive(Drop)]
 pub struct Undo {
     /// The clears, and then the installs.
     pub calls: Vec<GivenCall>,
-    /// What can't be installed again.
+    /// The profiles that can't be installed again.
     pub lost: Vec<LostProfile>,
-    /// What later lines changed that is taken back, too.
+    /// The changes of later lines that are reverted too.
     pub later: Vec<LaterChange>,
 }
 
@@ -36,9 +36,9 @@ pub struct LostProfile {
     pub connector: u32,
 }
 
-/// What brings the point of an identity back to the profiles that it had before the line of a number
-/// in a script, from those that it has at the end. Where playing it takes long it is said on standard
-/// error how many lines are read.
+/// Returns the calls that lead the point of this identity from the profiles that it has at the end
+/// of a script to those before the line of this number. Reports the progress on standard error if
+/// playing the script takes long.
 pub fn undo_to<R: Clock + Eprint + AllocGlobal>(
     rt: &R,
     script: &[u8],
@@ -53,6 +53,7 @@ pub fn undo_to<R: Clock + Eprint + AllocGlobal>(
     let mut playing = Playing::new(alloc, script, site)?;
     play_to(rt, &mut playing, &mut progress, script.len(), number)?;
     let mut before = kept_by(alloc, playing.machine(), point)?;
+    // The follower begins after the undone line, whose own changes aren't later ones.
     let behind = number.saturating_add(1);
     play_to(rt, &mut playing, &mut progress, script.len(), behind)?;
     let mut follower = PointFollower::begin(alloc, playing.machine(), point)?;
@@ -64,7 +65,7 @@ pub fn undo_to<R: Clock + Eprint + AllocGlobal>(
     Ok(Undo { calls, lost, later })
 }
 
-/// Notes which profiles come back that the point has no more. Returns those that can't.
+/// Marks the profiles that the point has lost and may get again. Returns those that it can't.
 fn find_lost(
     alloc: Global,
     machine: &Machine,
@@ -88,8 +89,8 @@ fn find_lost(
     Ok(lost)
 }
 
-/// Plays the lines of a script that stand before the line of a number. It has no more lines than
-/// bytes.
+/// Plays the lines of a script before the line of this number.
+// A script has no more lines than bytes, so this range ends the loop without a proof.
 fn play_to<R: Clock + Eprint>(
     rt: &R,
     playing: &mut Playing<'_>,
@@ -106,8 +107,8 @@ fn play_to<R: Clock + Eprint>(
     Ok(())
 }
 
-/// Plays the other lines of a script, and follows what they change at a point. They are no more than
-/// its bytes.
+/// Plays the other lines of a script, and follows their changes at a point.
+// A script has no more lines than bytes, so this range ends the loop without a proof.
 fn follow_rest<R: Clock + Eprint>(
     rt: &R,
     playing: &mut Playing<'_>,
@@ -125,13 +126,13 @@ fn follow_rest<R: Clock + Eprint>(
     Ok(())
 }
 
-/// Whether a point may get a profile again: a TxProfile only while its transaction is active.
+/// Returns whether a point may get a profile again: a TxProfile only in its own transaction.
 fn may_come_back(machine: &Machine, point: &str, kept: &Kept) -> bool {
     kept.name.purpose != Purpose::TxProfile
         || kept.transaction == transaction_of(machine, point, kept.name.connector)
 }
 
-/// The calls that lead from the profiles of now to those of before.
+/// Returns the calls that lead from the present profiles to the earlier ones.
 fn calls_between(
     alloc: Global,
     before: &[Kept],
@@ -141,6 +142,7 @@ fn calls_between(
     for added in now {
         if !is_among(added, before) && !is_replaced(added, before) {
             let id = added.name.id;
+            // Many points ignore the other criteria of a clear with an id.
             let criteria = format!(in alloc; "{{\"id\":{id}}}")?;
             calls.push(GivenCall::plain(UNDO, clear_call(alloc, criteria.as_str())?))?;
         }
@@ -153,7 +155,7 @@ fn calls_between(
     Ok(calls)
 }
 
-/// Whether a profile that comes back takes the place of this one.
+/// Returns whether a profile that comes back replaces this one, which then needs no clear.
 fn is_replaced(added: &Kept, before: &[Kept]) -> bool {
     let name = added.name;
     before

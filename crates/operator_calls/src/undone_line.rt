@@ -1,4 +1,4 @@
-//! The line of a script that is undone.
+//! Finds the line of a script that is undone, and its point.
 
 ghost use Rattle.std.specs.Prelude.{◌≡◌, ◌+◌, ℕ, IfOk, option_map, string_bytes};
 ghost use Rattle.replay.specs.Line.{line_of};
@@ -8,7 +8,7 @@ use replay::{ScriptLine, read_line, split_line};
 use site_rules::Site;
 use std::alloc::{AllocError, Global};
 
-/// The line of a number, counted from 1, in a script; behind its end nothing.
+/// Returns the line of this number, counted from 1, in a script. It is empty after the last line.
 pub fn line_at(script: &[u8], number: u64) -> &[u8]
     ensures { result.now ≡ line_at script.now number }
 {
@@ -19,7 +19,7 @@ pub fn line_at(script: &[u8], number: u64) -> &[u8]
     split_line(rest).0
 }
 
-/// What follows so many lines of a script.
+/// Returns the rest of a script after this number of lines.
 fn rest_behind(script: &[u8], lines: u64) -> &[u8]
     ensures { (k : ℕ) → line_behind result.now k ≡ line_behind script.now (lines + k) }
 {
@@ -33,7 +33,8 @@ fn rest_behind(script: &[u8], lines: u64) -> &[u8]
     rest
 }
 
-/// The identity of the point that a line of a script is for or from.
+/// Returns the identity of the point of a message in a line.
+// A held request changes nothing, so there is nothing to undo in it.
 pub fn point_of_line(alloc: Global, line: &[u8], site: &Site) -> Result<Option<String>, AllocError>
     ensures { IfOk result (λ point.
         option_map string_bytes point ≡ point_said (line_of site.now line.now)) }

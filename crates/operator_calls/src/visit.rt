@@ -1,4 +1,4 @@
-//! Which calls go to which points.
+//! The calls that go to each point.
 
 ghost use Rattle.std.specs.Prelude.{◌≡◌, true, false, map, option_map, IfOk};
 ghost use Rattle.operator_calls.specs.Visits.{visited, all_points, visit_to};
@@ -8,19 +8,20 @@ use crate::operator_url::last_segment;
 use site_rules::Site;
 use std::alloc::{AllocError, Global};
 
-/// The calls that go to a point.
+/// A point, and the calls that go to it.
 #[derive(Drop)]
 pub struct Visit {
     /// The point's identity.
     pub id: String,
-    /// Whether the operator's URL lacks the identity. Then each line about the point begins with it.
+    /// Whether the operator's URL lacks the identity: then lines about the point begin with it.
     pub is_labelled: bool,
-    /// The places of the calls among those that are given.
+    /// The indexes of the calls among those that are given.
+    // A site has up to 1,000 points, and a copy of each frame for each would take much memory.
     pub calls: Vec<usize>,
 }
 
 impl Visit {
-    /// A visit with so many calls.
+    /// Makes a visit with the first `count` calls.
     fn new(alloc: Global, id: &str, is_labelled: bool, count: usize) -> Result<Visit, AllocError>
         ensures { IfOk result (λ visit. visited visit ≡ (id.now, is_labelled)) }
     {
@@ -35,15 +36,15 @@ impl Visit {
         })
     }
 
-    /// The visit to the point of an operator's URL, with so many calls.
+    /// Makes the visit to the point of an operator's URL, with the first `count` calls.
     pub fn of_url(alloc: Global, url: &str, count: usize) -> Result<Visit, AllocError>
         ensures { IfOk result (λ visit. visit.is_labelled ≡ false) }
     {
         Visit::new(alloc, last_segment(url), false, count)
     }
 
-    /// The visit to the point of an identity, with so many calls. None where the operator's URL names
-    /// another point. It may name none.
+    /// Makes the visit to the point of this identity, with the first `count` calls. Returns none if
+    /// the operator's URL names another point. The URL may name none.
     pub fn at_point(
         alloc: Global,
         named: Option<&str>,
@@ -60,12 +61,12 @@ impl Visit {
         }
     }
 
-    /// Leaves out the calls that have this name.
+    /// Removes the calls of this name.
     pub fn leave_out(&mut self, name: &str, calls: &[GivenCall]) {
         self.calls.retain(|place| calls.get(*place).is_some_and(|call| call.name != name));
     }
 
-    /// The point's identity, where the URL lacks it.
+    /// Returns the point's identity, if the URL lacks it.
     pub fn label(&self) -> Option<&str> {
         if self.is_labelled {
             Some(self.id.as_str())
@@ -75,7 +76,7 @@ impl Visit {
     }
 }
 
-/// The visits to each point of a site, each with so many calls.
+/// Makes a visit to each point of a site, each with the first `count` calls.
 pub fn visits_of_site(alloc: Global, site: &Site, count: usize) -> Result<Vec<Visit>, AllocError>
     ensures { IfOk result (λ visits. map visited visits.items ≡ all_points site.now) }
 {

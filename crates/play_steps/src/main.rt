@@ -1,5 +1,5 @@
-//! Plays tables of steps in words on a machine and on a book, and prints what came of each line. A
-//! table begins with its title, `# ..`, and its site file. The words of a step are those of
+//! Plays tables of steps in words on a machine and on a book, and prints the outcome of each line.
+//! A table begins with its title, `# ..`, and its site file. The words of a step are those of
 //! `step_words`; `src/player.rt` has those of the other lines.
 #![tactic(auto)]
 
@@ -27,7 +27,7 @@ fn main(rt: HostRuntime) -> io::Result<()> {
     Ok(())
 }
 
-/// Plays a table. What an audit asked is kept for those after it.
+/// Plays a table. The request of an audit is kept for later tables.
 fn play_table<R: Print + AllocGlobal>(
     rt: &R,
     table: &str,
@@ -44,7 +44,7 @@ fn play_table<R: Print + AllocGlobal>(
     play_at::<Brand, Brand, R>(rt, Blank::new(1), Blank::new(1), table)
 }
 
-/// The lines of a table on their site, and what an audit asked that was kept before.
+/// The lines of a table with their site, and the kept request of an audit.
 #[derive(Drop)]
 struct Table<'a> {
     site: Site,

@@ -1,15 +1,15 @@
-//! What comes of a line. Beside a step it is one of these:
+//! The outcome of a line. Apart from steps, the lines are these:
 //!
-//! - `3893 times CP2 attach`: a step so many times, with what comes of the last
-//! - `CP1 job 1`: reads what the audit of call 1 asked, with its seconds, and keeps it
-//! - `CP1 judge 1 160`, `CP1 refuse 1`, `CP1 garble 1`: keeps the verdict on what the point says to
-//!   what was kept (`judging` of `step_words`)
-//! - `- bring 2 1`: brings for request 1 what was compiled for request 2
-//! - `- version`, `- requests`, `- events`, `- changes`, `- answers`: how far the book is, how many
-//!   requests are kept and events stored, and how many changes and answers are counted
-//! - `CP1 link`: the link over which a call is to be sent; `CP1 starts`: how many starts wait
-//! - `CP1 rows`: how many profiles a point has, and, with the number of a profile, `CP1 transaction 0`
-//!   and `CP1 moment 0`: its transaction, and when it was installed, in seconds from midnight on
+//! - `3893 times CP2 attach`: makes a step that many times, with the outcome of the last
+//! - `CP1 job 1`: reads the request of the audit of call 1, with its seconds, and keeps it
+//! - `CP1 judge 1 160`, `CP1 refuse 1`, `CP1 garble 1`: keeps the verdict on a reply to the kept
+//!   request (`judging` of `step_words`)
+//! - `- bring 2 1`: posts for request 1 the answer compiled for request 2
+//! - `- version`, `- requests`, `- events`, `- changes`, `- answers`: the version of the book, and
+//!   the numbers of kept requests, stored events, and counted changes and answers
+//! - `CP1 link`: the link over which a call is to be sent; `CP1 starts`: the number of waiting starts
+//! - `CP1 rows`: the number of profiles of a point; with the index of a profile, `CP1 transaction 0`
+//!   and `CP1 moment 0`: its transaction, and the moment of its install, in seconds after midnight
 
 use meaning::Composite;
 use profile::Row;
@@ -23,7 +23,7 @@ const UNREAD: Said = ("unread words", None);
 
 const DIFFERENT: Said = ("the sides differ", None);
 
-/// The sides of a table, and what the audit asked that was read last.
+/// The sides of a table, and the request of the audit that was read last.
 #[derive(Drop)]
 pub(crate) struct Player<C: Ledger, A: Ledger> {
     pub(crate) sides: Sides<C, A>,
@@ -31,7 +31,7 @@ pub(crate) struct Player<C: Ledger, A: Ledger> {
 }
 
 impl<C: Ledger, A: Ledger> Player<C, A> {
-    /// The schedule that was handed out last.
+    /// Returns the schedule that was returned last.
     pub(crate) fn answered(&self) -> Option<&Composite> {
         match &self.sides.answered {
             Some(answer) => answer.answer().as_ref().ok(),
@@ -39,7 +39,7 @@ impl<C: Ledger, A: Ledger> Player<C, A> {
         }
     }
 
-    /// What comes of a line, nothing of an empty one.
+    /// Returns the outcome of a line, empty for an empty one.
     pub(crate) fn said(&mut self, line: &str) -> Said {
         let mut words = Words::of(line);
         let point = words.word();
@@ -85,7 +85,7 @@ impl<C: Ledger, A: Ledger> Player<C, A> {
         }
     }
 
-    /// Keeps what both sides say that an audit asked, if that is one thing.
+    /// Keeps the request of an audit if both sides have the same.
     fn keep_job(&mut self, job: Option<AuditJob>, other: Option<AuditJob>) -> Said {
         if !is_one_job(&job, &other) {
             return DIFFERENT;
@@ -108,7 +108,7 @@ impl<C: Ledger, A: Ledger> Player<C, A> {
         }
     }
 
-    /// What is told of the sides, if it is a question: a number.
+    /// Returns a number of the sides if the line asks for one.
     fn told(&self, point: &str, name: &str, words: Words<'_>) -> Option<Said> {
         let book = &self.sides.book;
         match name {
@@ -151,7 +151,7 @@ fn link_said(link: Option<u64>) -> Said {
     }
 }
 
-/// The profiles that a point has.
+/// Returns the profiles of a point.
 fn rows_of<'a>(machine: &'a Machine, point: &str) -> &'a [Row] {
     match machine.book_of(point) {
         Some(book) => book.view().rows,

@@ -1,11 +1,12 @@
-//! A line with what came of it.
+//! A line with its outcome.
 
 use meaning::Composite;
 use std::alloc::{AllocError, AllocGlobal, Global};
 use std::io;
 use step_words::Said;
 
-/// Prints a line. Behind the first limit of an answer stand all of its periods, each with its start.
+/// Prints a line with its outcome: for an answer with a schedule, all of its periods, each with its
+/// start.
 pub(crate) fn print_line<R: Print + AllocGlobal>(
     rt: &R,
     line: &str,
@@ -24,7 +25,7 @@ pub(crate) fn print_line<R: Print + AllocGlobal>(
     }
 }
 
-/// The periods of a schedule, as `0:60 30:160`.
+/// Returns the periods of a schedule, such as `limits 0:60 30:160`.
 fn periods_text(alloc: Global, schedule: &Composite) -> Result<String, AllocError> {
     let mut text = String::from_str(alloc, "limits")?;
     for period in schedule.periods() {

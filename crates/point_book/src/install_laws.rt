@@ -7,8 +7,8 @@ ghost use Rattle.profile.specs.declared.row.Row.{Row};
 ghost use Rattle.point_book.specs.Book.{BookState};
 ghost use Rattle.point_book.specs.Changes.{install_causes, install_refusal};
 
-/// The law of installs. A row is refused by the first cause that holds. Exactly if none holds, it
-/// is not refused while there is memory.
+/// The law of installs. A row is refused by the first cause that holds. If none holds, and only
+/// then, nothing but a lack of memory refuses it.
 pub fn installs()
     ensures { (book : BookState) (row : Row) (refusal : Option Refusal)
         → (install_refusal book row ≡ refusal) ↔ IsFirstCause (install_causes book row) refusal }

@@ -67,7 +67,7 @@ fn context_of<
     's,
     C: Ledger + 's,
     A: Ledger + 's,
-    R: Wait + 's,
+    R: Wait + Clock + 's,
     J: Journal<N> + 's,
     N: ListName + 's,
 >(seats: &'s SeatContext<C, A, R, J, N>, jobs: Jobs<'s>) -> Context<'s, SeatWorld<C, A, R, J, N>> {

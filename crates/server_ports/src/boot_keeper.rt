@@ -95,7 +95,7 @@ fn boot_lines(alloc: Global, site: &Site, boots: &[Option<Boot>]) -> Result<Stri
 }
 
 /// Says that the boots can't be kept.
-fn say_unkept<C: Ledger, A: Ledger, R: Wait, J, N: ListName>(
+fn say_unkept<C: Ledger, A: Ledger, R: Wait + Clock, J, N: ListName>(
     seats: &SeatContext<C, A, R, J, N>,
     error: &io::Error,
 ) {

@@ -14,6 +14,7 @@ use site_status::{
     answer_of, health_answer, nothing_there, status_path,
 };
 use std::alloc::{AllocError, Global};
+use std::rt::Clock;
 use std::sync::Wait;
 use std::sync::ledger::Ledger;
 
@@ -23,7 +24,7 @@ pub struct StatusService<'a, C: Ledger, A: Ledger, R, J, N: ListName> {
     pub port: &'a StatusPort<C, A, R, J, N>,
 }
 
-impl<C: Ledger, A: Ledger, R: Wait + Drop, J: WatchedJournal + Drop, N: ListName> Service
+impl<C: Ledger, A: Ledger, R: Wait + Clock + Drop, J: WatchedJournal + Drop, N: ListName> Service
     for StatusService<'_, C, A, R, J, N> {
     ghost answers = { λ _ _ _ _. Unit {0} };
 
@@ -61,7 +62,7 @@ impl<C: Ledger, A: Ledger, R: Wait + Drop, J: WatchedJournal + Drop, N: ListName
     }
 }
 
-impl<C: Ledger, A: Ledger, R: Wait + Drop, J: WatchedJournal + Drop, N: ListName> StatusService<
+impl<C: Ledger, A: Ledger, R: Wait + Clock + Drop, J: WatchedJournal + Drop, N: ListName> StatusService<
     '_,
     C,
     A,
@@ -96,7 +97,7 @@ impl<C: Ledger, A: Ledger, R: Wait + Drop, J: WatchedJournal + Drop, N: ListName
 }
 
 /// What is answered at a path that wants to know what the site has.
-fn answer_by<C: Ledger, A: Ledger, R: Wait, J, N: ListName>(
+fn answer_by<C: Ledger, A: Ledger, R: Wait + Clock, J, N: ListName>(
     seats: &SeatContext<C, A, R, J, N>,
     journal: JournalReport,
     path: StatusPath<'_>,

@@ -1,15 +1,16 @@
-//! What is found, line by line.
+//! Writes findings, one on each line.
 
 use crate::line_points::LinePoints;
 use findings::{Finding, Location, Severity};
 use std::alloc::{AllocError, Global};
 use std::fmt::Write;
 
-/// What stands before each finding in a script.
+/// The name before each finding in a script.
 const SCRIPT: &str = "script";
 
-/// What is found in a site file, line by line: faults first, which would be hard to find among the
-/// remarks on many points. Equal warnings and remarks on points are one line.
+/// Writes the findings in a site file, one on each line, by severity. Equal warnings and remarks on
+/// points share a line.
+// Faults come first, since they would be hard to find among the remarks on many points.
 pub fn site_page(alloc: Global, name: &str, findings: &[Finding]) -> Result<String, AllocError> {
     let mut page = String::new(alloc);
     for severity in [Severity::Fault, Severity::Warning, Severity::Remark] {
@@ -18,7 +19,7 @@ pub fn site_page(alloc: Global, name: &str, findings: &[Finding]) -> Result<Stri
     Ok(page)
 }
 
-/// Appends a line for each finding, behind the name of where it was found.
+/// Appends a line for each finding, with the name of its source before it.
 pub fn push_findings(
     page: &mut String,
     name: &str,
@@ -30,8 +31,8 @@ pub fn push_findings(
     Ok(())
 }
 
-/// Appends a line for each finding in a script, in the order of its lines, with the points of these.
-/// Equal ones on what points have at the end, which stands last, are one line.
+/// Appends a line for each finding in a script, with the point of its line. The findings are sorted
+/// by line. Equal ones in the points at the end, which come last, share a line.
 pub(crate) fn push_script_findings(
     page: &mut String,
     lines: &mut LinePoints<'_>,
@@ -78,7 +79,7 @@ fn push_in_line(
     }
 }
 
-/// Appends a line for each finding that matters so much.
+/// Appends a line for each finding of this severity.
 fn push_of_severity(
     page: &mut String,
     name: &str,
@@ -100,7 +101,7 @@ fn push_finding(page: &mut String, name: &str, finding: &Finding) -> Result<(), 
     }
 }
 
-/// Appends the finding of this number, unless it was made before on another point.
+/// Appends the finding at this index, unless an earlier point has the same one.
 fn push_once(
     page: &mut String,
     name: &str,
@@ -117,7 +118,8 @@ fn push_once(
     push_counted(page, name, finding, rest)
 }
 
-/// Whether both are warnings on points, or both remarks, in the same words.
+/// Returns whether both are warnings on points, or both remarks, with the same message.
+// A fault has to be mended at each point, so each one has a line.
 fn are_alike(finding: &Finding, other: &Finding) -> bool {
     is_on_point(finding)
         && is_on_point(other)
@@ -126,12 +128,12 @@ fn are_alike(finding: &Finding, other: &Finding) -> bool {
         && finding.message.as_str() == other.message.as_str()
 }
 
-/// Whether a finding is on a point of the site file, or on what a point has at the end.
+/// Returns whether a finding is on a point of the site file, or on a point at the end of a script.
 fn is_on_point(finding: &Finding) -> bool {
     matches!(finding.place, Location::Point { .. } | Location::End(_))
 }
 
-/// Appends a finding, with the last point of the rest on which it is made too, and the number of all.
+/// Appends a finding, with the last of the other points that have it, and the number of points.
 fn push_counted(
     page: &mut String,
     name: &str,

@@ -1,11 +1,11 @@
-//! What is found in a file of keys: whom it lets in, and what is wrong with it.
+//! Checks a file of keys: its faults, and the clients that it lets in.
 
 use findings::{Finding, Location, Severity};
 use site_keys::{Keys, KeysFault};
 use site_rules::Site;
 use std::alloc::{AllocError, Global};
 
-/// What is found in a line.
+/// The finding in a line.
 #[derive(Drop)]
 struct InLine<'a> {
     severity: Severity,
@@ -14,8 +14,8 @@ struct InLine<'a> {
     point: Option<&'a str>,
 }
 
-/// What is found in the bytes of a file of keys, line by line. Where the site is read, a line that
-/// lets in a point which the site hasn't is a warning, and so is a point that no line lets in.
+/// Checks a file of keys, line by line. If the site is known, warns of a line that lets in a point
+/// that the site lacks, and of a point that no line lets in.
 pub fn find_in_keys(
     alloc: Global,
     bytes: &[u8],
@@ -53,13 +53,13 @@ fn found_at(place: Location, severity: Severity, message: String) -> Finding {
     }
 }
 
-/// What is found in a line, if it isn't left out: a fault, or whom it lets in.
+/// Returns the finding in a line: a fault, or the client that it lets in. A skipped line has none.
 fn found_in_line<'a>(
     alloc: Global,
     line: &'a [u8],
     site: Option<&Site>,
 ) -> Result<Option<InLine<'a>>, AllocError> {
-    // Each line of a file of keys is such a file, too.
+    // A file is read up to its first fault. Each line is such a file too, so all faults are found.
     match Keys::read(alloc, line) {
         Ok(_) => {}
         Err(KeysFault::Line { fault, .. }) => {
@@ -88,7 +88,7 @@ fn found_in_line<'a>(
     }))
 }
 
-/// The role and the name of a line with a key; none where the line is left out.
+/// Returns the role and the name of a line with a key, or none if the line is skipped.
 fn user_of(line: &[u8]) -> Option<(&str, &str)> {
     let text = str::from_utf8(line).ok()?;
     if text.starts_with('#') {
@@ -99,7 +99,7 @@ fn user_of(line: &[u8]) -> Option<(&str, &str)> {
     Some((role, name))
 }
 
-/// Adds a warning for each point of the site that isn't among those that are let in.
+/// Adds a warning for each point of the site that isn't let in.
 fn find_left_out(
     alloc: Global,
     let_in: &[&str],

@@ -1,5 +1,5 @@
-//! What is found in what a site is run with, before it is used: in a file of keys, in a script or a
-//! journal as it is played, and in calls that come behind it.
+//! Checks a site's input before it is used: a file of keys, a script or a journal as it is played,
+//! and the calls that are to follow it.
 #![tactic(auto)]
 
 mod finding_lines;

@@ -1,20 +1,21 @@
-//! Which points the lines of a script are for or from.
+//! Finds the points of the lines of a script.
 
 use replay::{ScriptLine, read_line, split_line};
 use site_rules::Site;
 use std::alloc::{AllocError, Global};
 
-/// The lines of a script, from one to the next.
+/// A position in the lines of a script, which only moves forward.
+// So a script is passed once for all its findings.
 #[derive(Drop)]
 pub(crate) struct LinePoints<'a> {
     site: &'a Site,
-    /// The line of this number, counted from 1, and those behind it.
+    /// The line of this number, counted from 1, and those after it.
     rest: &'a [u8],
     number: u64,
 }
 
 impl<'a> LinePoints<'a> {
-    /// Before the first line.
+    /// Begins at the first line.
     pub(crate) fn new(script: &'a [u8], site: &'a Site) -> LinePoints<'a> {
         LinePoints {
             site,
@@ -23,8 +24,8 @@ impl<'a> LinePoints<'a> {
         }
     }
 
-    /// The identity of the point of a line, which is none of those before the last one that was asked
-    /// for. None where the line names no point of the site.
+    /// Returns the identity of the point of a line, or none if the line names no point of the site.
+    /// The line may not be before that of the last call.
     pub(crate) fn point_at(
         &mut self,
         alloc: Global,

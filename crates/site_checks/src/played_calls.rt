@@ -1,4 +1,4 @@
-//! Calls to points behind a script, and what is found in each by what its point has then.
+//! Checks calls after a script, each by the state of its point at that line.
 
 ghost use Rattle.std.specs.Prelude.{◌≤◌, length};
 ghost use Rattle.replay.specs.Limits.{max_script_bytes};
@@ -14,15 +14,14 @@ use site_rules::Site;
 use std::alloc::{AllocError, Global};
 use std::rt::Clock;
 
-/// A script that was played up to the calls behind it, each of which is a line.
+/// A script that has been played up to the calls at its end, each of which is a line.
 #[derive(Drop)]
 pub struct PlayedCalls<'a> {
     trace: Trace<'a>,
 }
 
 impl<'a> PlayedCalls<'a> {
-    /// Plays the first lines of a script, so many. Where that takes long it is said on standard error
-    /// how many are read.
+    /// Plays the first `lines` lines of a script. Reports slow progress on standard error.
     pub fn behind<R: Clock + Eprint>(
         rt: &R,
         alloc: Global,
@@ -44,8 +43,8 @@ impl<'a> PlayedCalls<'a> {
         Ok(PlayedCalls { trace })
     }
 
-    /// Plays the next line, which is a call to a point. Returns what is found in it besides what the
-    /// call says by itself, and what is found in what the point has that it hadn't before.
+    /// Plays the next line, which is a call to a point. Returns the findings in it, and those in
+    /// the point's profiles that are new. Leaves out the findings in the call by itself.
     pub fn find_in_next(
         &mut self,
         alloc: Global,
@@ -58,12 +57,14 @@ impl<'a> PlayedCalls<'a> {
         let fuse_before = fuse_at(trace.playing().machine(), point);
         let found = find_in_line(alloc, trace, number)?;
         let after = find_at_point(alloc, trace.playing().machine(), point)?;
+        // `call` has reported these already, so they would be there twice.
         let by_itself = check_sent(alloc, frame)?;
         let mut findings = without(alloc, found, by_itself.findings.as_slice())?;
         let machine = trace.playing().machine();
         let fuse_after = fuse_at(machine, point);
         let mut standing = without(alloc, after, before.as_slice())?;
-        // What ceilings bring about beside the same fuse limit is no news.
+        // A remark on the ceilings has an instant that moves with each install. With the same fuse
+        // limit it is no news.
         standing.retain(|finding| {
             finding.severity != Severity::Remark || fuse_after != fuse_before
         });
@@ -76,7 +77,7 @@ impl<'a> PlayedCalls<'a> {
     }
 }
 
-/// Plays the next line, which has this number. Returns what is found in it.
+/// Plays the next line, which has this number. Returns the findings in it.
 fn find_in_line(
     alloc: Global,
     trace: &mut Trace<'_>,
@@ -93,7 +94,8 @@ fn find_in_line(
     Ok(found)
 }
 
-/// The findings whose message none of the others has.
+/// Returns the findings whose message none of the others has.
+// Places aren't compared: a call by itself is line 0, and a line of the script here.
 fn without(
     alloc: Global,
     findings: Vec<Finding>,

@@ -1,4 +1,4 @@
-//! What is found in the lines of a script as they are played.
+//! Checks the lines of a script as they are played.
 
 use findings::Finding;
 use message_findings::{ScriptCheck, check_printed};
@@ -8,8 +8,7 @@ use show_pages::Trace;
 use site_core::Machine;
 use std::alloc::{AllocError, Global};
 
-/// Takes in the line of a script that was played, and checks it. What is found in what it prints is
-/// added to the findings.
+/// Checks the line of a script that was played last. Adds the findings in its output to `printed`.
 pub(crate) fn find_in_played<'a>(
     alloc: Global,
     trace: &mut Trace<'a>,
@@ -23,8 +22,7 @@ pub(crate) fn find_in_played<'a>(
     trace.take_in(played)
 }
 
-/// Adds what is found in what lines changed in the profiles of their points, from the line of a number
-/// on.
+/// Adds the findings in the changes of profiles by the lines from number `first` on.
 pub(crate) fn find_in_changes(
     alloc: Global,
     trace: &Trace<'_>,
@@ -47,7 +45,7 @@ pub(crate) fn find_in_changes(
     Ok(())
 }
 
-/// What is found in what the point of an identity has.
+/// Returns the findings in the profiles of the point of this identity.
 pub(crate) fn find_at_point(
     alloc: Global,
     machine: &Machine,

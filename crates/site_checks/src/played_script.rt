@@ -1,4 +1,4 @@
-//! What is found in a script or a journal as it is played, and what it leaves undone.
+//! Checks a script or a journal as it is played, and reports calls and requests left at its end.
 
 ghost use Rattle.std.specs.Prelude.{◌≤◌, length};
 ghost use Rattle.replay.specs.Limits.{max_script_bytes};
@@ -18,17 +18,17 @@ use site_status::{Boot, may_forget_since};
 use std::alloc::{AllocError, Global};
 use std::rt::Clock;
 
-/// What is played on a site.
+/// A script to play on a site.
 #[derive(Clone, Copy)]
 pub struct PlayedScript<'a> {
     pub script: &'a [u8],
-    /// The boots that a folder keeps, each at the place of its point.
+    /// The boots kept in the data folder, in the order of the points.
     pub boots: &'a [Option<Boot>],
     pub with_trace: bool,
 }
 
-/// Appends what is found in a script that is played on a site, and what it leaves undone. Returns
-/// what is found. Where that takes long it is said on standard error how many lines are read.
+/// Plays a script on a site. Appends the findings, and the calls and requests left at its end.
+/// Returns the findings. Reports the progress on standard error if that takes long.
 pub fn push_played<R: Clock + Eprint>(
     rt: &R,
     page: &mut String,
@@ -53,6 +53,7 @@ pub fn push_played<R: Clock + Eprint>(
         played.boots,
         &mut findings,
     )?;
+    // `LinePoints` only moves forward, and each pass above begins at the first line.
     sort_by_line(&mut findings)?;
     let mut lines = LinePoints::new(played.script, trace.playing().machine().site());
     push_script_findings(page, &mut lines, findings.as_slice())?;
@@ -63,8 +64,7 @@ pub fn push_played<R: Clock + Eprint>(
     Ok(findings)
 }
 
-/// Plays a script line by line. Returns what is found in its lines, and what is found in what they
-/// print.
+/// Plays a script line by line. Returns the findings in its lines and in their output.
 fn find_in_lines<R: Clock + Eprint>(
     rt: &R,
     alloc: Global,
@@ -75,7 +75,7 @@ fn find_in_lines<R: Clock + Eprint>(
     let mut printed = Vec::new(alloc);
     let mut fuses = PointFuses::new(alloc, trace.playing().machine())?;
     let mut progress = Progress::of_lines(rt);
-    // Each line has a byte at least.
+    // Each line has at least one byte, so this range ends the loop without a proof.
     for _line in 0..script.len() {
         let Some(played) = trace.next()? else {
             break;
@@ -92,7 +92,7 @@ fn find_in_lines<R: Clock + Eprint>(
     Ok(findings)
 }
 
-/// Adds what is found in what the points have when the script ends.
+/// Adds the findings in the profiles that the points have when the script ends.
 fn find_at_the_end(
     alloc: Global,
     trace: &Trace<'_>,
@@ -109,7 +109,7 @@ fn find_at_the_end(
     Ok(())
 }
 
-/// Adds which points booted and may have forgotten what they have when the script ends.
+/// Adds a remark for each point that booted and may have forgotten its profiles.
 fn find_in_boots(
     alloc: Global,
     machine: &Machine,
@@ -127,7 +127,7 @@ fn find_in_boots(
     Ok(())
 }
 
-/// Whether the point of an identity, which booted, may have forgotten what it has.
+/// Returns whether the point of this identity may have forgotten its profiles in this boot.
 fn may_forget(
     alloc: Global,
     machine: &Machine,

@@ -1,4 +1,4 @@
-//! The fuse limits of the points of a site, line after line.
+//! Follows the fuse limits of the points of a site, line by line.
 
 use findings::Finding;
 use profile_findings::{check_raise, check_unlimited, fuse_limit};
@@ -6,7 +6,7 @@ use replay::{PlayedLine, PointChange, ScriptLine};
 use site_core::Machine;
 use std::alloc::{AllocError, Global};
 
-/// The most that the ChargePointMaxProfiles of the point of an identity allow, where it has any.
+/// Returns the highest limit of the ChargePointMaxProfiles of the point of this identity, if any.
 pub(crate) fn fuse_at(machine: &Machine, point: &str) -> Option<u32> {
     fuse_limit(machine.book_of(point)?)
 }
@@ -15,7 +15,7 @@ pub(crate) fn fuse_at(machine: &Machine, point: &str) -> Option<u32> {
 #[derive(Clone, Copy)]
 struct Fuse {
     limit: Option<u32>,
-    /// How many profiles the point has.
+    /// The number of the point's profiles.
     profiles: usize,
 }
 
@@ -26,7 +26,7 @@ pub(crate) struct PointFuses {
 }
 
 impl PointFuses {
-    /// Before the first line no point has one.
+    /// Begins before the first line, without any fuse limit.
     pub(crate) fn new(alloc: Global, machine: &Machine) -> Result<PointFuses, AllocError> {
         let mut fuses = Vec::new(alloc);
         for _place in 0..machine.site().len() {
@@ -38,8 +38,8 @@ impl PointFuses {
         Ok(PointFuses { fuses })
     }
 
-    /// Takes in what a line did to the fuse limit of its point. Returns a remark where a profile raised
-    /// that in another's place. Of one that comes beside another it is said what it lifts.
+    /// Follows the effect of a line on the fuse limit of its point. Returns a remark if a profile
+    /// that replaces another one raised it.
     pub(crate) fn follow(
         &mut self,
         alloc: Global,
@@ -66,6 +66,7 @@ impl PointFuses {
             limit: fuse_limit(book),
             profiles: book.view().rows.len(),
         };
+        // A profile that doesn't replace another is checked at the end, with the one that it lifts.
         if fuse.profiles != before.profiles {
             return Ok(None);
         }
@@ -73,7 +74,7 @@ impl PointFuses {
         check_raise(alloc, unit, played.number, before.limit, fuse.limit)
     }
 
-    /// Adds which points have no fuse limit at the end, where most of them have one.
+    /// Adds a remark for each point without a fuse limit at the end, if most points have one.
     pub(crate) fn find_unlimited(
         &self,
         alloc: Global,

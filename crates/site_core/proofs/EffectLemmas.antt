@@ -378,7 +378,7 @@ remote_start_agrees site numbers id connector id_tag profile point =
 
 -- ---- all of them
 
--- of a step at a point
+-- agreement for a step at a point
 abbrev pub WorkAgrees : Step → Work → Type 0
 WorkAgrees step (AtPoint at) =
     (site : SiteState) (numbers : Numbers) (point : ChargePointState)

@@ -14,7 +14,7 @@ const LEVELS: usize = MAX_STACK_LEVEL as usize + 1;
 /// For each stack level, an index among rows, of which there are fewer than 256. `NO_PLACE` is the
 /// index of no row.
 // A table that one pass over the rows fills: searching all rows for each level took about half of a
-// short request.
+// short request's sweep.
 pub(crate) type Places = [u8; LEVELS];
 
 /// An index past the last row.

@@ -1,6 +1,6 @@
-//! What is done to the central system, in words, and what comes of it: steps as lines, replies and
-//! refusals as a name with its number, and a machine beside a book to which the same is done. Tests
-//! and `play_steps` are made of it.
+//! Steps of the central system in words, and their outcomes: steps as lines, replies and refusals
+//! as a name with its number, and a machine beside a book that makes the same steps. Tests and
+//! `play_steps` use it.
 #![tactic(auto)]
 
 mod said;

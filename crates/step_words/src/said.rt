@@ -1,17 +1,17 @@
-//! What comes of a step, in words.
+//! The outcome of a step, in words.
 
 use meaning::Composite;
 use messages::PointStatus;
 use ocpp_scalars::Refusal;
 use site_core::Reply;
 
-/// What came of a step: its name, and its number where it has one. That is the number of a
-/// transaction, a request, a link or a call, or the tenths of the first limit that is answered. A
-/// refusal that is handed out as an answer has the number 1. Of a status it is how many calls wait,
-/// with the version as thousands, and the name is what came of the audit.
+/// The outcome of a step: its name, and its number if it has one. That is the number of a
+/// transaction, a request, a link or a call, or the tenths of an answer's first limit. A refusal
+/// that is returned as an answer has the number 1. For a status it is the number of waiting calls
+/// plus 1,000 times the version, and the name is the outcome of the audit.
 pub type Said = (&'static str, Option<u64>);
 
-/// What comes of a step that is made.
+/// Returns the outcome of a step that is made.
 pub fn said_of(reply: &Reply) -> Said {
     match reply {
         Reply::Accepted => ("Accepted", None),
@@ -37,7 +37,7 @@ pub fn said_of(reply: &Reply) -> Said {
     }
 }
 
-/// An answer that is handed out.
+/// Returns the outcome of an answer.
 pub fn said_of_answer(answer: &Result<Composite, Refusal>) -> Said {
     match answer {
         Ok(schedule) => {

@@ -1,4 +1,4 @@
-//! A machine and a book to which the same is done.
+//! A machine and a book that make the same steps.
 
 ghost use Rattle.std.specs.Prelude.{◌≡◌};
 ghost use Rattle.site_core.specs.Step.{HasAskedConnector};
@@ -16,7 +16,7 @@ use std::sync::ledger::{Blank, Ledger};
 use sweep_compiler::Compiled;
 use version_store::{Answer, Book, Pass};
 
-/// How many answers are kept until they are posted, at most.
+/// The most answers that are kept until they are posted.
 const ROOM: usize = 128;
 
 /// A machine, and a book with the pass of its one session.
@@ -26,18 +26,18 @@ pub struct Sides<C: Ledger, A: Ledger> {
     pub machine: Machine,
     pub book: Book<C, A>,
     pub pass: Pass<C, A>,
-    /// What was compiled for requests of the book and isn't posted yet, each with the number of its
-    /// request.
+    /// The answers compiled for requests of the book and not posted yet, each with the number of
+    /// its request.
     compiled: Vec<(u64, Compiled)>,
-    /// What is brought where nothing is kept: an answer without a schedule to the last request.
+    /// The answer to post if none is kept: one without a schedule to the last request.
     spare: Option<Compiled>,
-    /// The answer that the book handed out last, and the call that it sent last.
+    /// The answer that the book returned last, and the call that it sent last.
     pub answered: Option<Answer>,
     pub sent: Option<Call>,
 }
 
 impl<C: Ledger, A: Ledger> Sides<C, A> {
-    /// Both as a site is at first.
+    /// Makes both from a site.
     pub fn new(
         alloc: Global,
         changes: Blank,
@@ -67,7 +67,7 @@ impl<C: Ledger, A: Ledger> Sides<C, A> {
         })
     }
 
-    /// What comes of a step on the machine.
+    /// Makes a step on the machine, and returns its outcome.
     pub fn on_machine(&mut self, step: &Step) -> Said {
         match self.machine.make(step) {
             Ok(reply) => said_of(&reply),
@@ -75,8 +75,8 @@ impl<C: Ledger, A: Ledger> Sides<C, A> {
         }
     }
 
-    /// What comes of a step as the call of a session on the book, or the step again where it is
-    /// refused. What a request asks is compiled at once, and posted by its Compile.
+    /// Makes a step as the call of a session on the book, and returns its outcome, or the step if
+    /// it is refused. A request is compiled at once, and its answer is posted by its Compile.
     pub fn on_book(&mut self, step: Step) -> Result<Said, Refused> {
         match step {
             Step::Compile(number) => Ok(self.bring(number, number)),
@@ -92,7 +92,7 @@ impl<C: Ledger, A: Ledger> Sides<C, A> {
         }
     }
 
-    /// Compiles what is asked, where a request was taken, and keeps a call that is sent.
+    /// Compiles a request that was taken, and keeps a call that is sent.
     fn keep(&mut self, reply: Reply) -> Said
         requires { HasAskedConnector reply }
     {
@@ -113,8 +113,8 @@ impl<C: Ledger, A: Ledger> Sides<C, A> {
         }
     }
 
-    /// Keeps what was compiled for the request of a number, as far as there is room. The spare has
-    /// the number 0.
+    /// Keeps the answer compiled for the request of a number, if there is room. The spare has the
+    /// number 0.
     fn put_back(&mut self, number: u64, compiled: Compiled) {
         if number == 0 {
             self.spare = Some(compiled);
@@ -123,7 +123,7 @@ impl<C: Ledger, A: Ledger> Sides<C, A> {
         }
     }
 
-    /// What was compiled for the request of a number, or else the spare.
+    /// Removes the answer compiled for the request of a number, or otherwise the spare.
     fn take_out(&mut self, number: u64) -> Option<(u64, Compiled)> {
         match self.compiled.iter().position(|kept| kept.0 == number) {
             Some(place) => Some(self.compiled.remove(place)),
@@ -131,8 +131,7 @@ impl<C: Ledger, A: Ledger> Sides<C, A> {
         }
     }
 
-    /// Posts to the book, for the request of a number, what was compiled for the one of its own
-    /// number.
+    /// Posts to the book, for the request of a number, the answer compiled for request `own`.
     pub fn bring(&mut self, own: u64, number: u64) -> Said {
         let Some((own, compiled)) = self.take_out(own) else {
             return ("nothing to bring", None);
@@ -158,8 +157,8 @@ impl<C: Ledger, A: Ledger> Sides<C, A> {
         }
     }
 
-    /// What comes of a step on both, if that is one thing, and what the machine's outlook was.
-    /// Otherwise the name begins with `the sides`.
+    /// Makes a step on both, and returns its outcome if it is the same on both, and the one that
+    /// the machine's outlook foresaw. Otherwise the name begins with `the sides`.
     pub fn make(&mut self, step: Step) -> Said {
         let outlook = self.machine.outlook(&step);
         let stored = self.book.stored();
@@ -175,8 +174,8 @@ impl<C: Ledger, A: Ledger> Sides<C, A> {
         self.agreed(on_machine, said)
     }
 
-    /// Brings what was compiled for a request of its own number for another one. A machine compiles
-    /// by itself, and so only where it isn't a stranger's.
+    /// Posts the answer compiled for request `own` for another one. A machine compiles its answer
+    /// itself, so it does this only if the answer isn't a stranger's.
     pub fn bring_both(&mut self, own: u64, number: u64) -> Said {
         let said = self.bring(own, number);
         if said.0 == Refusal::StrangerInput.name() {
@@ -186,7 +185,7 @@ impl<C: Ledger, A: Ledger> Sides<C, A> {
         self.agreed(on_machine, said)
     }
 
-    /// What came of both, where it is one thing, and both read the same since.
+    /// Returns the outcome if both had the same one, and both have the same values since.
     fn agreed(&self, on_machine: Said, said: Said) -> Said {
         if on_machine.0 != said.0 || on_machine.1 != said.1 {
             return ("the sides differ", None);
@@ -213,13 +212,13 @@ impl<C: Ledger, A: Ledger> Sides<C, A> {
     }
 }
 
-/// An answer without a schedule, where there is memory for a share of the book.
+/// Makes an answer without a schedule, if there is memory for a share of the book.
 fn unmade(book: &Arc<PointBook>, ask: &Ask) -> Option<Compiled> {
     let share = Arc::try_clone(book).ok()?;
     Some(Compiled::unmade(share, *ask))
 }
 
-/// Whether what came of a step is what was foreseen: an event, an answer alone, or a refusal.
+/// Whether the outcome of a step was foreseen: an event, only an answer, or a refusal.
 fn is_foreseen(outlook: Result<bool, Refusal>, said: Said, is_event: bool) -> bool {
     match outlook {
         Ok(is_foreseen) => is_foreseen == is_event,

@@ -1,13 +1,14 @@
-//! Steps in words, a line each: the identity of a point (`-` where the step names none), the step,
-//! and its words.
+//! Steps in words, a line each: the identity of a point (`-` if the step names none), the step, and
+//! its words.
 //!
 //! `CP1 install id=1 kind=Relative` has the words of `row_of`, `CP1 clear id=1` those of
 //! `criteria_of`. `CP1 start ann 1 10` is a start by an idTag at a connector, at a second after
-//! midnight. `CP1 remote ann 1 id=5 purpose=TxProfile` asks for one; without the last words it has
-//! no profile. `CP1 take 1 0 60 5` is a request of a connector, from a second on and for so many
-//! seconds, behind version 5 if one was seen. The words of the others are numbers: `CP1 audit 1 60` of a connector and seconds, `CP1
-//! confirm 2 0` and `CP1 reject 2 0` of a link and a call, `CP1 send 2`, `CP1 lost 2`, `CP1 stop 1`,
-//! `- compile 1`, `- answer 1`. `CP1 attach`, `CP1 status` and `- finish` have none.
+//! midnight. `CP1 remote ann 1 id=5 purpose=TxProfile` requests one; without the last words it has
+//! no profile. `CP1 take 1 0 60 5` is a request for a connector, from a second on for a number of
+//! seconds, after version 5 if that was seen. The words of the others are numbers: `CP1 audit 1 60`
+//! of a connector and seconds, `CP1 confirm 2 0` and `CP1 reject 2 0` of a link and a call,
+//! `CP1 send 2`, `CP1 lost 2`, `CP1 stop 1`, `- compile 1`, `- answer 1`. `CP1 attach`,
+//! `CP1 status` and `- finish` have none.
 
 use meaning::{CompositePeriod, Said, SaidPeriods};
 use profile::{Profile, Unit};
@@ -16,7 +17,7 @@ use std::alloc::Global;
 use sweep_compiler::{AuditJob, Judged};
 use test_books::{UnreadWords, Words, begin_of, criteria_of, instant_at, row_of};
 
-/// The step of a line's words. A number that isn't there, or can't be read, is 0.
+/// Parses the step of a line's words. A number that is missing or can't be read is 0.
 pub fn step_of(alloc: Global, line: &str) -> Result<Step, UnreadWords> {
     let mut words = Words::of(line);
     let point = PointId::copied(alloc, words.word())?;
@@ -40,7 +41,7 @@ fn clear(point: PointId, words: &str) -> Result<Step, UnreadWords> {
     Ok(Step::Clear { point, criteria })
 }
 
-/// A start of words: its idTag, its connector, and its second.
+/// Makes a start of words: its idTag, its connector, and its second.
 fn start(alloc: Global, point: PointId, mut words: Words<'_>) -> Result<Step, UnreadWords> {
     let tag = words.word();
     let connector = words.number().unwrap_or(0);
@@ -52,7 +53,8 @@ fn start(alloc: Global, point: PointId, mut words: Words<'_>) -> Result<Step, Un
     })
 }
 
-/// A remote start of words: its idTag, its connector, and those of its profile, if there are some.
+/// Makes a remote start of words: its idTag, its connector, and those of its profile, if there are
+/// any.
 fn remote_start(alloc: Global, point: PointId, mut words: Words<'_>) -> Result<Step, UnreadWords> {
     let tag = words.word();
     let connector = words.number().unwrap_or(0);
@@ -73,7 +75,7 @@ fn profile_of(alloc: Global, words: &str) -> Result<Option<Profile>, UnreadWords
     Ok(Some(row_of(alloc, words)?.profile))
 }
 
-/// A request of words: its connector, its start, its duration, and the version that was seen.
+/// Makes a request of words: its connector, its start, its duration, and the version that was seen.
 fn take(point: PointId, mut words: Words<'_>) -> Result<Step, UnreadWords> {
     let connector = words.number().unwrap_or(0);
     let start = instant_at(words.long().unwrap_or(0))?;
@@ -87,7 +89,7 @@ fn take(point: PointId, mut words: Words<'_>) -> Result<Step, UnreadWords> {
     }))
 }
 
-/// A step whose words are numbers.
+/// Makes a step whose words are numbers.
 fn numbered_step(point: PointId, name: &str, mut words: Words<'_>) -> Result<Step, UnreadWords> {
     let first = words.long().unwrap_or(0);
     let second = words.long().unwrap_or(0);
@@ -108,7 +110,7 @@ fn numbered_step(point: PointId, name: &str, mut words: Words<'_>) -> Result<Ste
     }
 }
 
-/// A step of a link, or one that names a point alone.
+/// Makes a step of a link, or one that names only a point.
 fn link_step(point: PointId, name: &str, link: u64, call: u64) -> Result<Step, UnreadWords> {
     match name {
         "status" => Ok(Step::Status(point)),
@@ -130,9 +132,9 @@ fn confirm(point: PointId, link: u64, call: u64, accepted: bool) -> Step {
     }
 }
 
-/// The step that keeps the verdict on what a point says of an audit: `CP1 judge 1 160` that the
-/// call 1 is answered by 16.0 A from midnight on, `CP1 refuse 1` that the point has no schedule, and
-/// `CP1 garble 1` that what it says can't be read.
+/// Makes the step that keeps the verdict on a point's reply to an audit: `CP1 judge 1 160` for a
+/// reply to call 1 with 16.0 A from midnight on, `CP1 refuse 1` for a rejection, and `CP1 garble 1`
+/// for a reply that can't be read.
 pub fn judging(alloc: Global, job: &AuditJob, line: &str) -> Result<Step, UnreadWords> {
     let mut words = Words::of(line);
     let point = PointId::copied(alloc, words.word())?;
@@ -155,7 +157,7 @@ fn said_by_point(alloc: Global, name: &str, words: Words<'_>) -> Result<Said, Un
     }
 }
 
-/// One limit from midnight on, in tenths of amperes.
+/// Makes a schedule of one limit from midnight on, in tenths of amperes.
 fn schedule(alloc: Global, mut words: Words<'_>) -> Result<Said, UnreadWords> {
     let start = instant_at(0)?;
     let mut periods = Vec::new(alloc);

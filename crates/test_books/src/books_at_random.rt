@@ -1,16 +1,17 @@
-//! Books at random, compiled from place to place and second by second, and explained. Each is played as lines of
-//! `scripted_books.rt`.
+//! Random books, compiled from place to place and second by second, and explained. Each is played
+//! as lines of `scripted_books.rt`.
 
 use crate::scripted_books::play;
 use std::alloc::Global;
 use std::process::Abort;
 
-/// The next of a sequence of numbers that looks random: a linear congruence.
+/// Returns the next number of a pseudorandom sequence: a linear congruential generator.
 fn next_number(number: u32) -> u32 {
     number.wrapping_mul(1_664_525).wrapping_add(1_013_904_223)
 }
 
-/// One of `count` numbers from `least` on, by the bits of a number without its last `but`.
+/// Returns one of `count` numbers from `least` on, from the bits of a number without its last
+/// `but`.
 fn drawn(number: u32, but: u32, count: u32, least: u32) -> u32 {
     (number.wrapping_shr(but) % count.max(1)).saturating_add(least)
 }
@@ -19,7 +20,7 @@ fn put(rt: &impl Abort, text: &mut String, words: &str, number: u32) {
     write!(text, "{words}{number}").expect(rt, "error");
 }
 
-/// Of a row by a number: its purpose in words, and its connector.
+/// Returns the purpose of a row in words, and its connector, from the bits of a number.
 fn purpose_of(number: u32) -> (&'static str, u32) {
     match drawn(number, 8, 4, 0) {
         0 => (" purpose=ChargePointMaxProfile connector=", 0),
@@ -31,7 +32,7 @@ fn purpose_of(number: u32) -> (&'static str, u32) {
     }
 }
 
-/// Its kind, and of which word its first second is.
+/// Returns the kind of a row in words, ending with the name of its first second.
 fn kind_of(number: u32) -> &'static str {
     match drawn(number, 12, 4, 0) {
         0 => " kind=Absolute start=",
@@ -41,8 +42,8 @@ fn kind_of(number: u32) -> &'static str {
     }
 }
 
-/// What else it has, each by its words, how many of the number's last bits are left out, how many numbers there are
-/// to draw from, and the least of these: all that a row does lies within some minutes.
+/// The other fields of a row: each has its words, the number of bits to skip, the count of numbers
+/// to draw from, and the least of these. All changes of a row are within some minutes.
 const DRAWN: [(&str, u32, u32, u32); 10] = [
     (" level=", 14, 4, 0),
     (" duration=", 18, 100, 20),
@@ -56,7 +57,7 @@ const DRAWN: [(&str, u32, u32, u32); 10] = [
     (":", 9, 300, 60),
 ];
 
-/// Puts the row of an id, by the bits of a number.
+/// Puts the row of an id, from the bits of a number.
 fn put_row(rt: &impl Abort, text: &mut String, id: u32, number: u32) {
     put(rt, text, "\nrow id=", id);
     let (purpose, connector) = purpose_of(number);
@@ -67,7 +68,7 @@ fn put_row(rt: &impl Abort, text: &mut String, id: u32, number: u32) {
     }
 }
 
-/// Puts rows with the ids from 0 on, by the next numbers, and says which came last.
+/// Puts rows with the ids from 0 on, from the next numbers, and returns the last number.
 fn put_rows(rt: &impl Abort, text: &mut String, count: u32, before: u32) -> u32 {
     let mut number = before;
     for id in 0..count {
@@ -77,8 +78,9 @@ fn put_rows(rt: &impl Abort, text: &mut String, count: u32, before: u32) -> u32 
     number
 }
 
-/// Plays a book with two transactions and up to nine rows, and of each connector a request from the second from which
-/// on the rows change. The rows are by the numbers behind one of them, of which the last comes back.
+/// Plays a book with two transactions and up to nine rows, and a request for each connector from
+/// the second from which the rows change. The rows are made from the numbers after `before`; the
+/// last one is returned.
 fn play_one(rt: &impl Abort, alloc: Global, (verb, seed): (&str, u32), before: u32) -> u32 {
     let mut text = String::new(alloc);
     put(rt, &mut text, "point ", drawn(seed, 0, 600, 120));

@@ -1,11 +1,11 @@
 //! Verdicts found by hand, and that memory suffices for them.
 //!
-//! | Line | What is judged |
+//! | Line | Audit |
 //! |---|---|
-//! | `1 60 A refused` | an audit of a connector for a number of seconds in a unit, whose point refuses to tell |
-//! | `1 60 A unread` | the same, of what can't be read |
-//! | `1 60 A schedule 8 60 A 0:160 30:80` | the same, of a schedule from a second after midnight on, over a number of seconds (`-`: it doesn't say), in a unit, with these periods |
-//! | `1 60 A schedule 8 60 A each=4096` | the same, with so many periods, one each second, of 16 A |
+//! | `1 60 A refused` | of a connector for a number of seconds in a unit; the point rejects the request |
+//! | `1 60 A unread` | the same; the reply can't be read |
+//! | `1 60 A schedule 8 60 A 0:160 30:80` | the same; the point reports a schedule from a second after midnight on, for a number of seconds (`-`: not given), in a unit, with these periods |
+//! | `1 60 A schedule 8 60 A each=4096` | the same, with 4,096 periods, one each second, of 16 A |
 
 use crate::same::{holds, same_text};
 use crate::scripted_books::play;
@@ -18,7 +18,7 @@ use std::process::Abort;
 use std::sync::Arc;
 use sweep_compiler::{AuditJob, Judged, Verdict};
 
-/// A period of `30:80`, its start and its limit.
+/// Parses a period such as `30:80`: its start and its limit.
 fn period_of(rt: &impl Abort, word: &str) -> CompositePeriod {
     let (start, limit) = word.split_once(':').expect(rt, word);
     CompositePeriod {
@@ -27,7 +27,7 @@ fn period_of(rt: &impl Abort, word: &str) -> CompositePeriod {
     }
 }
 
-/// The periods of `0:160 30:80`, or of `each=4096`.
+/// Parses the periods of `0:160 30:80`, or of `each=4096`.
 fn periods_of(rt: &impl Abort, alloc: Global, words: &str) -> SaidPeriods {
     let mut periods = Vec::new(alloc);
     if let Some(count) = words.strip_prefix("each=") {
@@ -47,7 +47,7 @@ fn unit_of(rt: &impl Abort, word: &str) -> Unit {
     Unit::named(word).expect(rt, word)
 }
 
-/// What a point says in words.
+/// Parses the reply of a point.
 fn said_of(rt: &impl Abort, alloc: Global, words: &str) -> Said {
     let mut words = Words::of(words);
     match words.word() {
@@ -62,7 +62,7 @@ fn said_of(rt: &impl Abort, alloc: Global, words: &str) -> Said {
     }
 }
 
-/// The audit of words, of a connector that the book has.
+/// Makes the audit of words, of a connector that the book has.
 fn job_of(rt: &impl Abort, book: &Arc<PointBook>, words: &mut Words<'_>) -> AuditJob {
     let connector = words.number().expect(rt, "a connector");
     let duration = words.number().expect(rt, "a duration");
@@ -76,7 +76,7 @@ fn job_of(rt: &impl Abort, book: &Arc<PointBook>, words: &mut Words<'_>) -> Audi
     )
 }
 
-/// That the audit and what was said of a line come to its verdict, and that memory sufficed.
+/// Checks the verdict of a line, and that memory sufficed.
 fn expect(rt: &impl Abort, alloc: Global, book: &Arc<PointBook>, line: &str) {
     let (asked, wanted) = line.split_once(" = ").expect(rt, line);
     let mut words = Words::of(asked);
@@ -104,13 +104,15 @@ fn expect_all(rt: &impl Abort, alloc: Global, rows: &str, lines: &str) {
     }
 }
 
-/// 16 A for half a minute from wherever one asks, and then 8 A. At connector 2, 10 A until a minute past midnight.
+/// 16 A for half a minute from the start of the request, and then 8 A. At connector 2, 10 A until a
+/// minute past midnight.
 const ROWS: &str = "\
 point 630 2 320
 row id=1 kind=Relative periods=0:160,30:80
 row id=2 connector=2 level=1 start=0 periods=0:100,60:120";
 
-/// Limits are compared from the start that is said on, at each second that both cover; and what can't be compared.
+/// Limits are compared from the reported start on, at each second that both cover; the last lines
+/// can't be compared.
 const COMPARED: &str = "\
 1 60 A schedule 8 60 A 0:160 30:80 = Agrees
 1 60 A schedule 9000 60 A 0:160 30:80 = Agrees
@@ -170,7 +172,7 @@ fn judges_what_is_said(rt: HostRuntime) {
     expect_all(&rt, rt.alloc(), MOST_PERIODS, LONG);
 }
 
-/// A book of 16 A for half a minute from wherever one asks, and then 8 A.
+/// Makes a book of 16 A for half a minute from the start of the request, and then 8 A.
 fn relative(rt: &impl Abort, alloc: Global) -> Arc<PointBook> {
     let ceilings = Vec::from_slice(alloc, &[320]).expect(rt, "error");
     let mut book = PointBook::try_new(alloc, 630, ceilings).expect(rt, "error");
@@ -182,7 +184,7 @@ fn relative(rt: &impl Abort, alloc: Global) -> Arc<PointBook> {
     }
 }
 
-/// An audit that is judged again, where the first time memory ran out.
+/// Judges an audit again if memory ran out the first time.
 #[test]
 fn an_audit_is_judged_again_where_memory_was_refused(rt: HostRuntime) {
     let alloc = rt.alloc();

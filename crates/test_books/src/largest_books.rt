@@ -1,5 +1,5 @@
-//! That memory suffices at the largest sizes, what is refused one past each, and how many turns a request takes. The
-//! lines are those of `scripted_books.rt`.
+//! Tests that memory suffices at the largest sizes, that one more is refused, and how many turns a
+//! request takes. The lines are those of `scripted_books.rt`.
 
 use crate::same::holds;
 use crate::scripted_books::play;
@@ -12,8 +12,9 @@ use std::process::Abort;
 use std::sync::Arc;
 use sweep_compiler::Compiled;
 
-/// Turns are taken where a limit may change alone: at the ends of nights, once where ten levels share their places,
-/// and up to the most periods that an answer may have. The last second that may be asked is 9999-12-31T23:59:59Z.
+/// Turns are taken only where a limit may change: at the ends of nights, once where ten levels
+/// share their places, and up to the most periods of an answer. The last second that may be
+/// requested is 9999-12-31T23:59:59Z.
 const TURNS: &str = "\
 point 630 2 320
 row id=1 level=1 kind=Recurring recurrency=Daily start=79200 duration=28800 periods=0:60
@@ -55,8 +56,8 @@ fn turns_at_places_alone(rt: HostRuntime) {
     play(&rt, rt.alloc(), TURNS);
 }
 
-/// Puts a line for each of some numbers. It is made of pieces between `|`: for `@` the number is put, for `%` 200
-/// times the number, and for `&` 200 times what is left of it up to 200.
+/// Puts a line for each number of a range. The line is made of pieces between `|`: `@` becomes the
+/// number, `%` 200 times the number, and `&` 200 times the difference from 200.
 fn put_each(rt: &impl Abort, lines: &mut String, (first, end): (u32, u32), line: &str) {
     for number in first..end {
         put_one(rt, lines, number, line);
@@ -80,7 +81,7 @@ fn put_one(rt: &impl Abort, lines: &mut String, number: u32, line: &str) {
     lines.push('\n').expect(rt, "error");
 }
 
-/// Each of 21 profiles changes its limit each second, for 200 seconds, one behind the other.
+/// Each of 21 profiles changes its limit each second, for 200 seconds, one after the other.
 const MOST_PERIODS: &str = "\
 alike 1 0 4096
 counts 1 0 4096 = 4096 4096
@@ -95,8 +96,8 @@ fn answers_with_the_most_periods(rt: HostRuntime) {
     play(&rt, rt.alloc(), lines.as_str());
 }
 
-/// The k-th of 64 transactions began k seconds after midnight and has 16 A in its first minute. So from second 64
-/// on the sum changes with each second, until all have 32 A.
+/// The k-th of 64 transactions began k seconds after midnight and has 16 A in its first minute. So
+/// from second 64 on the sum changes each second, until all have 32 A.
 const MOST_CONNECTORS: &str = "\
 row kind=Relative duration=60 periods=0:160
 alike 0 64 120
@@ -114,8 +115,8 @@ fn shares_among_the_most_connectors(rt: HostRuntime) {
     play(&rt, rt.alloc(), lines.as_str());
 }
 
-/// Every 200 seconds a level comes into force that is above all before, and then the highest ends: so in turn levels
-/// 0 to 99, the last twice as long, and 98 to 0.
+/// Every 200 seconds a level comes into force that is above all earlier ones, and then the highest
+/// ends: levels 0 to 99 in turn, the last twice as long, and 98 to 0.
 const MOST_LEVELS: &str = "\
 counts 0 0 40000 = 199 199
 counts 1 0 40000 = 199 199
@@ -135,9 +136,9 @@ fn goes_through_the_most_levels(rt: HostRuntime) {
     play(&rt, rt.alloc(), lines.as_str());
 }
 
-/// In a book of 200 rows, of which the last transaction of 64 doesn't run. A row takes the place of another, and one
-/// those of two others. A transaction's own profile is given up where there is no room for it, and nothing takes its
-/// place; where the transaction ends it goes.
+/// A book of 200 rows, of whose 64 transactions the last isn't active. A row replaces another one,
+/// and one replaces two. A transaction's own profile is dropped if there is no room for it, and
+/// nothing replaces it; it is removed at the end of the transaction.
 const FULL: &str = "\
 rows = 200
 counts 1 1 12000 = 200 200
@@ -180,7 +181,8 @@ fn has_room_for_its_connectors_and_rows(rt: HostRuntime) {
     holds(&rt, copy.same_transactions(&book), "its transactions");
 }
 
-/// How many periods both answers of a request have that is kept twice; 0 where both are that these are too many.
+/// Returns the number of periods of both answers of a request that is kept twice; 0 if both are
+/// that these are too many.
 fn periods_twice(rt: &impl Abort, alloc: Global, book: &Arc<PointBook>, duration: u32) -> usize {
     let start = instant_at(0).expect(rt, "error");
     let ask = Ask::try_new(1, start, duration).expect(rt, "error");

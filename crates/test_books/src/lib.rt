@@ -1,6 +1,7 @@
-//! Tests of the crates of a point's book, from `transactions` to `sweep_compiler`, by their public names alone: what
-//! no clause and no case of the program shows. They stand here, since a crate with tests of its own is proved twice.
-//! Other crates of tests have what is made from words by it, too.
+//! Tests of the crates of a point's book, from `transactions` to `sweep_compiler`, by their public
+//! names only, of what neither a clause nor a case of the program shows. They are in a crate of
+//! their own, since a crate that has tests is proved twice. It also exports to other test crates
+//! the values that are made from words.
 #![tactic(auto)]
 
 pub use row_words::{

@@ -1,5 +1,5 @@
-//! What tests compare, each by a function of its own: an assertion is long to prove, and a call of one is not.
-//! Each is given the case that it compares.
+//! Comparisons for tests, each in a function of its own: an assertion takes long to prove, and a
+//! call of one doesn't. Each takes the case that it compares.
 
 use std::process::Abort;
 

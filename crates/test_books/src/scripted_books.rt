@@ -1,14 +1,14 @@
-//! A point's book in lines, each with what has to come of it behind ` =`, where anything does.
+//! A point's book in lines, each with its expected result after ` =`, if it has one.
 //!
-//! | Line | What is done, and what comes of it |
+//! | Line | Action and result |
 //! |---|---|
-//! | `point 630 2 320` | a new book of a ceiling and a number of connectors of a ceiling each |
-//! | `row id=1 level=3` | a row is installed: why it is refused, if it is, and then nothing has changed |
-//! | `start 1 ann 100 7` | a new transaction at a connector, by an idTag, a number of seconds after midnight, with a number for it; behind that a profile may follow, with which it begins |
-//! | `rows` | how many rows there are |
-//! | `alike 1 30 60` | a request: connector, second, duration. This compiler and the plain one answer alike |
-//! | `counts 1 30 60` | how many periods the answer has, or why there is none; and the turns that it took |
-//! | `explained 1 30 60` | how many intervals the explained answer has, and the turns that it took |
+//! | `point 630 2 320` | makes a new book with a ceiling and a number of connectors, each with a ceiling |
+//! | `row id=1 level=3` | installs a row: the refusal, if it is refused, and then nothing has changed |
+//! | `start 1 ann 100 7` | begins a transaction at a connector, with an idTag, a number of seconds after midnight, and a number for it; then a profile may follow, with which it begins |
+//! | `rows` | the number of rows |
+//! | `alike 1 30 60` | a request: connector, second, duration. This compiler and the plain one give equal answers |
+//! | `counts 1 30 60` | the number of periods of the answer, or its refusal; and the turns that it took |
+//! | `explained 1 30 60` | the number of intervals of the explained answer, and the turns that it took |
 //! | `reasons 1 30 60` | at the first second of each interval and at its last, its reason is that of `reason_at` |
 
 ghost use Rattle.std.specs.Prelude.{◌≤◌, length};
@@ -24,7 +24,7 @@ use std::process::Abort;
 use sweep_compiler::{Interval, Turns, compile, explain};
 use transactions::Begin;
 
-/// A line that is played, and what is left of its words.
+/// A line that is played, and its remaining words.
 #[derive(Clone, Copy)]
 struct Line<'a> {
     alloc: Global,
@@ -32,7 +32,7 @@ struct Line<'a> {
     words: Words<'a>,
 }
 
-/// Plays lines on a book, the first of which makes it.
+/// Plays lines on a book, which the first line makes.
 pub(crate) fn play(rt: &impl Abort, alloc: Global, lines: &str) -> PointBook {
     let mut book = PointBook::try_new(alloc, 0, Vec::new(alloc)).expect(rt, "error");
     for line in lines.lines() {
@@ -54,7 +54,7 @@ fn play_line(rt: &impl Abort, alloc: Global, book: &mut PointBook, whole: &str) 
     same_text(rt, found.as_str(), wanted.trim_start(), whole);
 }
 
-/// What comes of a line.
+/// Returns the result of a line.
 fn outcome(rt: &impl Abort, book: &mut PointBook, verb: &str, line: Line<'_>) -> String {
     match verb {
         "point" => begin_anew(rt, book, line),
@@ -65,7 +65,7 @@ fn outcome(rt: &impl Abort, book: &mut PointBook, verb: &str, line: Line<'_>) ->
     }
 }
 
-/// What a request comes to.
+/// Returns the result of a request.
 fn answer(rt: &impl Abort, book: &PointBook, verb: &str, mut line: Line<'_>) -> String {
     let ask = ask_of(rt, book, &mut line);
     match verb {
@@ -90,7 +90,8 @@ fn begin_anew(rt: &impl Abort, book: &mut PointBook, mut line: Line<'_>) -> Stri
     String::new(line.alloc)
 }
 
-/// Why a row isn't installed, if it isn't: then it comes back.
+/// Installs a row, and returns the refusal, if there is one: then the row is returned to the caller
+/// too.
 fn refusal_of(rt: &impl Abort, book: &mut PointBook, row: Row) -> &'static str {
     let id = row.profile.id;
     assert!(rt; row.connector <= book.connectors());
@@ -111,7 +112,7 @@ fn install(rt: &impl Abort, book: &mut PointBook, line: Line<'_>) -> String {
     String::from_str(line.alloc, refusal).expect(rt, line.whole)
 }
 
-/// The profile of the words that are left, if there are any.
+/// Parses the profile of the remaining words, if there are any.
 fn own_profile(rt: &impl Abort, line: Line<'_>) -> Option<Profile> {
     if line.words.rest().is_empty() {
         return None;
@@ -144,7 +145,7 @@ fn begin_at(
     holds(rt, number == Some(next), "its number");
 }
 
-/// The request of words, of a connector that the book has.
+/// Makes the request of words, for a connector that the book has.
 fn ask_of(rt: &impl Abort, book: &PointBook, line: &mut Line<'_>) -> Ask
     ensures { result.connector ≤ length book.now.ceilings }
 {
@@ -196,7 +197,7 @@ fn expect_reasons(rt: &impl Abort, book: &PointBook, ask: &Ask, line: Line<'_>) 
     }
 }
 
-/// That an interval tells what `reason_at` finds at one of its seconds.
+/// Checks that an interval has the reason of `reason_at` at one of its seconds.
 fn expect_reason(
     rt: &impl Abort,
     book: &PointBook,

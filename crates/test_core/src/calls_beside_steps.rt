@@ -1,7 +1,7 @@
-//! A seeded run of calls on a `Book` and of the same steps on a `Machine`, over folds. Each has the
-//! same outcome. Sendings, replies and links are lost, and after each confirmed call the first point,
-//! which obeys, has what the store had after the call's change. In the end the stored events lead from
-//! the base to the present state.
+//! A seeded run of calls on a `Book` and of the same steps on a `Machine`, over folds, with the
+//! same outcomes. Calls, replies and links are lost. After each confirmed call the first point,
+//! which obeys, has the profiles that the store had after the call's change. At the end, the stored
+//! events lead from the base to the present state.
 
 ghost use Rattle.std.specs.Prelude.{◌≡◌};
 
@@ -20,31 +20,31 @@ use version_store::StoredEvent;
 
 type Written = Result<String, AllocError>;
 
-/// The numbers that were drawn last, from which later steps are made, and the point that obeys.
+/// The numbers drawn last, from which later steps are made, and the obeying point.
 #[derive(Drop)]
 struct Course {
     random: RandomNumbers,
     transaction: u64,
     request: u64,
-    /// The call that was sent last.
+    /// The call sent last.
     call: u64,
     /// The call of the first point's last audit.
     audit: u64,
-    /// The call that the point has obeyed last, where it is still to reply over the present link.
+    /// The call that the point obeyed last, if it has yet to reply over the present link.
     obeyed: Option<u64>,
-    /// What the point has that outlasts transactions.
+    /// The profiles of the point that outlast transactions.
     point: Vec<Keys>,
-    /// What the store had of that after the change of each call, by the call's number.
+    /// Those profiles in the store after the change of each call, by the call's number.
     stores: Vec<Vec<Keys>>,
-    /// How often the history was folded, how many verdicts were kept, and how many sendings and
-    /// replies of the first point were lost.
+    /// The number of folds, of verdicts kept, and of calls and replies of the first point that were
+    /// lost.
     folds: u32,
     verdicts: u32,
     losses: u32,
 }
 
 impl Course {
-    /// Of a point that has a row of before, which call 0 is to remove.
+    /// Makes a run whose point has an old row, which call 0 is to remove.
     fn new(rt: &impl Abort, alloc: Global) -> Course {
         let mut stores = Vec::new(alloc);
         stores.push(Vec::new(alloc)).ok().expect(rt, "error");
@@ -65,7 +65,7 @@ impl Course {
         }
     }
 
-    /// One of the numbers up to the last that was drawn.
+    /// Returns a number at most `reach` below the last one drawn.
     fn near(&mut self, last: u64, reach: u8) -> u64 {
         last.saturating_sub(u64::from(self.random.below(reach)))
     }
@@ -76,7 +76,7 @@ impl Course {
         is_lost
     }
 
-    /// The words of a random step.
+    /// Returns the words of a random step.
     fn words(&mut self, rt: &impl Abort, alloc: Global, machine: &Machine) -> String {
         let point = match self.random.below(16) {
             0 => "CP9",
@@ -95,7 +95,7 @@ impl Course {
         words.expect(rt, "error")
     }
 
-    /// An install, or a clear by an id, a connector, a level, or nothing.
+    /// Returns an install, or a clear by an id, a connector, a level, or nothing.
     fn change(&mut self, alloc: Global, point: &str) -> Written {
         let (id, connector) = (self.random.below(4), self.random.below(3));
         let (level, limit) = (self.random.below(3), self.random.below(100));
@@ -141,8 +141,8 @@ impl Course {
         }
     }
 
-    /// A step over the present link, or over the one before. The first point replies to what it has
-    /// obeyed alone.
+    /// Returns a step over the present link, or over the one before. The first point replies only
+    /// to calls that it has obeyed.
     fn exchange(&mut self, alloc: Global, point: &str, link: u64) -> Written {
         let link = match self.random.below(8) {
             0 => link.saturating_sub(1),
@@ -159,7 +159,7 @@ impl Course {
         }
     }
 
-    /// Takes note of what came of a step.
+    /// Records the outcome of a step.
     fn note(&mut self, said: Said) {
         let number = said.1.unwrap_or(0);
         match said.0 {
@@ -171,7 +171,7 @@ impl Course {
     }
 }
 
-/// What came of a step on both sides is one thing, and memory sufficed.
+/// Checks that both sides had the same outcome, and that memory sufficed.
 fn is_one(rt: &impl Abort, said: Said, words: &str) {
     holds(rt, !said.0.starts_with("the sides"), words);
     holds(rt, said.0 != Refusal::OutOfMemory.name(), words);
@@ -196,7 +196,7 @@ fn made<C: Ledger, A: Ledger>(
     said
 }
 
-/// What the first point has by the machine.
+/// Returns the rows of the first point in the machine.
 fn rows_of<C: Ledger, A: Ledger>(sides: &Sides<C, A>) -> &[Row] {
     match sides.machine.book_of("CP1") {
         Some(book) => book.view().rows,
@@ -204,8 +204,8 @@ fn rows_of<C: Ledger, A: Ledger>(sides: &Sides<C, A>) -> &[Row] {
     }
 }
 
-/// What came of a step of the first point, at the point: a call more, a call that it obeys, one that is
-/// confirmed, or a link without replies to what was before.
+/// Records the outcome of a step of the first point: another call, a call that it obeys, a
+/// confirmed one, or a link without replies to earlier calls.
 fn noted_at_point<C: Ledger, A: Ledger>(
     rt: &impl Abort,
     sides: &Sides<C, A>,
@@ -225,7 +225,7 @@ fn noted_at_point<C: Ledger, A: Ledger>(
     }
 }
 
-/// Has the point obey what is sent, unless that is lost.
+/// Makes the point obey a call, unless that is lost.
 fn obeyed<C: Ledger, A: Ledger>(rt: &impl Abort, sides: &Sides<C, A>, course: &mut Course) {
     if let Some(call) = &sides.sent {
         if !course.is_lost() {
@@ -235,14 +235,15 @@ fn obeyed<C: Ledger, A: Ledger>(rt: &impl Abort, sides: &Sides<C, A>, course: &m
     }
 }
 
-/// The point has what the store had after the change of the call that is confirmed.
+/// Checks that the point has the profiles that the store had after the change of the confirmed
+/// call.
 fn confirmed(rt: &impl Abort, course: &mut Course) {
     let call = course.obeyed.take().expect(rt, "no call");
     let store = course.stores.get(call as usize).expect(rt, "no such call");
     holds(rt, store.as_slice() == course.point.as_slice(), "in step");
 }
 
-/// Now and then, judges on both the last audit of the first point.
+/// Sometimes judges the last audit of the first point on both sides.
 fn random_judging<C: Ledger, A: Ledger>(
     rt: &impl Abort,
     sides: &mut Sides<C, A>,
@@ -273,7 +274,7 @@ fn random_step<C: Ledger, A: Ledger>(
     random_judging(rt, sides, course);
 }
 
-/// The next call of the first point goes out over a new link, and it obeys and replies.
+/// Sends the next call of the first point over a new link; the point obeys and replies.
 fn confirm_next<C: Ledger, A: Ledger>(
     rt: &impl Abort,
     sides: &mut Sides<C, A>,
@@ -290,12 +291,12 @@ fn confirm_next<C: Ledger, A: Ledger>(
     made(rt, sides, course, words.as_str());
 }
 
-/// A stored event is made as a step.
+/// Makes a stored event as a step.
 fn make_again(rt: &impl Abort, machine: &mut Machine, event: &StoredEvent) {
     holds(rt, machine.make(event.step()).is_ok(), "a stored event");
 }
 
-/// The stored events lead from the base to the present state.
+/// Checks that the stored events lead from the base to the present state.
 fn replay<C: Ledger, A: Ledger>(rt: &impl Abort, sides: &mut Sides<C, A>) {
     let mut machine = sides.book.base().copy().expect(rt, "error");
     for event in sides.book.events() {
@@ -305,9 +306,9 @@ fn replay<C: Ledger, A: Ledger>(rt: &impl Abort, sides: &mut Sides<C, A>) {
     holds(rt, sides.is_one(), "replayed");
 }
 
-/// 60,000 steps, then the calls that still wait, then the end, and then all once more.
+/// Makes 60,000 steps, then the calls that still wait, then the end, and then replays all events.
 fn run_sides<C: Ledger, A: Ledger>(rt: &impl Abort, sides: &mut Sides<C, A>, course: &mut Course) {
-    // From the first take on there is something to bring.
+    // From the first request on there is an answer to post.
     made(rt, sides, course, "CP1 take 1 0 60");
     for _ in 0..60_000u32 {
         random_step(rt, sides, course);

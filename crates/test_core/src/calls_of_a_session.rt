@@ -1,5 +1,5 @@
-//! Each call of a session on a `Book` once, with ample memory: a body that always says out of memory is
-//! proved whatever its contract says.
+//! Each call of a session on a `Book` once, with ample memory: a body that always reports out of
+//! memory would be proved too, whatever its contract.
 
 ghost use Rattle.std.specs.Prelude.{◌≡◌};
 
@@ -28,7 +28,7 @@ fn point(rt: &impl Abort, alloc: Global) -> PointId {
     PointId::copied(alloc, "CP1").expect(rt, "error")
 }
 
-/// A profile is installed, and cleared once.
+/// Installs a profile, and clears it once.
 fn profiles<C: Ledger, A: Ledger>(rt: &impl Abort, desk: &mut Desk<C, A>) {
     let row = row_of(desk.alloc, "connector=1 periods=0:100").expect(rt, "error");
     let (id, pass) = (point(rt, desk.alloc), &mut desk.pass);
@@ -46,7 +46,7 @@ fn profiles<C: Ledger, A: Ledger>(rt: &impl Abort, desk: &mut Desk<C, A>) {
     same(rt, desk.book.version(), 2, "version");
 }
 
-/// A transaction begins, its start is retransmitted, and it ends once.
+/// Begins a transaction, retransmits its start, and ends it once.
 fn transactions<C: Ledger, A: Ledger>(rt: &impl Abort, desk: &mut Desk<C, A>) {
     for _ in 0..2u8 {
         let begin = begin_of(desk.alloc, "ann", 0, 0).expect(rt, "error");
@@ -62,7 +62,7 @@ fn transactions<C: Ledger, A: Ledger>(rt: &impl Abort, desk: &mut Desk<C, A>) {
     same(rt, desk.book.version(), 4, "version");
 }
 
-/// An audit is call 3, behind call 0, the install and the clear.
+/// Makes an audit, which is call 3, after call 0, the install and the clear.
 fn audits<C: Ledger, A: Ledger>(rt: &impl Abort, desk: &mut Desk<C, A>) {
     let call = desk
         .book
@@ -89,7 +89,7 @@ fn audits<C: Ledger, A: Ledger>(rt: &impl Abort, desk: &mut Desk<C, A>) {
     same(rt, status.outbox as u64, 4, "calls");
 }
 
-/// A start is asked for, and call 0 goes out and is confirmed.
+/// Requests a start, sends call 0 and confirms it.
 fn links<C: Ledger, A: Ledger>(rt: &impl Abort, desk: &mut Desk<C, A>) {
     let begin = begin_of(desk.alloc, "bob", 0, 0).expect(rt, "error");
     let id = point(rt, desk.alloc);
@@ -110,7 +110,7 @@ fn links<C: Ledger, A: Ledger>(rt: &impl Abort, desk: &mut Desk<C, A>) {
     );
 }
 
-/// A request is taken, answered and collected.
+/// Takes a request, answers it and collects the answer.
 fn requests<C: Ledger, A: Ledger>(rt: &impl Abort, desk: &mut Desk<C, A>) {
     let midnight = instant_at(0).expect(rt, "error");
     let id = point(rt, desk.alloc);

@@ -1,5 +1,5 @@
-//! That memory suffices at the largest sizes, and what comes of one more: a body that always says
-//! out of memory is proved whatever its contract says.
+//! Tests that memory suffices at the largest sizes, and the outcome of one more: a body that always
+//! reports out of memory would be proved too, whatever its contract.
 
 use crate::played::{comes_to, opening, run, step};
 use crate::same::{holds, same, same_said, same_text};
@@ -22,7 +22,7 @@ fn expect_copy(rt: &impl Abort, alloc: Global, length: u32) {
     same_text(rt, copy.as_str(), text.as_str(), "an identity");
 }
 
-/// An identity has at most 48 characters. Of a step it may have more.
+/// An identity has at most 48 characters, but in a step it may have more.
 #[test]
 fn identities_are_copied(rt: HostRuntime) {
     for length in [0, 1, 40, 41, 48, 49, 1_000u32] {
@@ -30,7 +30,7 @@ fn identities_are_copied(rt: HostRuntime) {
     }
 }
 
-/// The last of the outcomes is a link of their number.
+/// Checks that the last outcome is a link with the number of outcomes.
 fn is_last_link(rt: &impl Abort, outcomes: &[Outcome]) {
     let said = match outcomes.last() {
         Some(Outcome::Done(reply)) => said_of(reply),
@@ -54,7 +54,7 @@ fn a_run_has_1000_steps(rt: HostRuntime) {
     is_last_link(&rt, outcomes.as_slice());
 }
 
-/// Installs profiles of 200 periods, of these ids.
+/// Installs profiles of 200 periods with the ids from 0 on.
 fn install_all(rt: &impl Abort, alloc: Global, machine: &mut Machine, count: u32) {
     for id in 0..count {
         let words = format!(in alloc; "CP1 install id={id} connector=1 turns=60").expect(
@@ -65,7 +65,7 @@ fn install_all(rt: &impl Abort, alloc: Global, machine: &mut Machine, count: u32
     }
 }
 
-/// The next call sets the profile of an id, and is confirmed.
+/// Checks that the next call sets the profile of an id, and confirms it.
 fn confirm_next(rt: &impl Abort, alloc: Global, machine: &mut Machine, id: u32, call: u64) {
     let sent = match machine.make(&step(rt, alloc, "CP1 send 1")) {
         Ok(Reply::Sent(sent)) => sent,
@@ -85,7 +85,7 @@ fn confirm_next(rt: &impl Abort, alloc: Global, machine: &mut Machine, id: u32, 
     same_said(rt, said, ("Confirmed", None), "a confirmation");
 }
 
-/// Fills an outbox with 256 calls, and confirms them, from this one on.
+/// Fills an outbox with 256 calls, and confirms them, from call `first` on.
 fn confirm_all(rt: &impl Abort, alloc: Global, machine: &mut Machine, first: u64) {
     install_all(rt, alloc, machine, 256);
     run(rt, alloc, machine, "CP1 clear = OutboxFull");
@@ -99,7 +99,8 @@ CP1 attach = Attached 1
 CP1 send 1 = Sent 0
 CP1 confirm 1 0 = Confirmed";
 
-/// Calls have three digits up to 999, and then four. Each comes out as it was put in.
+/// Calls have three digits up to 999, and then four. They are sent in the order in which they were
+/// added.
 #[test]
 fn a_point_confirms_1280_calls(rt: HostRuntime) {
     let mut machine = opening(&rt, rt.alloc());
@@ -111,7 +112,7 @@ fn a_point_confirms_1280_calls(rt: HostRuntime) {
     run(&rt, rt.alloc(), &mut machine, "CP1 status = None 1280000");
 }
 
-/// As long as an identity may be, of the last of the most points.
+/// An identity of the greatest length, of the last of the most points.
 const LAST_POINT: &str = "000000000000000000000000000000000000000000000999";
 
 /// Makes a step of words at the last point.
@@ -133,8 +134,8 @@ fn install_level(rt: &impl Abort, alloc: Global, machine: &mut Machine, id: u32)
     same_text(rt, said, "Accepted", "an install");
 }
 
-/// The answer of a connector of the last point for 200 minutes has 200 periods, of which the first
-/// three have these limits.
+/// Checks that the answer for a connector of the last point over 200 minutes has 200 periods, of
+/// which the first three have these limits.
 fn expect_minutes(
     rt: &impl Abort,
     alloc: Global,
@@ -159,7 +160,7 @@ fn expect_minutes(
     }
 }
 
-/// A schedule has 200 periods, of which the first three have these limits.
+/// Checks that a schedule has 200 periods, of which the first three have these limits.
 fn expect_periods(rt: &impl Abort, schedule: &Composite, limits: [u32; 3]) {
     same(rt, schedule.periods().len() as u64, 200, "periods");
     for (period, limit) in schedule.periods().iter().zip(limits) {
@@ -168,8 +169,8 @@ fn expect_periods(rt: &impl Abort, schedule: &Composite, limits: [u32; 3]) {
 }
 
 /// 1,000 points with 64 connectors each. The last point has a transaction at each of them and 200
-/// profiles of 200 periods, half of them at connector 1. The highest counts: 6 A and 10 A by turns,
-/// a minute each, at each connector.
+/// profiles of 200 periods, half of them at connector 1. The highest level counts: 6 A and 10 A in
+/// turn, a minute each, at each connector.
 #[test]
 fn a_point_has_the_most_of_all(rt: HostRuntime) {
     let text = site_text(rt.alloc(), 1_000, 64, 48).expect(&rt, "error");

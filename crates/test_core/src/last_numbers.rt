@@ -1,4 +1,5 @@
-//! Steps at the last numbers. They are made on a machine alone, since a book begins with the first.
+//! Steps at the last numbers. They are made only on a machine, since a book begins with the first
+//! numbers.
 
 ghost use Rattle.site_core.specs.State.{AreNumbers};
 
@@ -23,7 +24,7 @@ CP1 start ann 1 0 = TransactionsExhausted
 CP1 take 1 0 60 = VersionsExhausted
 CP1 install periods=0:100 = Accepted";
 
-/// From one link below the last, 1,000,000,000,000.
+/// One link below the last, 1,000,000,000,000.
 const LAST_LINKS: &str = "\
 CP1 attach = Attached 1000000000000
 CP1 attach = VersionsExhausted
@@ -34,7 +35,7 @@ CP1 confirm 1000000000000 0 = Confirmed
 CP1 lost 1000000000000 = LinkLost
 CP1 attach = VersionsExhausted";
 
-/// Numbers of which none was drawn.
+/// The numbers before any is drawn.
 const FIRST: Numbers = Numbers {
     version: 0,
     request: 0,

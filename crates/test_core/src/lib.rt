@@ -1,6 +1,7 @@
-//! Tests of `site_core` and `version_store` from outside, by their public names alone, of what no table
-//! of `play_steps` shows: refused memory, the largest sizes, numbers at their end, each call of a session
-//! once, and runs at random. They stand here, since a crate with tests of its own is proved twice.
+//! Tests of `site_core` and `version_store` from outside, by their public names only, of what no
+//! table of `play_steps` shows: failed allocations, the largest sizes, numbers at their end, each
+//! call of a session once, and random runs. They are in a crate of their own, since a crate that
+//! has tests is proved twice.
 #![tactic(auto)]
 
 #[cfg(test)]

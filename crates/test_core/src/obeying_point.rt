@@ -1,4 +1,4 @@
-//! Random numbers, and a charge point that does what its calls say.
+//! Random numbers, and a charge point that obeys its calls.
 
 use messages::CallBody;
 use profile::{Criteria, Profile, Purpose, Row};
@@ -11,7 +11,7 @@ pub(crate) struct RandomNumbers {
 }
 
 impl RandomNumbers {
-    /// A number below `limit`; 0 where there is none.
+    /// Returns a number below `limit`; 0 if there is none.
     pub(crate) fn below(&mut self, limit: u8) -> u8 {
         let product = self.state.wrapping_mul(1_664_525);
         self.state = product.wrapping_add(1_013_904_223);
@@ -19,7 +19,7 @@ impl RandomNumbers {
     }
 }
 
-/// What tells the rows of a point apart: all of a row but its moment and its limits.
+/// The fields that identify the rows of a point: all but their moments and limits.
 #[derive(Clone, Copy, PartialEq, Eq)]
 pub(crate) struct Keys {
     id: i32,
@@ -29,7 +29,7 @@ pub(crate) struct Keys {
 }
 
 impl Keys {
-    /// Of a default of the whole point.
+    /// Makes the keys of a default of the whole point.
     pub(crate) fn of_before() -> Keys {
         Keys {
             id: 1,
@@ -56,7 +56,7 @@ impl Keys {
             && criteria.stack_level.unwrap_or(self.level) == self.level
     }
 
-    /// Whether a row of new keys takes the place of the row of these (chapter 5.16).
+    /// Whether a row of new keys replaces the row of these (chapter 5.16).
     fn is_replaced(self, new: Keys) -> bool {
         self.id == new.id
             || self.connector == new.connector
@@ -65,7 +65,7 @@ impl Keys {
     }
 }
 
-/// Has a point obey a call. Of its rows those are kept here that outlast transactions.
+/// Makes a point obey a call. Only rows that outlast transactions are kept here.
 pub(crate) fn obey(rows: &mut Vec<Keys>, body: &CallBody) -> Result<(), AllocError> {
     match body {
         CallBody::Clear(criteria) => {
@@ -81,7 +81,7 @@ pub(crate) fn obey(rows: &mut Vec<Keys>, body: &CallBody) -> Result<(), AllocErr
     }
 }
 
-/// Of the rows of a store those that outlast transactions.
+/// Returns the rows of a store that outlast transactions.
 pub(crate) fn lasting(alloc: Global, rows: &[Row]) -> Result<Vec<Keys>, AllocError> {
     let mut kept = Vec::new(alloc);
     for row in rows {

@@ -1,5 +1,5 @@
-//! Lines of steps in the words of `step_words`, each with what has to come of it, as `CP1 attach =
-//! Attached 1`.
+//! Lines of steps in the words of `step_words`, each with its expected outcome, such as `CP1 attach
+//! = Attached 1`.
 
 use crate::same::same_said;
 use ocpp_scalars::Refusal;
@@ -17,12 +17,12 @@ pub(crate) fn site(rt: &impl Abort, alloc: Global) -> Site {
     read_site(alloc, SITE.as_bytes()).expect(rt, "error")
 }
 
-/// A machine of two points where nothing was done yet.
+/// Makes a machine of two points before any step.
 pub(crate) fn opening(rt: &impl Abort, alloc: Global) -> Machine {
     Machine::new(alloc, site(rt, alloc)).expect(rt, "error")
 }
 
-/// The words of a line's step, and what is wanted.
+/// Splits a line into the words of its step and the expected outcome.
 pub(crate) fn parts_of<'a>(rt: &impl Abort, line: &'a str) -> (&'a str, (&'a str, Option<u64>)) {
     let (step, wanted) = line.split_once(" = ").expect(rt, line);
     let mut words = Words::of(wanted);
@@ -33,7 +33,7 @@ pub(crate) fn step(rt: &impl Abort, alloc: Global, words: &str) -> Step {
     step_of(alloc, words).expect(rt, "error")
 }
 
-/// What comes of a step.
+/// Makes a step, and returns its outcome.
 pub(crate) fn comes_to(machine: &mut Machine, step: &Step) -> Said {
     match machine.make(step) {
         Ok(reply) => said_of(&reply),
@@ -41,7 +41,7 @@ pub(crate) fn comes_to(machine: &mut Machine, step: &Step) -> Said {
     }
 }
 
-/// A step that prepares a test: where memory was refused to it, the test ends so.
+/// Checks a step that prepares a test: if its memory was refused, the test ends here.
 pub(crate) fn with_memory(rt: &impl Abort, said: Said) -> Said {
     if said.0 == Refusal::OutOfMemory.name() {
         rt.panic("error: OutOfMemory");

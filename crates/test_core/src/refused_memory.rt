@@ -1,6 +1,6 @@
-//! What is done at a machine and at a book where memory is refused: `tests/program.py` refuses each
+//! Steps of a machine and calls on a book while memory is refused: `tests/program.py` refuses each
 //! allocation of these tests in turn. A refused step or call changes nothing, and has its outcome
-//! when it is made once more. What an answer then is stands in the tables of `play_steps`.
+//! when it is made again. The tables of `play_steps` have the answers then.
 
 ghost use Rattle.std.specs.Prelude.{◌≡◌};
 
@@ -16,7 +16,7 @@ use step_words::{Said, Sides, judging, said_of};
 use test_books::Words;
 use version_store::Totals;
 
-/// What precedes a compiling.
+/// The steps before a Compile.
 const UP_TO_THE_REQUEST: &str = "\
 CP1 install periods=0:100 = Accepted
 CP1 take 1 10 3600 = Taken 1";
@@ -67,7 +67,7 @@ CP1 status = Agrees 1000
 CP1 lost 1 = LinkLost
 - finish = Finished";
 
-/// A transaction begins with the profile of the remote start that asked for it.
+/// A transaction begins with the profile of the remote start that requested it.
 const OF_A_REMOTE_START: &str = "\
 CP1 attach = Attached 1
 CP1 send 1 = Sent 0
@@ -84,14 +84,14 @@ CP1 take 1 10 10 = Taken 2
 - answer 2 = limit 60
 CP1 status = None 1000";
 
-/// What leads to an equal audit at another machine.
+/// The steps that lead to an equal audit at another machine.
 const UP_TO_THE_AUDIT: &str = "\
 CP1 install periods=0:100 = Accepted
 CP1 audit 1 60 = Audited 2";
 
-// ---- what is done, before memory is refused to any of it
+// ---- prepared steps, before memory is refused
 
-/// The verdict on an equal audit of another machine.
+/// Makes the verdict on an equal audit of another machine.
 fn verdict(rt: &impl Abort, alloc: Global, lines: &str, words: &str) -> Step {
     let mut machine = opening(rt, alloc);
     run(rt, alloc, &mut machine, lines);
@@ -127,9 +127,9 @@ fn prepared_steps(rt: &impl Abort, alloc: Global, lines: &str) -> Vec<Step> {
     steps
 }
 
-// ---- again
+// ---- steps made again
 
-/// What a refused step leaves as it was.
+/// Returns the values of a machine that a refused step leaves unchanged.
 fn read_machine(machine: &Machine) -> (u64, usize, usize, Option<u64>) {
     let calls = machine.outbox_len("CP1");
     (
@@ -140,13 +140,13 @@ fn read_machine(machine: &Machine) -> (u64, usize, usize, Option<u64>) {
     )
 }
 
-/// What a refused call leaves as it was, beside the book's state.
+/// Returns the values that a refused call leaves unchanged, apart from the book's state.
 fn read_book<C: Ledger, A: Ledger>(sides: &Sides<C, A>) -> (usize, Totals, (Totals, u64)) {
     let pass = (sides.pass.totals(), sides.pass.seen());
     (sides.book.stored(), sides.book.totals(), pass)
 }
 
-/// What comes of a step on the machine, made again where memory was refused to it.
+/// Makes a step on the machine, again if memory was refused to it, and returns its outcome.
 fn on_machine<C: Ledger, A: Ledger>(rt: &impl Abort, sides: &mut Sides<C, A>, step: &Step) -> Said {
     let before = read_machine(&sides.machine);
     match sides.on_machine(step) {
@@ -162,7 +162,8 @@ fn on_machine<C: Ledger, A: Ledger>(rt: &impl Abort, sides: &mut Sides<C, A>, st
     }
 }
 
-/// What comes of a call on the book, made again with what comes back where memory was refused to it.
+/// Makes a call on the book, again with the returned step if memory was refused to it, and returns
+/// its outcome.
 fn on_book<C: Ledger, A: Ledger>(rt: &impl Abort, sides: &mut Sides<C, A>, step: Step) -> Said {
     let state = read_machine(sides.book.present());
     let before = read_book(sides);
@@ -186,7 +187,7 @@ fn on_book<C: Ledger, A: Ledger>(rt: &impl Abort, sides: &mut Sides<C, A>, step:
     }
 }
 
-/// What came of a line's step. A compiling that was refused memory answers so.
+/// Checks the outcome of a line's step. A Compile whose memory was refused has that as its outcome.
 fn told(rt: &impl Abort, said: Said, line: &str) {
     let (_, wanted) = parts_of(rt, line);
     match said {
@@ -205,7 +206,7 @@ fn play_step<C: Ledger, A: Ledger>(
     told(rt, on_book(rt, sides, step), line);
 }
 
-/// Each request has its answer in the end.
+/// Plays lines, and checks that each request has its answer at the end.
 fn play_lines<C: Ledger, A: Ledger>(rt: &impl Abort, sides: &mut Sides<C, A>, lines: &str) {
     let steps = prepared_steps(rt, sides.alloc, lines);
     for (step, line) in steps.into_iter().zip(lines.lines()) {
@@ -216,11 +217,11 @@ fn play_lines<C: Ledger, A: Ledger>(rt: &impl Abort, sides: &mut Sides<C, A>, li
     holds(rt, sides.book.totals() == sides.pass.totals(), "totals");
 }
 
-/// What is done at a new book.
+/// The steps made at a new book.
 #[derive(Clone, Copy)]
 enum Story {
     Lines(&'static str),
-    /// The first lines come before as many links as are stored, and the last folds them.
+    /// The first lines are made before as many links as are stored; the last line folds them.
     Fold(&'static str, &'static str),
 }
 
@@ -268,7 +269,7 @@ fn a_remote_start(rt: HostRuntime) {
 
 // ---- folds
 
-/// The call of a line on the book, as a step that prepares a test.
+/// Makes the call of a line on the book, to prepare a test.
 fn call<C: Ledger, A: Ledger>(rt: &impl Abort, sides: &mut Sides<C, A>, line: &str) {
     let (words, wanted) = parts_of(rt, line);
     match sides.on_book(step(rt, sides.alloc, words)) {
@@ -284,7 +285,7 @@ fn attach<C: Ledger, A: Ledger>(rt: &impl Abort, sides: &mut Sides<C, A>) {
     }
 }
 
-/// The step of a line folds 3,900 events, and a take comes after it.
+/// Makes the step of a line, which folds 3,900 events, and then a Take.
 fn fold<C: Ledger, A: Ledger>(rt: &impl Abort, sides: &mut Sides<C, A>, before: &str, line: &str) {
     for line in before.lines() {
         call(rt, sides, line);
@@ -305,7 +306,8 @@ fn fold<C: Ledger, A: Ledger>(rt: &impl Abort, sides: &mut Sides<C, A>, before: 
     same(rt, sides.book.stored() as u64, 2, "after the take");
 }
 
-/// Passes whichever allocation of the two last calls is refused, the first of which folds.
+/// Whichever allocation of the last two calls is refused, of which the first folds, the test
+/// passes.
 #[test]
 fn an_install_folds(rt: HostRuntime) {
     let story = Story::Fold("", "CP1 install periods=0:100 = Accepted");
@@ -348,8 +350,8 @@ CP1 take 1 0 60 = Taken 2
 CP1 take 1 0 60 = Taken 3
 CP1 take 1 0 60 = Taken 4";
 
-/// The outcomes of a run of as many steps. Where memory is refused to it, none of them was made,
-/// and all come back and are run again.
+/// Runs steps, and returns their outcomes. If memory is refused to the run, none of them was made,
+/// and all are returned and run again.
 fn run_again(rt: &impl Abort, machine: &mut Machine, steps: Vec<Step>) -> Vec<Outcome> {
     let count = steps.len();
     match machine.run(steps) {
@@ -367,8 +369,8 @@ fn run_again(rt: &impl Abort, machine: &mut Machine, steps: Vec<Step>) -> Vec<Ou
     }
 }
 
-/// What came of one of four takes. Where memory was refused to it, the other three are made, and it
-/// is made now.
+/// Returns the outcome of one of four Takes. If memory was refused to it, the other three are made,
+/// and it is made now.
 fn take_said(rt: &impl Abort, machine: &mut Machine, outcome: Outcome) -> Said {
     match outcome {
         Outcome::Done(reply) => said_of(&reply),
@@ -382,8 +384,8 @@ fn take_said(rt: &impl Abort, machine: &mut Machine, outcome: Outcome) -> Said {
     }
 }
 
-/// Where memory is refused to a run, none of its steps was made; where it is refused to one of
-/// them, the others are made.
+/// If memory is refused to a run, none of its steps was made; if it is refused to one of them, the
+/// others are made.
 #[test]
 fn a_run_goes_on(rt: HostRuntime) {
     let mut machine = opening(&rt, rt.alloc());
@@ -400,9 +402,9 @@ fn a_run_goes_on(rt: HostRuntime) {
     same(&rt, machine.open_requests() as u64, 4, "open requests");
 }
 
-// ---- steps that want no memory
+// ---- steps that need no memory
 
-/// Steps that make way for those below, which are no events.
+/// Steps that prepare those below, which add no event.
 const BEFORE: &str = "\
 CP1 start ann 1 0 = Started 1
 CP1 attach = Attached 1
@@ -416,8 +418,8 @@ CP1 stop 2 = NoSuch
 CP1 send 1 = Nothing
 CP1 status = None 1000";
 
-/// A step without an event wants no memory: it has its reply where each allocation is refused, as
-/// `tests/program.py` does from each one on. A take wants some, and shows that it was refused.
+/// A step that adds no event needs no memory: it has its reply while allocations are refused, as
+/// `tests/program.py` does from each one on. A Take needs some, and shows that it was refused.
 #[test]
 fn a_step_without_an_event_wants_none(rt: HostRuntime) {
     let mut machine = opening(&rt, rt.alloc());
@@ -433,8 +435,9 @@ fn a_step_without_an_event_wants_none(rt: HostRuntime) {
     holds(&rt, is_taken, taken.0);
 }
 
-/// What an allocation gave before a compiling, and what came of that compiling. From the first
-/// allocation that is refused on, all are. So without memory before it, the answer is just that.
+/// Checks the outcome of a Compile, given whether an allocation before it succeeded. From the first
+/// refused allocation on, all are refused. So if the one before it failed, the answer is
+/// OutOfMemory.
 fn answered(rt: &impl Abort, spare: &Option<PointId>, said: Said) {
     let is_short = said == ("OutOfMemory", Some(1));
     let is_schedule = spare.is_some() && said == ("limit", Some(100));

@@ -1,5 +1,5 @@
-//! What tests compare, each by a function of its own: an assertion is long to prove, and a call of
-//! one is not. Each is given the case that it compares.
+//! Comparisons for tests, each in a function of its own: an assertion takes long to prove, and a
+//! call of one doesn't. Each takes the case that it compares.
 
 use std::process::Abort;
 
@@ -11,7 +11,7 @@ pub(crate) fn same_text(rt: &impl Abort, found: &str, wanted: &str, case: &str) 
     assert!(rt; found == wanted, "{case}: {found}, wanted {wanted}");
 }
 
-/// What came of a step: its name, and its number where it has one.
+/// Compares the outcome of a step: its name, and its number if it has one.
 pub(crate) fn same_said(
     rt: &impl Abort,
     found: (&str, Option<u64>),

@@ -5,7 +5,7 @@ use journal::{push_header, push_line, read_bytes, read_header};
 use std::alloc::Global;
 use std::process::Abort;
 
-/// Lines, each as it is written again once it was read: `=` as it stands there.
+/// Lines, each with the text that is written again once it is read; `=` is the same text.
 const LINES: &str = r#"2025-01-01T00:00:05Z operator CP1 7 [2,"a","AuditPoint",{"connectorId":1}]|=
 2025-01-01T00:00:05Z point CP1 7 [2,"a","StartTransaction",{"idTag":"T 1"}]|=
 2025-01-01T00:00:05Z reply CP1 2 [3,"7",{}]|=
@@ -17,7 +17,7 @@ const LINES: &str = r#"2025-01-01T00:00:05Z operator CP1 7 [2,"a","AuditPoint",{
 1970-01-01T00:00:00Z sent CP1 1000000000000 0|=
 2025-01-01T01:00:05+01:00 lost CP1 2|2025-01-01T00:00:05Z lost CP1 2"#;
 
-/// Texts that are no lines, each with what is said of it.
+/// Texts that aren't lines, each with its fault.
 const NO_LINES: &str = "|not a line of a journal
 2025-01-01T00:00:05Z|not a line of a journal
 2025-01-01T00:00:05Z lost|not a line of a journal
@@ -35,8 +35,8 @@ const NO_LINES: &str = "|not a line of a journal
 2025-01-01T00:00:05Z sent CP1 1 x|a number is missing or too high
 2025-01-01T00:00:05Z reply CP1 00 []|a number is missing or too high";
 
-/// First lines, read and written likewise, and texts that are none. The first has the SHA-256 of
-/// nothing (FIPS 180-4).
+/// First lines, read and written in the same way, and texts that aren't first lines. The first has
+/// the SHA-256 of nothing (FIPS 180-4).
 const HEADERS: &str =
     "central journal 1 sha256:e3b0c44298fc1c149afbf4c8996fb92427ae41e4649b934ca495991b7852b855|=
 |not a journal
@@ -49,7 +49,7 @@ central journal 1 md5:e3b0c44298fc1c149afbf4c8996fb924|no digest of a site file
 central journal 1 sha256:E3b0c44298fc1c149afbf4c8996fb92427ae41e4649b934ca495991b7852b855|no digest of a site file
 central journal 1 sha256:e3b0c44298fc1c149afbf4c8996fb92427ae41e4649b934ca495991b7852b855 |no digest of a site file";
 
-/// A line as it is written again, or why it isn't read.
+/// Returns a line as it is written again, or its fault.
 fn line_again(rt: &impl Abort, alloc: Global, text: &[u8]) -> String {
     match read_bytes(text) {
         Ok(line) => {
@@ -61,7 +61,7 @@ fn line_again(rt: &impl Abort, alloc: Global, text: &[u8]) -> String {
     }
 }
 
-/// A first line as it is written again, or why it isn't read.
+/// Returns a first line as it is written again, or its fault.
 fn header_again(rt: &impl Abort, alloc: Global, text: &str) -> String {
     match read_header(text) {
         Ok(digest) => {
@@ -73,7 +73,7 @@ fn header_again(rt: &impl Abort, alloc: Global, text: &str) -> String {
     }
 }
 
-/// What came of a text is what its row wants.
+/// Checks that the result for a text is the one that its row wants.
 fn as_wanted(rt: &impl Abort, again: &str, text: &str, wanted: &str) {
     let wanted = if wanted == "=" { text } else { wanted };
     same_text(rt, again.strip_suffix("\n").unwrap_or("-"), wanted, text);

@@ -1,9 +1,9 @@
-//! A journal with lines of each kind, written by hand, and what they lead to.
+//! A journal with lines of each kind, written by hand, and the states that they lead to.
 
 pub(crate) const SITE: &str =
     r#"{"unit":"A","points":[{"id":"CP1","ceiling":63.0,"connectors":[32.0,32.0]},{"id":"CP2","ceiling":32.0,"connectors":[32.0]}]}"#;
 
-/// Its lines from line 2 on.
+/// The lines of the journal from line 2 on.
 pub(crate) const JOURNAL: &str = r#"2025-01-01T00:00:00Z attached CP1 1
 2025-01-01T00:00:01Z sent CP1 1 0
 2025-01-01T00:00:02Z reply CP1 1 [3,"0",{"status":"Unknown"}]
@@ -26,14 +26,14 @@ pub(crate) const JOURNAL: &str = r#"2025-01-01T00:00:00Z attached CP1 1
 2025-01-01T00:00:19Z attached CP2 3
 "#;
 
-/// What CP1 has after none of its lines, after the first, and so on: the version of the store, how
-/// many calls aren't confirmed, the link, or 0 for none, and the link over which a call is to be
-/// sent, or 0.
+/// The state of CP1 before the first line, after it, and so on. Each has the version of the store,
+/// the number of unconfirmed calls, the link or 0, and the link over which a call is to be sent or
+/// 0.
 pub(crate) const STATES: &str =
     "0 1 0 0,0 1 1 1,0 1 1 0,0 0 1 0,1 1 1 1,1 1 1 0,1 0 1 0,1 1 1 1,1 1 1 0,1 0 1 0,1 0 1 0,2 0 1 0,2 1 1 1,2 1 1 0,2 1 0 0,2 1 2 2,2 1 2 0,2 0 2 0,3 1 2 2,4 1 2 2,4 1 2 2";
 
-/// A line in place of one of the journal, behind the number of that, and what is said of the
-/// journal then.
+/// Lines in place of one of the journal, each after the number of that one and before the output
+/// for the changed journal.
 pub(crate) const CHANGED: &str =
     r#"2|2025-01-01T00:00:00Z attached CP1 2|line 2: its step draws 1, and 2 is written
 2|2025-01-01T00:00:00Z attached CP9 1|line 2: its step is refused: UnknownPoint

@@ -1,5 +1,5 @@
-//! Tests of `journal` by its public names alone: texts that are lines of a journal or aren't,
-//! and books that are restored from journals, of one by hand and of random days.
+//! Tests of `journal` by its public names alone: texts that are lines of a journal or aren't, and
+//! books that are restored from journals, from one written by hand and from those of random days.
 #![tactic(auto)]
 
 #[cfg(test)]

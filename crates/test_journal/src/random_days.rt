@@ -1,4 +1,4 @@
-//! Random days of a site, each noted as a session does it, and restored in another book.
+//! Random days of a site, each noted as a session notes it, and restored in another book.
 
 ghost use Rattle.std.specs.Prelude.{◌≡◌};
 
@@ -21,8 +21,8 @@ use version_store::{Book, Pass};
 
 const POINTS: [&str; 2] = ["CP1", "CP2"];
 
-/// What is said at a point, by whom. `%` stands for a number below 3, `@` for the transaction at
-/// connector 1, `&` for the call in flight, and `~` for a line break.
+/// Messages at a point, each after its sender. `%` is a number below 3, `@` the transaction at
+/// connector 1, `&` the call in flight, and `~` a line break.
 const MESSAGES: &str =
     r#"operator [2,"a","SetChargingProfile",{"connectorId":%,~"csChargingProfiles":{"chargingProfileId":%,"stackLevel":%,"chargingProfilePurpose":"TxDefaultProfile","chargingProfileKind":"Relative","chargingSchedule":{"chargingRateUnit":"A","chargingSchedulePeriod":[{"startPeriod":0,"limit":1%.%}]}}}]
 operator [2,"a","SetChargingProfile",{"connectorId":0,"csChargingProfiles":{"chargingProfileId":%,"stackLevel":0,"chargingProfilePurpose":"TxDefaultProfile","chargingProfileKind":"Relative","chargingSchedule":{"chargingRateUnit":"A","chargingSchedulePeriod":[{"startPeriod":0,"limit":%}]}}}]
@@ -39,7 +39,7 @@ reply [3,"&",{"status":"Accepted",~"connectorId":1,"scheduleStart":"2025-01-01T0
 const START: &str =
     r#"[2,"e","StartTransaction",{"connectorId":%,"idTag":"T%","meterStart":%,"timestamp":"2025-01-01T00:00:00Z"}]"#;
 
-/// A book, and the journal of what was done to it.
+/// A book, and the journal of its changes.
 #[derive(Drop)]
 struct Desk<C: Ledger, A: Ledger> {
     alloc: Global,
@@ -47,14 +47,14 @@ struct Desk<C: Ledger, A: Ledger> {
     book: Book<C, A>,
     pass: Pass<C, A>,
     random: u64,
-    /// So many seconds after midnight.
+    /// The seconds after midnight.
     seconds: u64,
     journal: String,
     lines: u64,
 }
 
 impl<C: Ledger, A: Ledger> Desk<C, A> {
-    /// A number that looks random (Knuth's MMIX generator), below a limit.
+    /// Returns a pseudorandom number below a limit (Knuth's MMIX generator).
     fn below(&mut self, limit: u64) -> u64 {
         let product = self.random.wrapping_mul(6_364_136_223_846_793_005);
         self.random = product.wrapping_add(1_442_695_040_888_963_407);
@@ -81,9 +81,9 @@ impl<C: Ledger, A: Ledger> Desk<C, A> {
         self.lines = self.lines.saturating_add(1);
     }
 
-    // ---- what is said
+    // ---- messages
 
-    /// A message comes that asks for a change.
+    /// Handles a message that requests a change.
     fn message(&mut self, rt: &impl Abort, sender: Side, point: &str, frame: &str) {
         let text = SentText::new(self.moment(rt), sender, point, frame);
         match asked_of(self.alloc, &mut self.memory, &text).ok() {
@@ -103,7 +103,7 @@ impl<C: Ledger, A: Ledger> Desk<C, A> {
         }
     }
 
-    /// The point replies to a call.
+    /// Handles a point's reply to a call.
     fn reply(&mut self, rt: &impl Abort, point: &str, frame: &str) {
         let text = SentText::new(self.moment(rt), Side::Point, point, frame);
         match asked_of(self.alloc, &mut self.memory, &text).ok() {
@@ -128,7 +128,7 @@ impl<C: Ledger, A: Ledger> Desk<C, A> {
         }
     }
 
-    /// Judges the reply to an audit. Sometimes the point starts a transaction meanwhile.
+    /// Judges the reply to an audit. Sometimes the point starts a transaction before that.
     fn judge(&mut self, rt: &impl Abort, text: &SentText<'_>, call: u64, job: AuditJob) {
         let said = said_of(self.alloc, &mut self.memory, text).expect(rt, "error");
         let judged = Judged::make(self.alloc, job, said);
@@ -143,7 +143,7 @@ impl<C: Ledger, A: Ledger> Desk<C, A> {
         }
     }
 
-    /// The number that stands for a mark in a message.
+    /// Returns the number for a mark in a message.
     fn number_of(&mut self, point: &str, mark: char) -> u64 {
         match mark {
             '%' => self.below(3),
@@ -155,7 +155,7 @@ impl<C: Ledger, A: Ledger> Desk<C, A> {
         }
     }
 
-    /// The transaction of the point at connector 1, or 1.
+    /// Returns the transaction of the point at connector 1, or 1.
     fn running(&self, point: &str) -> u64 {
         let Some(book) = self.book.present().book_of(point) else {
             return 1;
@@ -166,7 +166,7 @@ impl<C: Ledger, A: Ledger> Desk<C, A> {
         }
     }
 
-    /// Appends a character of a message, or what it stands for.
+    /// Appends a character of a message, or the text for a mark.
     fn push_filled(&mut self, rt: &impl Abort, text: &mut String, point: &str, mark: char) {
         match mark {
             '%' | '@' | '&' => {
@@ -178,7 +178,7 @@ impl<C: Ledger, A: Ledger> Desk<C, A> {
         }
     }
 
-    /// A message of this form, filled.
+    /// Returns a message of this form, with its marks filled in.
     fn frame_of(&mut self, rt: &impl Abort, point: &str, form: &str) -> String {
         let mut frame = String::new(self.alloc);
         for mark in form.chars() {
@@ -192,7 +192,7 @@ impl<C: Ledger, A: Ledger> Desk<C, A> {
         self.message(rt, Side::Point, point, frame.as_str());
     }
 
-    /// The message of this row is said at a point.
+    /// Sends the message of this row at a point.
     fn say(&mut self, rt: &impl Abort, point: &str, row: u64) {
         let row = MESSAGES.lines().nth(row as usize).expect(rt, "no row");
         let (sender, form) = row.split_once(' ').expect(rt, row);
@@ -204,9 +204,9 @@ impl<C: Ledger, A: Ledger> Desk<C, A> {
         }
     }
 
-    // ---- what happens
+    // ---- events
 
-    /// Something happens at a point.
+    /// Makes a random event at a point.
     fn happen(&mut self, rt: &impl Abort) {
         self.seconds = self.seconds.saturating_add(self.below(20));
         let place = self.below(2) as usize;
@@ -219,7 +219,7 @@ impl<C: Ledger, A: Ledger> Desk<C, A> {
         }
     }
 
-    /// The point gets a link, or loses the one that it has.
+    /// Gives the point a link, or ends the one that it has.
     fn link(&mut self, rt: &impl Abort, point: &str) {
         let id = self.id(rt, point);
         match self.book.link_of(point) {
@@ -274,7 +274,7 @@ fn desk_of<C: Ledger, A: Ledger>(
     }
 }
 
-/// A journal, and the state that it was noted of.
+/// A journal, and the state after it.
 #[derive(Drop)]
 struct Day {
     journal: String,
@@ -282,7 +282,7 @@ struct Day {
     state: Machine,
 }
 
-/// A day of so many happenings.
+/// Makes a day of 1,500 events.
 fn day_of<C: Ledger, A: Ledger>(
     rt: &impl Abort,
     alloc: Global,
@@ -304,7 +304,7 @@ fn day_of<C: Ledger, A: Ledger>(
     }
 }
 
-/// A day is restored from its journal, to the state that it had.
+/// Restores a day from its journal, and checks that this leads to its state.
 fn restored<C: Ledger, A: Ledger>(
     rt: &impl Abort,
     alloc: Global,
@@ -329,7 +329,7 @@ fn restored<C: Ledger, A: Ledger>(
     }
 }
 
-/// What a point has is the same in two states.
+/// Checks that a point is the same in two states.
 fn same_point(rt: &impl Abort, alloc: Global, found: &Machine, wanted: &Machine, point: &str) {
     let (seen, told) = (
         told_of(rt, alloc, found, point),
@@ -341,8 +341,8 @@ fn same_point(rt: &impl Abort, alloc: Global, found: &Machine, wanted: &Machine,
     holds(rt, found.same(wanted), "what the point has");
 }
 
-/// The version, and what is known of a point: its calls, its link, the starts that wait, and its
-/// audit.
+/// Returns the version and the state of a point: its calls, its link, its pending remote starts,
+/// and its audit.
 fn told_of(rt: &impl Abort, alloc: Global, state: &Machine, point: &str) -> String {
     let outbox = state.outbox_of(point).expect(rt, point);
     let (first, next) = (outbox.first_number(), outbox.next_number());
@@ -357,7 +357,7 @@ fn told_of(rt: &impl Abort, alloc: Global, state: &Machine, point: &str) -> Stri
     ).expect(rt, "error")
 }
 
-/// A day of two books that nobody else has.
+/// Makes and restores a day, with two books of this test alone.
 fn day_at_random(rt: &impl Abort, alloc: Global, seed: u64) {
     let (changes, answers) = (Blank::new(1), Blank::new(1));
     let day = day_of::<Brand, Brand>(rt, alloc, changes, answers, seed);

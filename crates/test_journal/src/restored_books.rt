@@ -1,4 +1,4 @@
-//! Books that are restored from a journal by hand, cut after each line and changed in each.
+//! Books that are restored from a journal written by hand, cut after each line and changed in each.
 
 ghost use Rattle.std.specs.Prelude.{◌≡◌};
 
@@ -14,12 +14,12 @@ use std::sync::ledger::{Blank, Ledger};
 use test_books::instant_at;
 use version_store::{Book, Pass};
 
-/// How many lines the journal has after its first one.
+/// The number of lines of the journal after its first one.
 const LINES: usize = 20;
 
-// ---- what comes of a journal
+// ---- the outcome of a journal
 
-/// What is said of a journal that is restored.
+/// Restores a journal. Returns its number of lines, or its fault.
 fn said_of<C: Ledger, A: Ledger>(
     rt: &impl Abort,
     alloc: Global,
@@ -34,7 +34,7 @@ fn said_of<C: Ledger, A: Ledger>(
     said.expect(rt, "error")
 }
 
-/// What CP1 has, as `STATES` has it.
+/// Returns the state of CP1 in the form of `STATES`.
 fn state_of<C: Ledger, A: Ledger>(rt: &impl Abort, alloc: Global, book: &Book<C, A>) -> String {
     let (version, waiting) = (book.version(), book.outbox_len("CP1"));
     let link = book.link_of("CP1").unwrap_or(0);
@@ -42,7 +42,7 @@ fn state_of<C: Ledger, A: Ledger>(rt: &impl Abort, alloc: Global, book: &Book<C,
     format!(in alloc; "{version} {waiting} {link} {sending}").expect(rt, "error")
 }
 
-/// How many changes the book and the pass count, and what the audit of CP1 came to.
+/// Returns the number of changes that the book and the pass count, and the outcome of CP1's audit.
 fn counts_of<C: Ledger, A: Ledger>(
     rt: &impl Abort,
     alloc: Global,
@@ -55,7 +55,7 @@ fn counts_of<C: Ledger, A: Ledger>(
     format!(in alloc; "{all} {own} {}", status.audit.name()).expect(rt, "error")
 }
 
-/// What is noted where all links are lost at a minute past midnight.
+/// Returns the noted lines after all links are lost, at a minute past midnight.
 fn losses_of<C: Ledger, A: Ledger>(
     rt: &impl Abort,
     alloc: Global,
@@ -69,8 +69,8 @@ fn losses_of<C: Ledger, A: Ledger>(
     text
 }
 
-/// What comes of a journal in a new book: what is said of it, the state, what is noted where all
-/// links are then lost, and the state and the counts after that.
+/// Returns the outcome of a journal in a new book: the result of the restore, the state, the noted
+/// lines after all links are then lost, and the state and the counts after that.
 fn play<C: Ledger, A: Ledger>(
     rt: &impl Abort,
     alloc: Global,
@@ -94,13 +94,13 @@ fn play<C: Ledger, A: Ledger>(
     format!(in alloc; "{said}\n{state}\n{losses}{after} {counts}").expect(rt, "error")
 }
 
-/// The same, of a book that nobody else has.
+/// Returns the same for a book of this test alone.
 fn told(rt: &impl Abort, alloc: Global, journal: &str) -> String {
     let (changes, answers) = (Blank::new(1), Blank::new(1));
     play::<Brand, Brand>(rt, alloc, changes, answers, journal.as_bytes())
 }
 
-/// What comes of a journal is, or begins with, the text wanted.
+/// Checks that the outcome of a journal is the wanted text, or begins with it.
 fn is_told(rt: &impl Abort, alloc: Global, journal: &str, wanted: &str) {
     let told = told(rt, alloc, journal);
     let begins = told.as_str().get(..wanted.len()).unwrap_or(told.as_str());
@@ -109,7 +109,7 @@ fn is_told(rt: &impl Abort, alloc: Global, journal: &str, wanted: &str) {
 
 // ---- journals
 
-/// The first lines of the journal, the line of one number in place of its own.
+/// Returns the first lines of the journal, with `line` in place of the line of one number.
 fn journal_of(rt: &impl Abort, alloc: Global, lines: usize, changed: usize, line: &str) -> String {
     let mut journal = String::new(alloc);
     for (index, own) in JOURNAL.lines().enumerate().take(lines) {
@@ -120,7 +120,7 @@ fn journal_of(rt: &impl Abort, alloc: Global, lines: usize, changed: usize, line
     journal
 }
 
-/// What comes of the first lines of the journal, but for the counts.
+/// Returns the outcome of the first lines of the journal, without the counts.
 fn wanted_behind(rt: &impl Abort, alloc: Global, lines: usize) -> String {
     let state = STATES.split(',').nth(lines).expect(rt, "no state");
     let (version, rest) = state.split_once(' ').expect(rt, state);
@@ -135,7 +135,7 @@ fn wanted_behind(rt: &impl Abort, alloc: Global, lines: usize) -> String {
     )
 }
 
-/// So many lines are restored, also where the next one is torn.
+/// Checks that the first `lines` lines are restored if the next one is torn.
 fn cut_after(rt: &impl Abort, alloc: Global, lines: usize) {
     let mut journal = journal_of(rt, alloc, lines, 0, "");
     let torn = "2025-01-01T00:00:20Z lost CP1";
@@ -151,14 +151,14 @@ fn a_journal_is_restored_after_each_line(rt: HostRuntime) {
     }
 }
 
-/// What comes of all its lines.
+/// The outcome of all lines.
 const WHOLE: &str = "21 lines
 4 1 2 2
 2025-01-01T00:01:00Z lost CP1 2
 2025-01-01T00:01:00Z lost CP2 3
 4 1 0 0 4 4 Agrees";
 
-/// The same links, lost in the journal.
+/// The loss of the same links, in the journal.
 const LOST: &str = "2025-01-01T00:01:00Z lost CP1 2
 2025-01-01T00:01:00Z lost CP2 3
 ";
@@ -191,7 +191,7 @@ fn a_whole_journal_is_restored(rt: HostRuntime) {
     );
 }
 
-/// A journal with a changed line is named by its first line that doesn't fit.
+/// Checks that the first line that doesn't fit is named in a journal with a changed line.
 fn changed(rt: &impl Abort, alloc: Global, row: &str) {
     let (number, row) = row.split_once('|').expect(rt, row);
     let (line, wanted) = row.split_once('|').expect(rt, row);
@@ -207,7 +207,7 @@ fn a_changed_line_is_named(rt: HostRuntime) {
     }
 }
 
-/// A reply with line breaks is on one line, and confirms its call as it did.
+/// Checks that a reply with line breaks is on one line, and confirms its call as before.
 #[test]
 fn a_message_with_line_breaks_is_restored(rt: HostRuntime) {
     let alloc = rt.alloc();
@@ -226,7 +226,7 @@ fn a_message_with_line_breaks_is_restored(rt: HostRuntime) {
     is_told(&rt, alloc, journal.as_str(), "4 lines\n0 0 1 0\n");
 }
 
-/// A link of CP1 comes and goes.
+/// Appends lines by which CP1 gets a link and loses it.
 fn push_links(rt: &impl Abort, alloc: Global, journal: &mut String, link: u64) {
     let lines = format!(in alloc;
         "2025-01-01T00:00:00Z attached CP1 {link}\n2025-01-01T00:00:00Z lost CP1 {link}\n"
@@ -236,7 +236,7 @@ fn push_links(rt: &impl Abort, alloc: Global, journal: &mut String, link: u64) {
         .expect(rt, "error");
 }
 
-/// A book whose history is folded on the way goes on with the next link.
+/// Checks that a book whose history is folded during the restore continues with the next link.
 #[test]
 fn a_long_journal_is_restored(rt: HostRuntime) {
     let mut journal = String::new(rt.alloc());

@@ -1,5 +1,5 @@
-//! What tests compare, each by a function of its own: an assertion is long to prove, and a call of
-//! one is not. Each is given the case that it compares.
+//! Comparisons for tests. Each is a function of its own: an assertion is long to prove, a call of
+//! it isn't. Each takes the name of the case that it compares.
 
 use std::process::Abort;
 

@@ -1,5 +1,5 @@
-//! A session before the workers, whose lines say what it does and what comes of that. What comes otherwise
-//! is noted, and it goes on, so that its thread ends.
+//! A session beside the workers, which plays lines of commands with their expected results. Other
+//! results are recorded, and the session goes on, so that its thread ends.
 
 use crate::gates::HoldingGate;
 use compile_pool::{Jobs, answer_unmade, short_work, wait_answer};
@@ -12,7 +12,7 @@ use sweep_compiler::{Turns, compile};
 use test_books::{Words, begin_of, instant_at, profile_of};
 use version_store::{Job, Pass, Shared};
 
-/// What sessions have at hand.
+/// The context of sessions.
 #[derive(Drop)]
 pub(crate) struct Desk<'a, 'j, 'g, C: Ledger, A: Ledger> {
     pub(crate) alloc: Global,
@@ -21,12 +21,12 @@ pub(crate) struct Desk<'a, 'j, 'g, C: Ledger, A: Ledger> {
     pub(crate) gate: &'g HoldingGate,
 }
 
-/// A session that has played its lines: its pass, and which came otherwise.
+/// A session that has played its lines: its pass, and the lines with other results.
 pub(crate) type Played<C, A> = (Pass<C, A>, String);
 
 impl<C: Ledger, A: Ledger> Desk<'_, '_, '_, C, A> {
-    /// Goes on with these lines, such as `3* ask 0 1 60 = #`: so many times, with the number of the time
-    /// for `#`.
+    /// Plays more lines, such as `3* ask 0 1 60 = #`: this one three times, with the number of the
+    /// time for `#`.
     pub(crate) fn play(&self, rt: &impl Wait, played: Played<C, A>, lines: &str) -> Played<C, A> {
         let (mut pass, mut wrong) = played;
         for line in lines.lines() {
@@ -43,7 +43,7 @@ impl<C: Ledger, A: Ledger> Desk<'_, '_, '_, C, A> {
         (pass, wrong)
     }
 
-    /// What came otherwise, if anything did.
+    /// Returns the result of a line if it isn't the expected one.
     fn play_once(&self, rt: &impl Wait, pass: &mut Pass<C, A>, text: &str, time: u32) -> String {
         let text = numbered(self.alloc, text, time).unwrap_or(String::new(self.alloc));
         let (command, wanted) = text.as_str().split_once(" = ").unwrap_or(("", ""));
@@ -55,7 +55,7 @@ impl<C: Ledger, A: Ledger> Desk<'_, '_, '_, C, A> {
         wrong
     }
 
-    /// What comes of a command: a number, which is 0 where there is none, or a refusal.
+    /// Returns the result of a command: a number, which is 0 if there is none, or a refusal.
     fn done(&self, rt: &impl Wait, pass: &mut Pass<C, A>, command: &str) -> Result<u64, Refusal> {
         let mut words = Words::of(command);
         match words.word() {
@@ -101,7 +101,7 @@ impl<C: Ledger, A: Ledger> Desk<'_, '_, '_, C, A> {
         }
     }
 
-    /// Starts a transaction at a point and a connector: its number.
+    /// Starts a transaction at a point and a connector, and returns its number.
     fn start(
         &self,
         rt: &impl Wait,
@@ -121,7 +121,7 @@ impl<C: Ledger, A: Ledger> Desk<'_, '_, '_, C, A> {
         }
     }
 
-    /// Asks for a connector of a point, for so many seconds from midnight on.
+    /// Takes a request for a connector of a point, for a number of seconds from midnight on.
     fn job(&self, rt: &impl Wait, pass: &mut Pass<C, A>, words: Words<'_>) -> Result<Job, Refusal> {
         let mut words = words;
         let point = PointId::copied(self.alloc, words.word())?;
@@ -134,7 +134,7 @@ impl<C: Ledger, A: Ledger> Desk<'_, '_, '_, C, A> {
         book.take(pass, point, connector, start, seconds, None)
     }
 
-    /// The same, and sends the job to a worker: the request's number.
+    /// Takes a request, sends its job to a worker, and returns the request's number.
     fn ask(&self, rt: &impl Wait, pass: &mut Pass<C, A>, words: Words<'_>) -> Result<u64, Refusal> {
         let job = self.job(rt, pass, words)?;
         let number = job.number();
@@ -144,7 +144,7 @@ impl<C: Ledger, A: Ledger> Desk<'_, '_, '_, C, A> {
         }
     }
 
-    /// The same, and gives the request up at once.
+    /// Takes a request, sends its job to a worker, and abandons it at once.
     fn leave(
         &self,
         rt: &impl Wait,
@@ -162,7 +162,7 @@ impl<C: Ledger, A: Ledger> Desk<'_, '_, '_, C, A> {
         }
     }
 
-    /// Waits for the answer to the request of a number: the tenths of its first limit.
+    /// Waits for the answer to the request of a number, and returns the tenths of its first limit.
     fn answer(
         &self,
         rt: &impl Wait,
@@ -178,7 +178,7 @@ impl<C: Ledger, A: Ledger> Desk<'_, '_, '_, C, A> {
         }
     }
 
-    /// Whether the job of a request is short: 1, or 0.
+    /// Returns 1 if the job of a request is short, otherwise 0.
     fn is_short(
         &self,
         rt: &impl Wait,
@@ -189,7 +189,7 @@ impl<C: Ledger, A: Ledger> Desk<'_, '_, '_, C, A> {
         Ok(u64::from(short_work(&job).is_some()))
     }
 
-    /// How often the limit is evaluated for a request.
+    /// Returns the number of evaluations of the limit for a request.
     fn turns(
         &self,
         rt: &impl Wait,
@@ -204,13 +204,13 @@ impl<C: Ledger, A: Ledger> Desk<'_, '_, '_, C, A> {
     }
 }
 
-/// The text with a number for each `#`.
+/// Returns the text with a number for each `#`.
 fn numbered(alloc: Global, text: &str, number: u32) -> Option<String> {
     let number = format!(in alloc; "{number}").ok()?;
     text.replace(alloc, "#", number.as_str()).ok()
 }
 
-/// Whether this came: one of `320 or Stopped`, say.
+/// Whether the result is one of those expected, such as `320 or Stopped`.
 fn is_one_of(found: Result<u64, Refusal>, wanted: &str) -> bool {
     for word in wanted.split(" or ") {
         let is_so = match found {

@@ -1,20 +1,20 @@
-//! A gate that holds workers up until it is opened, for so many turns at most.
+//! A gate that holds up workers until it is opened, for a limited number of turns.
 
 use compile_pool::Gate;
 use ocpp_scalars::Refusal;
 use std::sync::atomic::{AtomicU64, Ordering};
 use std::thread;
 
-/// How many turns a worker is held up at most; each yields.
+/// The most turns for which a worker is held up; each yields.
 const TURNS: u64 = 1_000_000;
 
-/// How many turns those are left who begin to wait.
+/// The number of turns left to those that begin to wait.
 const PAUSE: u64 = 10_000;
 
-/// Holds the workers of some requests up until it is opened.
+/// Holds up the workers of some requests until it is opened.
 #[derive(Drop)]
 pub(crate) struct HoldingGate {
-    /// Which: a letter for each number from 1 on, `h` for one that is held up.
+    /// The requests that are held up: a letter for each number from 1 on, `h` if it is.
     held: &'static str,
     entered: AtomicU64,
     begun: AtomicU64,
@@ -38,7 +38,7 @@ impl HoldingGate {
         self.opened.store(1, Ordering::SeqCst);
     }
 
-    /// Yields so many turns, or until it is opened. Whether it is.
+    /// Yields up to this many turns, or until the gate is opened. Returns whether it is.
     fn is_opened_within(&self, turns: u64) -> bool {
         for _turn in 0..turns {
             if self.opened.load(Ordering::SeqCst) != 0 {
@@ -49,8 +49,8 @@ impl HoldingGate {
         false
     }
 
-    /// Does what a word says, or tells: how often a worker came to it, how many requests a worker began to
-    /// compile, and whether one went on before it was opened.
+    /// Does the action of a word, or returns a count: how often a worker came to the gate, how many
+    /// requests a worker began to compile, and whether one went on before the gate was opened.
     pub(crate) fn done(&self, word: &str) -> Result<u64, Refusal> {
         match word {
             "open" => self.open(),

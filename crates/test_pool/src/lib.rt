@@ -1,6 +1,6 @@
 //! Tests of `compile_pool` and of the shared book of `version_store` from outside, by their public
-//! names alone: workers on threads beside sessions. Each test ends, and says the same however the
-//! threads take their turns.
+//! names only: workers on threads beside sessions. Each test ends, with the same result in whatever
+//! order the threads run.
 #![tactic(auto)]
 
 #[cfg(test)]

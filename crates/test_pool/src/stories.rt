@@ -1,6 +1,7 @@
-//! Stories of sessions and workers. Commands of lines: `install`, `start`, `ask`, `leave` (to ask, and give that
-//! up), `is-short` and `turns` (evaluations) of a request, `answer` (its first limit in tenths), `finish`; the counts
-//! of the session's pass, of kept requests, of what workers came to and began; `open` the gate, `pause`.
+//! Stories of sessions and workers. The commands of lines: `install`, `start`, `ask`, `leave` (to
+//! ask and abandon), `is-short` and `turns` (evaluations) of a request, `answer` (its first limit
+//! in tenths), `finish`; the counts of the session's pass, of kept requests, and of what workers
+//! came to and began; `open` the gate, `pause`.
 
 use crate::threads::{Story, play};
 use std::alloc::Global;
@@ -14,7 +15,7 @@ fn played<R: Abort + Threads + Wait + Sync>(rt: &R, alloc: Global, story: &Story
     play::<Brand, Brand, R>(rt, alloc, Blank::new(3), Blank::new(3), story);
 }
 
-/// Nobody does anything.
+/// No session does anything.
 const NOTHING: Story = Story {
     points: 8,
     workers: 1,
@@ -27,7 +28,7 @@ const NOTHING: Story = Story {
     totals: (0, 0),
 };
 
-/// An install goes through while a request is held up, and changes neither answer.
+/// An install is made while a request is held up, and changes neither answer.
 const OVERTAKEN: Story = Story {
     workers: 2,
     held: "h",
@@ -70,7 +71,7 @@ fn one_worker_answers_in_turn(rt: HostRuntime) {
     played(&rt, rt.alloc(), &IN_TURN);
 }
 
-/// Each of 64 points has a limit of its own before its request, and another one behind it.
+/// Each of 64 points has a limit of its own before its request, and another one after it.
 const MANY: Story = Story {
     points: 1_000,
     workers: 8,
@@ -99,7 +100,7 @@ fn workers_end_with_the_jobs(rt: HostRuntime) {
     played(&rt, rt.alloc(), &story);
 }
 
-/// The central system is stopped while each second request is held up.
+/// The central system is stopped while every second request is held up.
 const STOPPED: Story = Story {
     workers: 2,
     held: " h h h h",
@@ -141,7 +142,7 @@ fn stopping_wakes_all_who_wait(rt: HostRuntime) {
     played(&rt, rt.alloc(), &BOTH_WAIT);
 }
 
-/// Each session counts its own.
+/// Each session counts its own changes and answers.
 const COUNTED: Story = Story {
     one: "100* install 0 0 periods=0:# = 0\nchanges = 100\nanswers = 0",
     other: "60* install 1 0 periods=0:# = 0\nask 1 1 60 = 1\nanswer 1 = 60\nchanges = 60\nanswers = 1",
@@ -155,7 +156,8 @@ fn two_sessions_count_what_all_was(rt: HostRuntime) {
     played(&rt, rt.alloc(), &COUNTED);
 }
 
-/// A request of 31 days is long beside a daily profile of 200 periods of a second, and its answer would be too.
+/// With a daily profile of 200 periods of a second, a request of 31 days is long, and its answer
+/// would be too.
 const PASSED: Story = Story {
     held: "h",
     before: "install 0 0 kind=Recurring recurrency=Daily start=0 turns=1 = 0
@@ -180,7 +182,8 @@ fn short_jobs_pass_a_long_one(rt: HostRuntime) {
     played(&rt, rt.alloc(), &PASSED);
 }
 
-/// The third request is behind the second, so that the worker has come to that when this is answered.
+/// The third request is behind the second, so the worker has come to the second when the third is
+/// answered.
 const GIVEN_UP: Story = Story {
     beside: "leave 0 1 2678400 = 2
 answer 2 = OutOfMemory
@@ -200,13 +203,14 @@ fn a_request_that_is_given_up_is_not_begun(rt: HostRuntime) {
     played(&rt, rt.alloc(), &GIVEN_UP);
 }
 
-/// A job is short that changes at most 10,000 times. A day comes 32 times at most in 31 days, and a week 5
-/// times. Each time a profile of 200 periods may change 202 times, and twice at the ends of its validity. One at
-/// the whole point counts for the point and for each connector that is looked at: for connector 1 of point 1 in a
-/// month 2 * (202 * 32 + 2) = 12,932, in a day 2 * (202 * 2 + 2), within 24 days 2 * (202 * 24 + 2) = 9,700, and
-/// from then on 2 * (202 * 25 + 2) = 10,104; for the whole point once, but twice at point 4, where a transaction
-/// is active. Point 6 has two that change in different seconds, and a third one that hides both: 9,705. The limit
-/// is evaluated at the start, and 2 * 200 * 24 times.
+/// A job is short if limits may change at most 10,000 times. A day begins at most 32 times in 31
+/// days, and a week 5 times. Each time, a profile of 200 periods may change 202 times, and twice at
+/// the ends of its validity. A profile at the whole point counts for the point and for each
+/// connector that the request covers. For connector 1 of point 1: in a month 2 * (202 * 32 + 2) =
+/// 12,932, in a day 2 * (202 * 2 + 2), within 24 days 2 * (202 * 24 + 2) = 9,700, and from then on
+/// 2 * (202 * 25 + 2) = 10,104. For the whole point it counts once, but twice at point 4, where a
+/// transaction is active. Point 6 has two that change in different seconds, and a third one that
+/// hides both: 9,705. The limit is evaluated at the start, and 2 * 200 * 24 times.
 const WORK: Story = Story {
     before: "install 1 0 kind=Recurring recurrency=Daily start=0 turns=1 = 0
 install 2 0 kind=Recurring recurrency=Weekly start=0 turns=1 = 0

@@ -1,4 +1,4 @@
-//! A story's sessions and workers, each on a thread of its own.
+//! The sessions and workers of a story, each on a thread of its own.
 
 ghost use Rattle.std.specs.Prelude.{◌≡◌, ◌≤◌};
 
@@ -17,17 +17,17 @@ use std::thread::Threads;
 use test_books::site_text;
 use version_store::{Pass, Shared, Totals};
 
-/// What sessions do beside workers.
+/// The actions of sessions beside workers.
 #[derive(Clone, Copy)]
 pub(crate) struct Story {
-    /// How many points the site has, of two connectors each: 0, 1 and so on.
+    /// The number of points of the site: 0, 1 and so on, of two connectors each.
     pub(crate) points: usize,
-    /// How many workers take short jobs. One takes long ones.
+    /// The number of workers that take short jobs. One takes long ones.
     pub(crate) workers: usize,
-    /// Which requests are held up, as `HoldingGate` has it.
+    /// The requests that are held up, in the form of `HoldingGate`.
     pub(crate) held: &'static str,
-    /// The lines of the session that begins; of two sessions that come beside it; and of the first one then,
-    /// and once all workers have ended.
+    /// The lines of the first session at the beginning; of two sessions that run beside it; of the
+    /// first one then, and after all workers have ended.
     pub(crate) before: &'static str,
     pub(crate) one: &'static str,
     pub(crate) other: &'static str,
@@ -37,7 +37,7 @@ pub(crate) struct Story {
     pub(crate) totals: (u64, u64),
 }
 
-/// Three sessions: those that come beside the first one, and that.
+/// Three sessions: the two beside the first one, and the first.
 type Sessions<C, A> = (Played<C, A>, Played<C, A>, Played<C, A>);
 
 /// Plays a story.
@@ -83,14 +83,14 @@ pub(crate) fn play<
     );
 }
 
-/// Keeps the pass of a session of which no line came otherwise.
+/// Keeps the pass of a session whose lines all had the expected results.
 fn keep<C: Ledger, A: Ledger>(rt: &impl Abort, passes: &mut Vec<Pass<C, A>>, played: Played<C, A>) {
     let (pass, wrong) = played;
     assert!(rt; wrong.is_empty(), "{wrong}");
     passes.push(pass).ok().expect(rt, "error");
 }
 
-/// Plays a story's sessions beside its workers. None where there isn't a thread for each.
+/// Plays a story's sessions beside its workers. Returns `None` if there isn't a thread for each.
 fn beside_workers<'a, C: Ledger + Send + Sync, A: Ledger + Send + Sync, R: Threads + Wait + Sync>(
     rt: &R,
     alloc: Global,
@@ -139,7 +139,7 @@ fn beside_workers<'a, C: Ledger + Send + Sync, A: Ledger + Send + Sync, R: Threa
     )
 }
 
-/// Plays the first session beside the two others. In the end nothing is held up.
+/// Plays the first session beside the two others. At the end it opens the gate.
 fn beside<C: Ledger + Send + Sync, A: Ledger + Send + Sync, R: Threads + Wait + Sync>(
     rt: &R,
     desk: &Desk<'_, '_, '_, C, A>,

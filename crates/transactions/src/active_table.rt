@@ -25,8 +25,9 @@ pub enum Began {
 #[derive(Drop)]
 pub struct ActiveTable {
     slots: Vec<Option<Transaction>>,
-    // The start of each slot's transaction.
-    /// The start of each slot's transaction, which readers of schedules borrow as they are.
+    /// The start of each slot's transaction.
+    // Kept beside the slots, so that a view of the point borrows them as a slice and copies
+    // nothing.
     starts: Vec<Option<Instant>>,
 }
 

@@ -1,4 +1,4 @@
--- That a Take is Behind exactly where its session has seen a newer version.
+-- A Take is Behind exactly if its session has seen a newer version.
 use Rattle.std.proofs.Common.{◌≡◌, ℕ, ◌<◌, nat_lt, nat_le, ◌==◌, Bool, true, false, cond, length, Option, Some, None, Result, Ok, Err, refl, sym, ap, ◌∙◌, ◌+◌, arith}
 use Rattle.std.proofs.lemmas.Bool.Decides.{nat_tests}
 use Rattle.ocpp_scalars.specs.declared.refusal.Refusal.{Refusal}
@@ -24,7 +24,7 @@ use Rattle.version_store.specs.Calls.{IsRefusalTo, IsRefusalOf, IsBehind}
 
 -- ---- no `Ask` is refused as Behind
 
--- what is refused in two steps is refused in the first, or after it
+-- a refusal of two steps in turn is that of the first, or of the one after it
 refused_in_steps : {A : Type 0} (first : Result A Refusal) (next : A → Result Ask Refusal)
     (refusal : Refusal) → (first ≡ Err refusal → ⊥)
     → ((a : A) → next a ≡ Err refusal → ⊥) → (first >>= next) ≡ Err refusal → ⊥
@@ -90,7 +90,7 @@ refusal_behind old take seen found is =
         record { seen_is = cc is; found_is = cc is; older = grind (arith, nat_tests, older) }
     go false false false older is = absurd (cc is)
 
--- what a Take comes to at a place
+-- the result of a Take at a place
 abbrev takes_at : MachineState → Take → ℕ → Result Made Refusal
 takes_at old take place =
     ask_at old.site.unit (book_at old place) take

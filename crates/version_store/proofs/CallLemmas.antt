@@ -1,4 +1,4 @@
--- What follows for a call on the store from the machine's outlook and its step.
+-- The effect of a call on the store, from the machine's outlook and its step.
 use Rattle.std.proofs.Common.{◌≡◌, ◌<◌, ◌≤◌, nat_le, ◌||◌, ◌&&◌, Bool, true, false, cond, [], ◌∷◌, Result, Ok, Err, refl, sym, ap, ◌∙◌, subst, length, arith}
 use Rattle.std.proofs.lemmas.Bool.Decides.{nat_tests}
 use Rattle.ocpp_scalars.specs.declared.refusal.Refusal.{Refusal}
@@ -35,7 +35,7 @@ refusal_of_store store step (Ok made) refusal cause = (
 )
 refusal_of_store store step (Err first) refusal cause = cause
 
--- where an event folds the history, memory may be wanting
+-- if an event folds the history, memory may run out
 pub refused_fold : (store : StoreState) (step : Step) (result : Result Made Refusal)
     (refusal : Refusal) → outlook_of store.present result ≡ Ok true → may_fold step ≡ true
     → fold_from ≤ length store.events → refusal ≡ OutOfMemory
@@ -57,13 +57,13 @@ refused_fold store step (Ok made) refusal is can many memory =
     by false true false full e c f = absurd (cc c)
     by false true true false e c f = absurd (cc f)
 
--- what would be an event is refused only because memory ran out
+-- a step that would be an event is refused only because memory ran out
 pub refused_event : (old : MachineState) (result : Result Made Refusal) (refusal : Refusal)
     → outlook_of old result ≡ Ok true → IsRefusalOf result refusal → refusal ≡ OutOfMemory
 refused_event old (Ok made) refusal is cause = cause.1
 refused_event old (Err first) refusal is cause = absurd (cc is)
 
--- and what would be none is never refused
+-- a step that would be an answer alone is never refused
 pub never_refused : Laws → (old : MachineState) (result : Result Made Refusal) (refusal : Refusal)
     → outlook_of old result ≡ Ok false → IsRefusalOf result refusal → ⊥
 never_refused laws old (Ok made) refusal is cause =
@@ -71,7 +71,7 @@ never_refused laws old (Ok made) refusal is cause =
     absurd (cc (is, event))
 never_refused laws old (Err first) refusal is cause = absurd (cc is)
 
--- it is asked of the store that was
+-- the outlook of the old store, if the present one is the same
 pub outlook_of_same : (store was : StoreState) (step : Step) (is_one : Bool) → was ≡ store
     → outlook store.present step ≡ Ok is_one → outlook was.present step ≡ Ok is_one
 outlook_of_same store was step is_one same outlook_is =
@@ -79,7 +79,7 @@ outlook_of_same store was step is_one same outlook_is =
 
 -- ---- steps that bring no answer
 
--- what is made of such a step
+-- the result of such a step
 pub made_of_step : (old : MachineState) (step : Step) (reply : Reply) (after : MachineState)
     → may_fold step ≡ true → Steps old step reply after
     → stepped no_answer old step ≡ Ok (made_with reply after)
@@ -90,7 +90,7 @@ made_of_step old step reply after can steps = by step (compile_or_other step) ca
     by step (is_other _ needs_none as_defined as_made) can steps = as_defined old reply after steps
     by step (is_compile number) can steps = absurd (cc can)
 
--- no answer is asked of it
+-- such a step isn't a Compile
 pub not_compiled : (old : MachineState) (step : Step) → may_fold step ≡ true
     → MayBeGiven old (event_alone step)
 not_compiled old step can number kept same found =
@@ -113,9 +113,9 @@ pub event_of_step : (old : MachineState) (step : Step) (is_one : Bool) (reply : 
 event_of_step old step is_one reply after is same =
     event_of_result old (stepped no_answer old step) is_one reply after is same
 
--- ---- what is no event
+-- ---- answers without an event
 
--- it counts nothing
+-- such an answer counts nothing
 pub nothing_counted : Laws → (old : MachineState) (step : Step) (reply : Reply)
     → Steps old step reply old → no_totals ≡ totals_after no_totals reply
 nothing_counted laws old step reply steps =
@@ -124,7 +124,7 @@ nothing_counted laws old step reply steps =
     let answers : (counted reply).answers ≡ 0 = omega (arith, numbers.drawn, numbers.kept) in
     cc (changes, answers)
 
--- and leaves the state
+-- such an answer leaves the state
 pub left_alone : Laws → (old : MachineState) (step : Step) (reply : Reply) (after : MachineState)
     → may_fold step ≡ true → outlook old step ≡ Ok false → Steps old step reply after → after ≡ old
 left_alone laws old step reply after can is steps =
@@ -142,7 +142,7 @@ replies_alone laws old step reply can is steps =
       kept = refl;
     }
 
--- ---- what is one
+-- ---- events
 
 pub not_folded : (old : StoreState) (step : Step) → length old.events < fold_from
     → folded_for old step ≡ old

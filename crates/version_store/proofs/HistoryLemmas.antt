@@ -1,4 +1,4 @@
--- That a stored history goes on with an event more, and from its fold.
+-- A stored history goes on with one more event, and from its fold.
 use Rattle.std.proofs.Common.{◌≡◌, ℕ, zero, suc, ◌+◌, ◌≤◌, List, [], ◌∷◌, ◌++◌, map, slice_index_or, Option, None, Ok, refl, sym, ap, ◌∙◌, subst, add-zero, length, arith}
 use Rattle.std.specs.Prelude.{IfSome}
 use Rattle.std.proofs.lemmas.List.Sums.{sum_by_push, sum_by-append}
@@ -76,9 +76,9 @@ verdicts_go_on laws old event reply after machine made given brought right =
     laws.legal old (event_of event.step reply ∷ []) after (event ∷ []) one in
     laws.verdicts old (event_of event.step reply ∷ []) after machine legal (brought, tt) right
 
--- ---- what a store keeps
+-- ---- the invariant of a store
 
--- of its histories; the rest follows
+-- the part about its histories; the rest follows
 record Reaches (store : StoreState) : Type 0 where
   site : SiteState
   earlier : List Event
@@ -172,7 +172,7 @@ store_goes_on laws old is event reply after made given brought machine =
           is.verdicts;
     })
 
--- all that was done since the opening
+-- all changes since the opening
 pub whole_changes : (store : StoreState) (is : IsStore store)
     → store.made.changes ≡ changes_in (is.earlier ++ is.played)
 whole_changes store is = omega (
@@ -234,7 +234,7 @@ counts_fit laws store is machine =
       );
     }
 
--- and there is room again
+-- there is room again
 pub room_for_more : (store : StoreState) → length store.events ≤ fold_from
     → IsMachine store.present → HasRoom store
 room_for_more store few machine = omega (arith, few, few_to_come store.present machine.few)

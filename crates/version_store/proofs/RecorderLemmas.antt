@@ -1,4 +1,4 @@
--- The state that a step led to is recorded, or needn't be. As many states are the same.
+-- The state that a step led to is recorded, or needn't be. Lists of equally many states are the same.
 use Rattle.std.proofs.Common.{◌≡◌, ℕ, ◌+◌, ◌<◌, ◌≤◌, Bool, true, false, List, [], ◌∷◌, ◌++◌, length, refl, sym, ap, ◌∙◌, subst, ⊎_elim, arith, Option, Some, option_map}
 use mathlib.Core.List.{IsPrefix}
 use Rattle.site_core.specs.declared.step.Step.{Step}
@@ -33,7 +33,7 @@ adds_request named states old stored reply new adds request was =
       made = adds.made;
     }) was
 
--- where the state is kept
+-- if the state is kept
 kept_at : (named : Bool) (states : List MachineState) (old : StoreState) (step : Step) (reply : Reply)
     (new : StoreState) → RepliesAlone old step reply new → IsAt named states old.present
     → IsAt named states new.present
@@ -103,7 +103,7 @@ next_count xs ys one other counts others longer next few =
     let there = others.exact (omega (arith, next, few)) in
     one_behind ys xs (longer (omega (arith, here, there, next))) (omega (arith, here, there, next))
 
--- where states are recorded, as the code has them
+-- if states are recorded, in the form that the code has
 pub kept_states : {A : Type 0} (entries : A → List MachineState) (found : Option A) (front : A)
     (view : List MachineState) (count : ℕ) → or_none (option_map entries found) ≡ view
     → found ≡ Some front → IsCountOf (or_none (option_map entries found)) count

@@ -1,4 +1,4 @@
--- What the steps that never fold leave to come, and what they hand out.
+-- The steps that never fold: the events to come after them, and the answers that they hand out.
 use Rattle.std.proofs.Common.{◌≡◌, ℕ, ◌+◌, ◌≤◌, Bool, true, false, cond, Option, Some, None, is_some, Result, Ok, Err, refl, ap, subst, arith}
 use Rattle.std.specs.Prelude.{IfSome}
 use Rattle.ocpp_scalars.specs.declared.refusal.Refusal.{Refusal}
@@ -124,7 +124,7 @@ room_finished old reply after going made = go old.is_stopped going (cc made)
         subst (λ (m : Made). still_to_come m.after + 1 ≤ still_to_come old) same
         (one_less_stopped old going)
 
--- whatever is replied to it, that is Finished
+-- the only reply to it is Finished
 pub finished_made : (old : MachineState) (reply : Reply) (after : MachineState)
     → ◌≡◌ {A = Result Made Refusal} (Ok (finishes old)) (Ok (made_with reply after))
     → ◌≡◌ {A = Result Made Refusal} (Ok (finishes old)) (Ok (made_with Finished after))

@@ -1,4 +1,4 @@
--- That the events that may still come, and never fold, have their room.
+-- The events to come that never fold have their room.
 use Rattle.std.proofs.Common.{◌≡◌, ℕ, ◌+◌, ◌*◌, ◌≤◌, ◌==◌, Bool, true, false, cond, List, [], ◌∷◌, Some, is_some, sym, ap, subst, length, arith}
 use Rattle.std.specs.List.{sum_by}
 use Rattle.std.proofs.lemmas.List.Sums.{sum_by-cons}

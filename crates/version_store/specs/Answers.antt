@@ -1,4 +1,4 @@
--- What a session gets for its request: the job to compile, and the answer.
+-- The results of a session's request: the job to compile, and the answer.
 use Rattle.std.specs.Prelude.{ℕ, ◌≡◌, Bool, false, Option, Some, None, is_none}
 use Rattle.meaning.specs.declared.ask.Ask.{Ask}
 use Rattle.point_book.specs.Book.{BookState}
@@ -8,20 +8,20 @@ use Rattle.site_core.specs.Right.{IsRight}
 use Rattle.site_core.specs.declared.reply.Reply.{Reply}
 use Rattle.site_core.specs.declared.reply.Reply.TheVariants.{Answered, NotYet}
 
--- the request of a number, for what is asked of a book
+-- the request of a number, with its book and its `Ask`
 pub record RequestedJob : Type 0 where
   pub number : ℕ
   pub book : BookState
   pub ask : Ask
 
--- and with its answer
+-- the same, with its answer
 pub record HandedAnswer : Type 0 where
   pub number : ℕ
   pub book : BookState
   pub ask : Ask
   pub answer : ScheduleAnswer
 
--- the reply to who collects: the answer, or that there is none yet
+-- the reply to a collect: the answer, or NotYet
 abbrev pub reply_of : Option HandedAnswer → Reply
 reply_of None = NotYet
 reply_of (Some handed) = Answered handed.book handed.ask handed.answer

@@ -1,5 +1,5 @@
--- What is counted: the changes that were made and the answers that were handed out, of all sessions
--- and of each.
+-- The counts of changes that were made and of answers that were handed out, of all sessions and of
+-- each.
 use Rattle.std.specs.Prelude.{ℕ, ◌+◌, max, List, sum_by}
 use Rattle.site_core.specs.declared.reply.Reply.{Reply}
 use Rattle.site_core.specs.Step.{counted}
@@ -8,14 +8,14 @@ use Rattle.version_store.specs.declared.totals.Totals.{Totals}
 abbrev pub no_totals : Totals
 no_totals = record { changes = 0; answers = 0 }
 
--- with what a reply counts
+-- the totals with the counts of one more reply
 abbrev pub totals_after : Totals → Reply → Totals
 totals_after old reply = record {
   changes = old.changes + (counted reply).changes;
   answers = old.answers + (counted reply).answers;
 }
 
--- what a session counts
+-- the counts of a session
 pub record PassState : Type 0 where
   -- the changes and answers of its own calls
   pub totals : Totals
@@ -32,7 +32,7 @@ pass_after old reply version = record {
   seen = max old.seen version;
 }
 
--- what sessions count together
+-- the sums over sessions
 abbrev pub totals_together : List PassState → Totals
 totals_together sessions = record {
   changes = sum_by (λ (pass : PassState). pass.totals.changes) sessions;

@@ -1,5 +1,5 @@
--- What is recorded of a book's states: the first one, and that after each change. Requests for
--- schedules are left out.
+-- The recorded states of a book: the first one, and that after each change, without requests for
+-- schedules.
 use Rattle.std.specs.Prelude.{ℕ, ◌≡◌, ◌<◌, ◌≤◌, Bool, true, false, List, [], ◌∷◌, ◌++◌, length, Option, Some, None, Ok}
 use Rattle.site_rules.specs.Site.{SiteState}
 use Rattle.site_core.specs.declared.step.Step.{Step}
@@ -28,18 +28,18 @@ pub record RequestLeads (old new : MachineState) : Type 0 where
   pub request : is_of_request stored.step ≡ true
   pub made : made_of old stored ≡ Ok (record { reply = reply; after = new })
 
--- ---- what is recorded
+-- ---- the recorded states
 
 -- the last of some states is this one
 abbrev pub EndsAt : List MachineState → MachineState → Type 0
 EndsAt states state = (before : List MachineState) × (states ≡ before ++ forget state ∷ [])
 
--- one of them is
+-- one of some states is this one
 abbrev pub HasState : List MachineState → MachineState → Type 0
 HasState states state =
     (before behind : List MachineState) × (states ≡ before ++ forget state ∷ behind)
 
--- where states are recorded, the last one is this
+-- if states are recorded, the last one is this
 abbrev pub IsAt : Bool → List MachineState → MachineState → Type 0
 IsAt is_recorded states state = is_recorded ≡ true → EndsAt states state
 
@@ -47,7 +47,7 @@ IsAt is_recorded states state = is_recorded ≡ true → EndsAt states state
 abbrev pub IsNextOf : List MachineState → List MachineState → Type 0
 IsNextOf states later = (state : MachineState) × (later ≡ states ++ state ∷ [])
 
--- before any change
+-- the recorded states before any change
 abbrev pub opening_states : SiteState → List MachineState
 opening_states site = forget (opening site) ∷ []
 
@@ -57,7 +57,7 @@ abbrev pub or_none : Option (List MachineState) → List MachineState
 or_none None = []
 or_none (Some states) = states
 
--- how many there are, as far as a number counts
+-- the number of states in 64 bits: exact below the largest
 abbrev pub last_count : ℕ
 last_count = 18446744073709551615
 

@@ -1,5 +1,5 @@
--- A stored history: a state that it begins with, the events since, and the present state, to which
--- they lead. Where it has grown long it is folded: it begins anew with the present state.
+-- A stored history: the state that it begins with, the events since, and the present state, to which
+-- they lead. A long history is folded: it begins again with the present state.
 use Rattle.std.specs.Prelude.{ℕ, ◌+◌, ◌≡◌, ◌≤◌, ◌⊎◌, nat_le, ◌&&◌, Bool, true, false, List, [], ◌∷◌, ◌++◌, length, Some, is_some, if◌then◌else◌}
 use Rattle.std.specs.List.{AllByRecursion, sum_by}
 use Rattle.site_rules.specs.Site.{SiteState}
@@ -35,9 +35,9 @@ opening_store site = record {
   made = no_totals;
 }
 
--- ---- one event more
+-- ---- one more event
 
--- the history goes on with an event, and the state is what it made
+-- the history with one more event, and the state and totals after it
 abbrev pub with_event : StoreState → StoredEvent → Made → StoreState
 with_event old event made = record old {
   events = old.events ++ event ∷ [];
@@ -45,7 +45,7 @@ with_event old event made = record old {
   made = totals_after old.made made.reply;
 }
 
--- the history begins anew with the present state
+-- the history that begins again with the present state
 abbrev pub folded : StoreState → StoreState
 folded old = record old { base = old.present; based = old.made; events = [] }
 
@@ -67,7 +67,7 @@ folds old step = may_fold step && nat_le fold_from (length old.events)
 abbrev pub folded_for : StoreState → Step → StoreState
 folded_for old step = if folds old step then folded old else old
 
--- ---- what is always so
+-- ---- the invariant
 
 -- each audit has the book that its point had when it was begun in these events, or it was begun
 -- before them
@@ -76,12 +76,12 @@ AuditsHaveBooks old events new =
     (place : ℕ) (audit : AuditState) → audit_at new place ≡ Some audit
     → IsBegunIn old events place audit ⊎ IsAuditBefore old place audit
 
--- The present state is the replay of the base and the stored events, and both are a machine's.
--- What is played is a legal history, and so is what led to the base from the opening state on.
--- Each kept request has the book that its Take, or the base, gave it, and each answer is right for
--- its book and its `Ask`. Once the central system is stopped, each has one. Each point's audit has
--- the book that the point had when it was begun, and each verdict is right. And the changes and
--- answers are those of these histories.
+-- The present state is the replay of the base and the stored events, and both are a machine's. The
+-- replayed history is legal, and so is the one from the opening state to the base. Each kept request
+-- has the book that its Take, or the base, gave it, and each answer is right for its book and its
+-- `Ask`. Once the central system is stopped, each has one. Each point's audit has the book that the
+-- point had when it was begun, and each verdict is right. The changes and answers are those of these
+-- histories.
 pub record IsStore (store : StoreState) : Type 0 where
   -- until the base
   pub site : SiteState
@@ -104,19 +104,19 @@ pub record IsStore (store : StoreState) : Type 0 where
   pub audited : AuditsHaveBooks store.base played store.present
   pub verdicts : AreAuditsRight store.present
 
--- A kept request is still to be compiled, unless it is, and answered.
+-- the events to come of a kept request: its Compile, unless it has an answer, and its Answer
 abbrev pub events_to_come : Kept → ℕ
 events_to_come kept = if is_some kept.answer then 1 else 2
 
--- and once it is stopped, the central system is stopped no more
+-- the Finish to come, unless the central system is stopped
 abbrev pub finish_to_come : Bool → ℕ
 finish_to_come is_stopped = if is_stopped then 0 else 1
 
--- how many events may still come that never fold
+-- the most events to come that never fold
 abbrev pub still_to_come : MachineState → ℕ
 still_to_come state =
     sum_by events_to_come state.requests + finish_to_come state.is_stopped
 
--- they have their room
+-- there is room for these events
 abbrev pub HasRoom : StoreState → Type 0
 HasRoom store = length store.events + still_to_come store.present ≤ room

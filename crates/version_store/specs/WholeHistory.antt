@@ -1,5 +1,5 @@
--- The laws of a store over its whole history: what was done until its base, and since. So they are
--- the laws of the machine from its opening state on, however often the history was folded.
+-- The laws of a store over its whole history: that until its base, and that since. So they are the
+-- laws of the machine from its opening state on, however often the history was folded.
 use Rattle.std.specs.Prelude.{ℕ, ◌+◌, ◌≤◌, ◌≡◌, List, ◌++◌, length, Some}
 use Rattle.meaning.specs.declared.ask.Ask.{Ask}
 use Rattle.site_rules.specs.Site.{place_of}
@@ -20,7 +20,7 @@ use Rattle.version_store.specs.Calls.{Adds, event_alone}
 abbrev pub whole_history : (store : StoreState) → IsStore store → List Event
 whole_history store is = is.earlier ++ is.played
 
--- what holds of each store, with its whole history
+-- a property of each store, with its whole history
 abbrev pub OfEachStore : ((store : StoreState) → IsStore store → List Event → Type 0) → Type 0
 OfEachStore holds =
     (store : StoreState) (is : IsStore store) → holds store is (whole_history store is)
@@ -41,7 +41,7 @@ StoresSendInOrder = OfEachStore (λ store is whole.
     (point : List ℕ) (place : ℕ) → place_of is.site point ≡ Some place
     → AreInSendingOrder (numbers_of_calls (calls_sent is.site place whole)))
 
--- how many calls of the point at a place were confirmed until the base
+-- the number of calls of the point at a place that were confirmed until the base
 abbrev pub confirmed_before : (store : StoreState) → IsStore store → ℕ → ℕ
 confirmed_before store is place = length (calls_confirmed (outbox_at (opening is.site) place)
     (traffic_since (opening is.site) place is.earlier))
@@ -61,16 +61,16 @@ StoresAnswerOnce = OfEachStore (λ store is whole.
     (number : ℕ) → (takes_of number whole ≤ 1)
     × (takes_of number whole ≡ answers_of number whole + kept_of number store.present.requests))
 
--- each answer that is handed out is the headline's: right for what the point of that one Take had
--- when the Take was made, and for its `Ask`
+-- each answer that is handed out is right, as in the headline: for the book that the point had at its
+-- one Take, and for the `Ask`
 abbrev pub StoresHandOutRight : Type 0
 StoresHandOutRight = OfEachStore (λ store is whole.
     (number : ℕ) (book : BookState) (ask : Ask) (answer : ScheduleAnswer) (new : StoreState)
     → Adds store (event_alone (Answer number)) (Answered book ask answer) new
     → IsRightAfter (opening is.site) whole number book ask answer)
 
--- each audit was begun in the history, with the book that its point had then, and its verdict is one
--- for that book and something that the point said
+-- each audit was begun in the history, with the book that its point had then, and its verdict is
+-- Unsettled, or one on that book and something that the point may have replied
 abbrev pub StoresAuditRight : Type 0
 StoresAuditRight = OfEachStore (λ store is whole.
     (place : ℕ) (audit : AuditState) → audit_at store.present place ≡ Some audit

@@ -136,8 +136,8 @@ impl<C: Ledger, A: Ledger, N: ListName> Book<C, A, N> {
         Ok((book, passes))
     }
 
-    /// Ends the book with the passes of all its sessions. Returns the numbers of changes made and of
-    /// answers handed out, which are the sums of those passes.
+    /// Ends the book with the passes of all its sessions. Returns the numbers of changes made and
+    /// of answers handed out, which are the sums of those passes.
     pub fn settle(self, passes: Vec<Pass<C, A>>) -> Totals
         requires changes { C.parts ≤ length passes.items }
         requires answers { A.parts ≤ length passes.items }
@@ -158,8 +158,8 @@ impl<C: Ledger, A: Ledger, N: ListName> Book<C, A, N> {
         self.recorder.recorded()
     }
 
-    /// Makes a step of a session. Its other calls each make such a step. On a refusal the step comes
-    /// back.
+    /// Makes a step of a session. Methods such as `install` each make such a step. On a refusal the
+    /// step comes back.
     pub fn make_step(&mut self, pass: &mut Pass<C, A>, step: Step) -> Result<Reply, Refused>
         requires { may_fold step ≡ true }
         ensures calls { IfOk result
@@ -177,9 +177,9 @@ impl<C: Ledger, A: Ledger, N: ListName> Book<C, A, N> {
         Ok(reply)
     }
 
-    /// Returns the number of stored events. Also shows the invariant of a book. Its present state is
-    /// the replay of its base and of these events, and the history is legal. Each kept request has
-    /// the book that its Take, or the base, gave it. Each answer is right for that book and the
+    /// Returns the number of stored events. Also shows the invariant of a book. Its present state
+    /// is the replay of its base and of these events, and the history is legal. Each kept request
+    /// has the book that its Take, or the base, gave it. Each answer is right for that book and the
     /// `Ask`. Each point's audit has the book that the point had when it was begun, and its verdict
     /// is Unsettled, or one on that book and something that the point may have replied.
     pub fn stored(&self) -> usize
@@ -221,8 +221,8 @@ impl<C: Ledger, A: Ledger, N: ListName> Book<C, A, N> {
         self.history.take_folded()
     }
 
-    /// Gives back the memory of events that `Folded::into_room` left, so that the next fold needs no
-    /// other.
+    /// Gives back the memory of events that `Folded::into_room` left, so that the next fold needs
+    /// no other.
     pub fn give_room(&mut self, room: EventRoom)
         ensures { self.new ≡ self.old }
     {

@@ -137,8 +137,8 @@ impl History {
         self.spare = Some(room);
     }
 
-    /// Makes a step that brings no answer, and adds it if it is an event. On a refusal the step comes
-    /// back.
+    /// Makes a step that brings no answer, and adds it if it is an event. On a refusal the step
+    /// comes back.
     pub fn make(&mut self, step: Step) -> Result<Reply, Refused>
         requires { may_fold step ≡ true }
         ensures makes { IfOk result (λ reply. Makes self.old step reply self.new) }
@@ -165,7 +165,7 @@ impl History {
     }
 
     /// Gathers the calls to each point, so that the new base shares them.
-    // Otherwise each fold would copy all waiting calls under the lock.
+    // Calls that were gathered once are shared, so that later folds don't copy them again.
     fn gather_calls(&mut self)
         ensures { self.new ≡ self.old }
     {
@@ -193,6 +193,7 @@ impl History {
         if !reply.is_event(was_stopped) {
             return Ok(reply);
         }
+        // Called here and below only for its clause: the state is a machine's.
         self.present.open_requests();
         self.made = self.made.after(&reply);
         self.events.push_reserved(StoredEvent::alone(step));
@@ -228,8 +229,8 @@ impl History {
         ensures back { IfErr result (λ refused. refused.step ≡ step) }
     {
         machine_laws();
-        // The base is the state before the step, which then is the first event after the fold. All
-        // memory comes first, so that a refusal leaves the old history.
+        // The base is the state before the step, which is the first event after the fold. The
+        // fold's memory comes first, since a step that was made can't be taken back.
         let Ok(base) = self.present.copy() else {
             return Err(without_memory(step));
         };

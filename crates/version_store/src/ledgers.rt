@@ -59,14 +59,13 @@ impl<C: Ledger, A: Ledger> Ledgers<C, A> {
         ensures counts { pass.new ≡ pass_after pass.old reply.now version }
     {
         let counted = Totals::of(reply);
-        // The audits do nothing at run time: they show the prover that a pass counts no more than
-        // the total, so that adding can't overflow.
+        // The audits change nothing: they show that a pass counts at most the total, so that its
+        // counts can't overflow.
         self.changed.audit(&mut pass.changed);
         self.answered.audit(&mut pass.answered);
         self.changed.add(&mut pass.changed, counted.changes);
         self.answered.add(&mut pass.answered, counted.answers);
         pass.totals = pass.totals.after(reply);
-        // A maximum, since a pass used at an older store must keep the newer version it has seen.
         pass.seen = pass.seen.max(version);
     }
 

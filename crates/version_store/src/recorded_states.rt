@@ -42,7 +42,7 @@ impl EntryFrom<Site, Machine> for Opened {
 #[derive(Drop)]
 pub(crate) struct StateRecorder<N: ListName> {
     states: Option<GhostList<Machine, N>>,
-    // States take no memory, so two lists can only be compared by their lengths.
+    // Entries take no memory, so at run time two lists can only be compared by their lengths.
     count: u64,
 }
 
@@ -110,7 +110,7 @@ impl<N: ListName> StateRecorder<N> {
     {
         if let Some(states) = &mut self.states {
             states.add_from::<Machine, Forgotten>(present);
-            // Saturates: at the largest number no comparison holds any more, instead of a false one.
+            // Saturates: at the largest count every comparison is false, and none is wrong.
             self.count = self.count.saturating_add(1);
         }
     }
@@ -156,7 +156,8 @@ impl<N: ListName> RecordedStates<N> {
         }
     }
 
-    /// Whether states are recorded, and these begin with the other ones.
+    /// Whether states are recorded, and these begin with the other ones. False at the largest
+    /// count.
     pub fn is_at_least(&self, other: &RecordedStates<N>) -> bool
         ensures { result ≡ true → IsPrefix other.now self.now }
     {
@@ -167,8 +168,8 @@ impl<N: ListName> RecordedStates<N> {
         other.count <= self.count && self.count < u64::MAX
     }
 
-    /// Whether states are recorded, and these are the other ones and one more.
-    // False at the largest count, which saturates and so may stand for more states.
+    /// Whether states are recorded, and these are the other ones and one more. False at the largest
+    /// count.
     pub fn is_next_of(&self, other: &RecordedStates<N>) -> bool
         ensures next { result ≡ true → IsNextOf other.now self.now }
         ensures recorded { result ≡ true → N.is_recorded ≡ true }

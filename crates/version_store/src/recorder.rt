@@ -31,7 +31,6 @@ pub(crate) fn make_recorded<N: ListName>(
     ensures back { IfErr result (λ refused. refused.step ≡ step) }
 {
     let was_stopped = history.present().is_stopped();
-    // Read before the step is consumed.
     let is_request = is_of_request(&step);
     let reply = history.make(step)?;
     // Requests aren't restored from a journal, so its entries needn't account for them.

@@ -95,7 +95,7 @@ impl<C: Ledger, A: Ledger, N: ListName> Shared<C, A, N> {
         Ok((shared, passes))
     }
 
-    /// Makes a book with this many passes shareable by threads.
+    /// Makes a book with this many passes, for threads to share.
     fn of_book(
         alloc: Global,
         book: Book<C, A, N>,
@@ -146,12 +146,13 @@ impl<C: Ledger, A: Ledger, N: ListName> Shared<C, A, N> {
         ensures { IsStore (mutex_guard_value result) }
     {
         let book = self.lock_unfolded(rt);
+        // Only for its clause, which is the book's invariant.
         book.stored();
         book
     }
 
-    /// Locks the book. Drops the remains of a fold while it is unlocked, so that no thread waits for
-    /// that.
+    /// Locks the book. Drops the remains of a fold while it is unlocked, so that no thread waits
+    /// for that.
     fn lock_unfolded<R: Wait>(&self, rt: &R) -> MutexGuard<'_, Book<C, A, N>> {
         let mut book = self.book.lock(rt);
         let Some(folded) = book.take_folded() else {
@@ -171,8 +172,8 @@ impl<C: Ledger, A: Ledger, N: ListName> Shared<C, A, N> {
         }
     }
 
-    /// Wakes the threads that wait for the answer to the request of a number. A thread calls it after
-    /// it has posted the answer.
+    /// Wakes the threads that wait for the answer to the request of a number. A thread calls it
+    /// after it has posted the answer.
     pub fn wake_for(&self, number: u64) {
         self.place_of(number).notify_all();
     }

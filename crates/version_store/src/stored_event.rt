@@ -8,7 +8,8 @@ use ocpp_scalars::Refusal;
 use site_core::Step;
 use std::marker::Model;
 
-/// An event of a stored history: a step that was made, and for a Compile the answer that it brought.
+/// An event of a stored history: a step that was made, and for a Compile the answer that it
+/// brought.
 #[derive(Drop)]
 pub struct StoredEvent {
     step: Step,

@@ -12,9 +12,9 @@ use site_core::{
 /// The laws of a book over its whole history: that until its base, and that since. It is the
 /// history from the opening of its site on, however often it was folded. It is legal, and the
 /// totals are those of its changes and its answers. The calls that were sent to a point are in
-/// sending order. No request is lost, and none is answered twice. Each collected answer is right, as
-/// in the headline. Each audit of a point is compared with the book that the point had when it was
-/// begun. Its verdict is Unsettled, or one on that book and something that the point may have
+/// sending order. No request is lost, and none is answered twice. Each collected answer is right,
+/// as in the headline. Each audit of a point is compared with the book that the point had when it
+/// was begun. Its verdict is Unsettled, or one on that book and something that the point may have
 /// replied.
 pub fn books_have_whole_histories()
     ensures reached { StoresAreReached }

@@ -1,4 +1,5 @@
--- What a line says, word by word. The law `lines_read_back` says that this is what was written.
+-- The contents of a line, word by word. By the law `lines_read_back` they are those that were
+-- written.
 use Rattle.std.specs.Prelude.{ℕ, ◌==◌, ◌&&◌, Bool, nat_lt, if◌then◌else◌, List, map, length, codes, Option, Some, None, Result, Ok, Err}
 use Rattle.std.specs.List.{position_or_len, before_first, after_first}
 use Rattle.std.specs.Str.{bytes_eq, is_utf8}
@@ -18,7 +19,7 @@ use Rattle.journal.specs.Line.{NotedState, LineState, message, reply, verdict, a
 
 -- ---- messages
 
--- of a text without line feeds
+-- the same for a text without line feeds
 abbrev pub without_returns : List ℕ → List ℕ
 without_returns text = map (λ byte. if byte == carriage_return then tab else byte) text
 
@@ -27,7 +28,7 @@ without_returns text = map (λ byte. if byte == carriage_return then tab else by
 abbrev pub is_space : ℕ → Bool
 is_space b = b == space
 
--- the word that a text begins with, of at least one byte, and what follows the one space after it
+-- the first word of a text, of at least one byte, and the text after the one space behind it
 abbrev pub word_at : List ℕ → Result (List ℕ × List ℕ) LineFault
 word_at text =
     if nat_lt 0 (position_or_len is_space text)
@@ -55,14 +56,14 @@ abbrev pub number_or_fault : List ℕ → Result ℕ LineFault
 number_or_fault word =
     if bytes_eq word (codes "0") then Ok 0 else some_or_fault Number (number_of word)
 
--- a number, and what follows the space behind it
+-- a number, and the text after the space behind it
 abbrev pub number_at : List ℕ → Result (ℕ × List ℕ) LineFault
 number_at text = do
   word ← word_at text
   number ← number_or_fault word.0
   Ok (number, word.1)
 
--- ---- what is noted
+-- ---- the noted event
 
 -- a message from this side
 abbrev pub message_in : Side → List ℕ → Result NotedState LineFault
@@ -70,7 +71,7 @@ message_in sender text = do
   number ← number_at text
   Ok (message sender number.0 number.1)
 
--- of a line with this second word, by what stands behind its point
+-- the event of a line with this second word, from the text after its point
 abbrev pub noted_in : LineWord → List ℕ → Result NotedState LineFault
 noted_in Operator text = message_in sides.Operator text
 noted_in Point text = message_in sides.Point text
@@ -93,7 +94,7 @@ noted_in Lost text = do
 
 -- ---- the line
 
--- the first word, the second, the third, and what stands behind that
+-- the first three words, and the text after them
 pub record LineWords : Type 0 where
   pub instant : List ℕ
   pub word : LineWord
@@ -131,6 +132,6 @@ line_of text = do
   words ← words_of text
   line_of_words words
 
--- a line that may be no text
+-- a line from bytes that may not be UTF-8
 abbrev pub line_in : List ℕ → Result LineState LineFault
 line_in bytes = if is_utf8 bytes then line_of bytes else Err NotUtf8

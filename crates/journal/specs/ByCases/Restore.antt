@@ -1,4 +1,4 @@
--- What comes of a part of a restore. Of private clauses.
+-- For private clauses: the result of a part of a restore.
 use Rattle.std.specs.Prelude.{ℕ, ◌≡◌, false, List, Option, Some, None, Result, Ok, OnOk, IfErr}
 use Rattle.ocpp_scalars.specs.ResultSteps.{◌>>=◌}
 use Rattle.meaning.specs.declared.said.Said.{Said}
@@ -10,27 +10,27 @@ use Rattle.journal.specs.ByCases.Line.{line_in}
 use Rattle.journal.specs.Line.{LineState}
 use Rattle.journal.specs.Restore.{IsFaultOf, change_asked, confirm_asked, judge_asked, is_made, made_with, restored}
 
--- The new state is the one that is wanted, or a fault is named; then only another number has changed
--- the old one.
+-- The new state is the wanted one, or a fault is named. With a fault, only another number has
+-- changed the old state.
 pub record Leads {A : Type 0} (wanted : Result MachineState RestoreFault)
     (old : MachineState) (result : Result A RestoreFault) (new : MachineState) : Type 0 where
   pub done : OnOk result (wanted ≡ Ok new)
   pub fault : IfErr result (IsFaultOf wanted)
   pub kept : IfErr result (λ fault. is_made fault ≡ false → new ≡ old)
 
--- the state after the change that a message asks for, with the number that is written
+-- the state after the change that a message requests, with the written number
 abbrev pub changed : MachineState → ℕ → Asked → Result MachineState RestoreFault
 changed state number asked = do
   step ← change_asked asked
   made_with state (Some number) step
 
--- after a reply that confirms a call over this link
+-- the state after a reply that confirms a call over this link
 abbrev pub confirmed : MachineState → ℕ → Asked → Result MachineState RestoreFault
 confirmed state link asked = do
   step ← confirm_asked link asked
   made_with state None step
 
--- and after the verdict on what a point said
+-- the state after the verdict on a point's reply
 abbrev pub judged : MachineState → List ℕ → ℕ → Said → Option AuditRequest
     → Result MachineState RestoreFault
 judged state point call said job = do

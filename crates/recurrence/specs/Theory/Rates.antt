@@ -1,5 +1,5 @@
 -- Lemmas that crates above cite: nothing here has to be believed.
--- The rate of a profile is constant from second to second where there is no place.
+-- The rate of a profile is constant from second to second except at places.
 use Rattle.std.proofs.Common.{◌≡◌, ℕ, zero, suc, ◌+◌, ◌-◌, ◌%◌, ◌<◌, ◌≤◌, ◌==◌, nat_le, nat_lt, Bool, true, false, ◌||◌, List, [], ◌∷◌, filter, Option, Some, None, option_map, option_and_then, ⊎_elim, refl, sym, ap, ◌∙◌, mod-lt, mod-eq_of_lt, arith}
 use Rattle.std.specs.List.{list_any}
 use Rattle.std.proofs.Math.Nat.{suc-mod, mod_self}

@@ -81,9 +81,9 @@ impl<'a> Playing<'a> {
         Ok(Some(played))
     }
 
-    /// Plays the next line, if one is left, without schedules: its output has none. If a request
-    /// surely isn't refused, its schedule isn't compiled. If memory runs out, the script can't go
-    /// on.
+    /// Plays the next line, if one is left, without schedules: its output has none. Compiles only
+    /// the first second of a request if its schedule surely isn't too long and no other request is
+    /// held. If memory runs out, the script can't go on.
     pub fn skim_next(&mut self) -> Result<Option<PlayedLine<'a>>, AllocError>
         ensures { IfOk result (λ line. IsNext self.old line self.new) }
     {

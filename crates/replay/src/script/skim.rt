@@ -17,9 +17,9 @@ use site_core::Step;
 use std::alloc::AllocError;
 use texts::{Asked, SentText};
 
-/// Plays the line of this number without schedules: its output has none. If all that is wanted of a
-/// request is known without its schedule, that isn't compiled. After an error the script can't go
-/// on.
+/// Plays the line of this number without schedules: its output has none. Compiles only the first
+/// second of a request if no more is wanted and no other request is held. After an error the script
+/// can't go on.
 pub fn skim_line<'a>(
     player: &mut Player,
     number: u64,

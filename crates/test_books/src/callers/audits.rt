@@ -1,4 +1,4 @@
-//! A caller of `sweep_compiler` that judges what a point says.
+//! A caller of `sweep_compiler` that judges a point's reply.
 
 use crate::{instant_at, row_of};
 use meaning::{CompositePeriod, Said, SaidPeriods};
@@ -8,7 +8,7 @@ use std::sync::Arc;
 use std::test::Fail;
 use sweep_compiler::{AuditJob, Judged, Verdict};
 
-/// A point that says 16 A for ten seconds, where its book means 16 A for an hour, agrees.
+/// A point that reports 16 A for ten seconds agrees with its book, which has 16 A for an hour.
 #[test]
 fn an_audit_is_judged(rt: HostRuntime) -> Result<(), Fail> {
     let mut ceilings = Vec::new(rt.alloc());

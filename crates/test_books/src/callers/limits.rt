@@ -4,7 +4,7 @@ use crate::{instant_at, row_of};
 use meaning::{Ask, View, compile_plain, limit_at};
 use std::test::Fail;
 
-/// What a point's profiles mean: at one instant, and for an hour, found second by second.
+/// The limits of a point's profiles: at one instant, and for an hour, found second by second.
 #[test]
 fn a_point_has_limits(rt: HostRuntime) -> Result<(), Fail> {
     let mut rows = Vec::new(rt.alloc());
@@ -17,7 +17,7 @@ fn a_point_has_limits(rt: HostRuntime) -> Result<(), Fail> {
     };
     let ask = Ask::try_new(1, instant_at(0)?, 3_600)?;
     assert_eq!(rt; limit_at(&view, 1, ask.start, instant_at(1_800)?), 60);
-    // No transaction is active, so nothing may flow at the point.
+    // No transaction is active, so the whole point has a limit of 0.
     assert_eq!(rt; limit_at(&view, 0, ask.start, ask.start), 0);
     let schedule = compile_plain(rt.alloc(), &view, &ask)?;
     assert_eq!(rt; schedule.periods().len(), 2);

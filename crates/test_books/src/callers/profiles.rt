@@ -6,7 +6,7 @@ use profile::{
 };
 use std::test::Fail;
 
-/// 16 A for an hour and 8 A for another, from the base on that the profile is looked at with.
+/// A profile of 16 A for an hour and 8 A for another, from its base on.
 #[test]
 fn a_profile_has_a_limit(rt: HostRuntime) -> Result<(), Fail> {
     let mut periods = Vec::new(rt.alloc());

@@ -7,8 +7,7 @@ use test_books::{instant_at, row_of};
 
 const SITE: &str = r#"{"unit":"A","points":[{"id":"CP1","ceiling":63.0,"connectors":[32.0]}]}"#;
 
-/// A profile is installed, and a schedule asked for, compiled and handed out. Two calls wait for
-/// the point.
+/// Installs a profile, and requests, compiles and returns a schedule. Two calls wait for the point.
 #[test]
 fn a_machine_is_run(rt: HostRuntime) -> Result<(), Fail> {
     let point = || PointId::copied(rt.alloc(), "CP1");

@@ -1,4 +1,4 @@
--- The laws of the machine that the stored history stands on, together. Of private clauses.
+-- The laws of the machine that the proofs of the stored history use. Only private clauses cite them.
 use Rattle.std.specs.Prelude.{◌≡◌, false}
 use Rattle.site_core.specs.declared.step.Step.{Step}
 use Rattle.site_core.specs.declared.reply.Reply.{Reply}
@@ -19,7 +19,7 @@ pub record Laws : Type 0 where
   pub answered : StoppedRequestsStayAnswered
   pub audits : AuditsHaveTheirBooks
   pub verdicts : VerdictsStayRight
-  -- of what is no event
+  -- answers without an event change nothing
   pub changes : (old new : MachineState) (step : Step) (reply : Reply)
       → Steps old step reply new → is_event old reply ≡ false → new ≡ old
   pub own : RepliesAreTheirSteps

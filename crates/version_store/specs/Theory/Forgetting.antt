@@ -1,4 +1,5 @@
--- Steps about requests for schedules lead to the same state, but for requests: for crates above.
+-- Lemmas that crates above cite: steps about requests for schedules lead to the same state, except
+-- for requests.
 use Rattle.std.proofs.Common.{◌≡◌, ℕ, Bool, true, false, cond, [], Option, Some, None, is_some, Result, Ok, Err, refl, sym, ap, ◌∙◌}
 use Rattle.ocpp_scalars.specs.ResultSteps.{◌>>=◌}
 use Rattle.ocpp_scalars.specs.declared.refusal.Refusal.{Refusal}
@@ -15,7 +16,7 @@ use Rattle.site_core.specs.Step.{Made, PointStep, at_point, AtPoint, work, place
 use Rattle.site_core.specs.Theory.Steps.{StepKind, kind_of, names_point, takes_one, compiles_one, answers_one, finishes_all}
 use Rattle.version_store.specs.Recording.{RequestLeads, forget, is_of_request}
 
--- ---- what led to a result, step by step
+-- ---- results, step by step
 
 pub record Led {A B E : Type 0} (first : Result A E) (next : A → Result B E) (b : B) : Type 0 where
   pub a : A
@@ -37,7 +38,7 @@ made_with reply after = record { reply = reply; after = after }
 abbrev ok : Made → Result Made Refusal
 ok made = Ok made
 
--- how a step comes to its point: by its name
+-- a step that comes to its point by the point's name
 abbrev by_name : PointStep
 by_name = at_point [] (λ site numbers point. Err UnknownConnector)
 

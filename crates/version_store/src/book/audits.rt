@@ -81,8 +81,8 @@ impl<C: Ledger, A: Ledger, N: ListName> Book<C, A, N> {
         }
     }
 
-    /// Returns the version of the store, the number of unconfirmed calls of a point, and the outcome
-    /// of its audit. Changes nothing.
+    /// Returns the version of the store, the number of unconfirmed calls of a point, and the
+    /// outcome of its audit. Changes nothing.
     pub fn status(&mut self, pass: &mut Pass<C, A>, point: PointId) -> Result<PointStatus, Refusal>
         ensures calls { IfOk result (λ status. Calls self.old pass.old (steps.Status point)
             (Reply.Status status) self.new pass.new) }

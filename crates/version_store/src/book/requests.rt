@@ -61,8 +61,8 @@ impl<C: Ledger, A: Ledger, N: ListName> Book<C, A, N> {
         }
     }
 
-    /// Answers the request of a number by a compiled answer for its book and `Ask`. On a refusal the
-    /// answer comes back. Takes no memory.
+    /// Answers the request of a number by a compiled answer for its book and `Ask`. On a refusal
+    /// the answer comes back. Takes no memory.
     pub fn post(&mut self, number: u64, compiled: Compiled) -> Result<(), (Refusal, Compiled)>
         ensures posts { IfOk result (λ _. PostsTo self.old number compiled self.new) }
         ensures refusal { IfErr result (λ refused. IsRefusedPost

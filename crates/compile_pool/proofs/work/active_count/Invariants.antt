@@ -1,4 +1,4 @@
--- How many of the starts so far there are.
+-- The count so far is that of the starts read so far.
 use Rattle.std.proofs.Common.{◌≡◌, ◌≤◌, take}
 use Rattle.compile_pool.specs.Work.{active_count}
 use Rattle.compile_pool.proofs.work.active_count.Given as goal

@@ -1,4 +1,4 @@
--- That the product fits, and that work which is too much for the rest is too much in all.
+-- The product fits in 64 bits, and work that exceeds the rest exceeds the most in all.
 use Rattle.std.proofs.Common.{rules, arith}
 use Rattle.std.proofs.lemmas.Nat.{mul-le}
 use Rattle.std.proofs.lemmas.List.Sums.{sum_by_more_le}

@@ -1,4 +1,4 @@
--- The digits of a digest are read as it, and written again.
+-- The digits of a digest are read, and written again.
 use Rattle.std.proofs.Common.{◌≡◌, List, ℕ, sym, ap, ◌∙◌}
 use Rattle.std.proofs.lemmas.Slice.Eq.{bytes_eq-Decides}
 use Rattle.hex.specs.Hex.{encode_lower, decode_sized}

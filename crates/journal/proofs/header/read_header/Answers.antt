@@ -1,4 +1,4 @@
--- What begins otherwise is no first line.
+-- A text that begins otherwise isn't a first line.
 use Rattle.hex.specs.Hex.{encode_lower}
 use Rattle.journal.specs.Header.{header_words}
 use Rattle.journal.proofs.header.read_header.Goals as goal

@@ -1,4 +1,4 @@
--- The message is cut at each line feed.
+-- The message is split at each line feed.
 use Rattle.std.proofs.Common.{ℕ, List, ◌++◌, Some, None, string_bytes, ap, ◌∙◌, lit<, rules}
 use Rattle.std.proofs.lemmas.Str.Pattern.{split_parts}
 use Rattle.journal.specs.Line.{on_one_line}

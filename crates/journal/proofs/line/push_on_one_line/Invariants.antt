@@ -1,4 +1,4 @@
--- What was appended and what is left of the message make the whole.
+-- The appended text and the rest of the message make the whole.
 use Rattle.std.proofs.Common.{ℕ, ◌≡◌, ◌++◌, List, length, string_bytes}
 use denote.Text.{Utf8}
 use denote.Shadow.{shadow}

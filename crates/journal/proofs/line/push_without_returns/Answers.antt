@@ -1,4 +1,4 @@
--- The text is cut at each carriage return.
+-- The text is split at each carriage return.
 use Rattle.std.proofs.Common.{ℕ, List, ◌++◌, Some, None, string_bytes, ap, ◌∙◌, lit<, rules}
 use Rattle.std.proofs.lemmas.Str.Pattern.{split_parts}
 use Rattle.journal.specs.ByCases.Line.{without_returns}

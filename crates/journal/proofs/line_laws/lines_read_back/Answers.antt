@@ -1,4 +1,4 @@
--- What is written is read back.
+-- A written line is read back.
 use Rattle.std.proofs.Common.{Ok, ap, ◌∙◌}
 use Rattle.journal.proofs.LineCodec.{line_read, line_feeds}
 use Rattle.journal.proofs.line_laws.lines_read_back.Goals as goal

@@ -1,4 +1,4 @@
--- Behind the end that was found so far is no line feed.
+-- There is no line feed after the end that was found so far.
 use Rattle.std.proofs.Common.{◌≤◌, drop, length}
 use Rattle.journal.specs.Line.{HasNoLineFeed}
 use Rattle.journal.proofs.lines.whole_length.Given as goal

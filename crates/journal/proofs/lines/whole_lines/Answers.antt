@@ -1,4 +1,4 @@
--- The text is cut behind its last line feed.
+-- The text is split after its last line feed.
 use Rattle.journal.proofs.LineEnds.{cut_text}
 use Rattle.journal.proofs.lines.whole_lines.Goals as goal
 

@@ -1,4 +1,4 @@
--- The line says what the step does.
+-- The line notes the step.
 use Rattle.std.proofs.Common.{List, ℕ, ◌++◌, string_bytes, ap, ◌∙◌}
 use Rattle.site_core.specs.declared.step.Step.TheVariants as steps
 use Rattle.site_core.specs.declared.reply.Reply.TheVariants.{LinkLost}

@@ -1,4 +1,4 @@
--- Place after place has no link.
+-- One place after another has no link.
 use Rattle.std.proofs.Common.{◌≡◌, length, string_bytes, sym, ap, ◌∙◌, arith}
 use Rattle.site_rules.specs.Site.{SiteState}
 use Rattle.site_core.specs.State.{MachineState}

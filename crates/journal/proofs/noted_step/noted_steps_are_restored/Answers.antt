@@ -1,4 +1,4 @@
--- Each line leads where its step led.
+-- Each line leads to the state of its step.
 use Rattle.journal.proofs.NotedLemmas.{changes, confirms, verdicts, links, sends, losses}
 use Rattle.journal.proofs.noted_step.noted_steps_are_restored.Goals as goal
 

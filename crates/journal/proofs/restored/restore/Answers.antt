@@ -1,4 +1,4 @@
--- Line after line is restored, up to the first that can't be.
+-- One line after another is restored, up to the first that can't be.
 use Rattle.std.proofs.Common.{refl, arith}
 use Rattle.journal.proofs.RestoreLemmas.{keeps_same}
 use Rattle.journal.proofs.JournalLemmas.{none_read, more_read, stopped_at, shorter, keeps_on}

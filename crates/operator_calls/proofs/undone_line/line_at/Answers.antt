@@ -1,4 +1,4 @@
--- The line behind so many others, if there is one.
+-- The line after this number of others, if there is one.
 use Rattle.std.proofs.Common.{◌∙◌, sym, length}
 use Rattle.std.proofs.lemmas.Bool.{eqb-true}
 use Rattle.std.proofs.lemmas.List.{nil_from_length}

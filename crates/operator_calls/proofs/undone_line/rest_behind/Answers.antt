@@ -1,4 +1,4 @@
--- Each line that is passed over moves the rest on by one.
+-- Each passed line moves the rest by one line.
 use Rattle.std.proofs.Common.{◌∙◌, sym, length, arith}
 use Rattle.std.proofs.lemmas.Bool.{eqb-true}
 use Rattle.std.proofs.lemmas.List.{nil_from_length}

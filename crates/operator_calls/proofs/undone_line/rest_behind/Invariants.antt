@@ -1,4 +1,4 @@
--- What is left are the lines behind those so far.
+-- The rest has the lines after those passed so far.
 use Rattle.std.proofs.Common.{◌≡◌, ◌+◌, ℕ}
 use Rattle.operator_calls.specs.UndoneLine.{line_behind}
 use Rattle.operator_calls.proofs.undone_line.rest_behind.Given as goal

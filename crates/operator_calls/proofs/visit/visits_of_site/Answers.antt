@@ -1,4 +1,4 @@
--- Each point of the site is visited in its turn.
+-- Each point of the site has a visit, in order.
 use Rattle.std.proofs.Common.{◌≡◌, ◌∙◌, true, sym, ap, map, option_map, arith}
 use Rattle.std.proofs.lemmas.Option.{slice_get-map}
 use Rattle.site_rules.specs.Site.{PointEntry, point_entry}

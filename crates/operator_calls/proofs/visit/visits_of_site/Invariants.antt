@@ -1,4 +1,4 @@
--- The points so far are visited.
+-- Each point so far has a visit.
 use Rattle.std.proofs.Common.{◌≡◌, map, take}
 use Rattle.site_rules.specs.Site.{SiteState}
 use Rattle.operator_calls.specs.Visits.{visited, all_points}

@@ -1,4 +1,4 @@
--- What was recorded is at the state that the step led to.
+-- The last recorded state is the one that the step led to.
 use Rattle.std.proofs.Common.{◌≡◌, List, sym, subst, ◌∙◌}
 use Rattle.site_core.specs.State.{MachineState}
 use Rattle.version_store.specs.Recording.{IsAt}

@@ -1,4 +1,4 @@
--- So many places as turns.
+-- There are as many places as turns so far.
 use Rattle.std.proofs.Common.{◌≡◌, length}
 use Rattle.version_store.proofs.shared.new_places.Given as goal
 

@@ -1,4 +1,4 @@
--- The entry is of the line whose number isn't known.
+-- The entry is that of the line, whose number isn't known yet.
 use Rattle.std.proofs.Common.{ℕ, List, ◌++◌, is_some, ap, ◌∙◌}
 use Rattle.journal.specs.Line.{LineState}
 use Rattle.journal.specs.Entry.{before_number, behind_number, draws_number}

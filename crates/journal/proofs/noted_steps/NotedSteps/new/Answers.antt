@@ -1,4 +1,4 @@
--- None are noted.
+-- No step is noted.
 use Rattle.journal.proofs.AccountLemmas.{none_noted}
 use Rattle.journal.proofs.noted_steps.NotedSteps.new.Goals as goal
 

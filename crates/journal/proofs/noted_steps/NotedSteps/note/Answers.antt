@@ -1,4 +1,4 @@
--- The step goes on from the last one.
+-- The step continues from the last one.
 use Rattle.std.proofs.Common.{rules}
 use Rattle.journal.proofs.AccountLemmas.{step_noted}
 use Rattle.journal.proofs.noted_steps.NotedSteps.note.Goals as goal

@@ -1,4 +1,4 @@
--- The lines of the entries so far stand behind the text.
+-- The text is followed by the lines of the entries so far.
 use Rattle.std.proofs.Common.{◌≡◌, ◌++◌, string_bytes, take}
 use Rattle.journal.specs.Account.{texts_of}
 use Rattle.journal.proofs.noted_steps.NotedSteps.push_lines.Given as goal

@@ -1,4 +1,4 @@
--- None are left.
+-- No step is left.
 use Rattle.journal.proofs.AccountLemmas.{none_noted}
 use Rattle.journal.proofs.noted_steps.NotedSteps.take.Goals as goal
 

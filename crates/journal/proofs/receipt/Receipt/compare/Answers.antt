@@ -1,4 +1,4 @@
--- It knows a beginning of the file's syncs.
+-- The receipt knows a beginning of the file's syncs.
 use Rattle.std.proofs.Common.{ap}
 use Rattle.std.specs.Prelude.{option_map}
 use Rattle.journal.proofs.SyncLemmas.{known_among}

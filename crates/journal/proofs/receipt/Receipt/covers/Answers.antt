@@ -1,4 +1,4 @@
--- What it shows is what was recorded when it was given.
+-- The receipt shows the states that were recorded when it was given.
 use Rattle.std.specs.Prelude.{option_map}
 use Rattle.journal.proofs.SyncLemmas.{covers}
 use Rattle.journal.proofs.receipt.Receipt.covers.Goals as goal

@@ -1,4 +1,4 @@
--- The lines of what was taken stand behind those that were there.
+-- The lines of the taken steps follow those that were there.
 use Rattle.std.proofs.Common.{◌++◌, ap, ◌∙◌}
 use Rattle.append_log.specs.Log.{contents, history}
 use Rattle.journal.specs.Account.{NotedState, texts_of}

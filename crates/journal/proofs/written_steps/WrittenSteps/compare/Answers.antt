@@ -1,4 +1,4 @@
--- What was synced once stands there still.
+-- Bytes that were synced once are still there.
 use Rattle.std.proofs.Common.{sym, subst}
 use Rattle.append_log.specs.Contents.{IsFirstPart}
 use Rattle.append_log.specs.Log.{contents, history}

@@ -1,4 +1,4 @@
--- The file has what it begins with.
+-- The file has its contents at the start.
 use Rattle.std.proofs.Common.{◌++◌, ◌∷◌, [], List, ap, ◌∙◌}
 use Rattle.append_log.specs.Contents.{file_of}
 use Rattle.append_log.specs.Log.{contents, history}

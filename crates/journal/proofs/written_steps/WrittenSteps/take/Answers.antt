@@ -1,4 +1,4 @@
--- What is taken is the next.
+-- The taken steps are the next ones.
 use Rattle.std.proofs.Common.{◌∙◌}
 use Rattle.journal.proofs.written_steps.WrittenSteps.take.Goals as goal
 

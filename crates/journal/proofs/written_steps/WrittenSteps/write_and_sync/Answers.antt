@@ -1,4 +1,4 @@
--- What is synced stands there from then on.
+-- Synced bytes are there from then on.
 use Rattle.append_log.specs.Log.{contents, history}
 use Rattle.journal.proofs.SyncLemmas.{receipt_so, synced_so}
 use Rattle.journal.proofs.written_steps.WrittenSteps.write_and_sync.Goals as goal

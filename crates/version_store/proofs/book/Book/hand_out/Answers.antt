@@ -1,4 +1,4 @@
--- An answer that is handed out leaves what is recorded.
+-- An answer that is handed out leaves the recorded states.
 use Rattle.std.proofs.Common.{rules, refl}
 use Rattle.site_core.specs.declared.step.Step.TheVariants.{Answer}
 use Rattle.version_store.proofs.RecorderLemmas.{makes_request}

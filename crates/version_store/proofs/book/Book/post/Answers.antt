@@ -1,4 +1,4 @@
--- A posted answer leaves what is recorded.
+-- A posted answer leaves the recorded states.
 use Rattle.std.proofs.Common.{rules, refl}
 use Rattle.site_core.specs.declared.reply.Reply.TheVariants.{Compiled}
 use Rattle.version_store.specs.Calls.{compile_event}

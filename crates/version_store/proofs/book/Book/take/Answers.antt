@@ -1,4 +1,4 @@
--- Nothing but the version refuses a Take as Behind.
+-- Only the version refuses a Take as Behind.
 use Rattle.version_store.proofs.BehindLemmas.{behind_shown}
 use Rattle.version_store.proofs.book.Book.take.Goals as goal
 

@@ -1,4 +1,4 @@
--- A central system that is stopped leaves the room of that event.
+-- Stopping the central system leaves the room for its event.
 use Rattle.std.proofs.Common.{◌≡◌, sym, subst, arith}
 use Rattle.std.proofs.lemmas.List.{length_push}
 use Rattle.site_core.specs.declared.step.Step.TheVariants.{Finish}

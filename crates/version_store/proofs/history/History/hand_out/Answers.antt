@@ -1,4 +1,4 @@
--- A request that is handed out leaves the room of its event.
+-- A request that is handed out leaves the room for its event.
 use Rattle.std.proofs.Common.{◌≡◌, ℕ, Ok, subst, arith}
 use Rattle.std.proofs.lemmas.List.{length_push}
 use Rattle.site_core.specs.declared.step.Step.TheVariants.{Answer}
@@ -12,7 +12,7 @@ use Rattle.version_store.proofs.HistoryLemmas.{made_with, store_goes_on}
 use Rattle.version_store.proofs.RequestLemmas.{handed_out}
 use Rattle.version_store.proofs.history.History.hand_out.Goals as goal
 
--- with this reply
+-- an Answer of a number leads from one state to another, with this reply
 abbrev Replies : MachineState → MachineState → Reply → (number : ℕ) → Type 0
 Replies old new reply number = answers old number ≡ Ok (made_with reply new)
 

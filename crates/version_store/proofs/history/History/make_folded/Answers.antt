@@ -1,4 +1,4 @@
--- The history begins anew with the present state, and goes on with one event.
+-- The history begins again with the present state, and goes on with one event.
 use Rattle.std.proofs.Common.{◌≡◌, ◌≤◌, true, ap, sym, subst, arith, length}
 use Rattle.std.specs.Vec.{vec_capacity}
 use Rattle.site_core.specs.Step.{stepped, no_answer}

@@ -1,4 +1,4 @@
--- The history goes on with one event, where the step is one.
+-- The history goes on with one event, if the step is one.
 use Rattle.std.proofs.Common.{◌≡◌, ◌<◌, sym, subst, arith, length}
 use Rattle.std.proofs.lemmas.List.{length_push}
 use Rattle.site_core.specs.Step.{stepped, no_answer}

@@ -1,4 +1,4 @@
--- Nothing was done yet.
+-- The invariant at the opening.
 use Rattle.std.proofs.Common.{◌≡◌, arith, subst}
 use Rattle.site_core.specs.State.{opening}
 use Rattle.version_store.specs.Store.{StoreState, IsStore, HasRoom, opening_store}

@@ -1,4 +1,4 @@
--- A request that is compiled leaves the room of its event.
+-- A compiled request leaves the room for its event.
 use Rattle.std.proofs.Common.{◌≡◌, ap, sym, ◌∙◌, subst, arith}
 use Rattle.std.proofs.lemmas.List.{length_push}
 use Rattle.site_core.specs.declared.reply.Reply.TheVariants.{Compiled}

@@ -1,4 +1,4 @@
--- What is no event is never refused, and changes nothing.
+-- An answer without an event is never refused, and changes nothing.
 use Rattle.std.proofs.Common.{◌≡◌, ◌≤◌, false, sym, subst}
 use Rattle.std.specs.Vec.{vec_capacity}
 use Rattle.site_core.specs.State.{MachineState}

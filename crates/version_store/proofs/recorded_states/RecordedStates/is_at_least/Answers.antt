@@ -1,4 +1,4 @@
--- Of no fewer states these begin with the others.
+-- With at least as many states, these begin with the others.
 use Rattle.std.proofs.Common.{List, sym, subst, arith}
 use Rattle.std.proofs.lemmas.Bool.Decides.{nat_tests}
 use mathlib.Core.List.{IsPrefix}

@@ -1,4 +1,4 @@
--- Of one state more these are the others and that.
+-- With one state more, these are the others and that state.
 use Rattle.std.proofs.Common.{List, sym, subst, arith}
 use Rattle.std.proofs.lemmas.Bool.Decides.{nat_tests}
 use Rattle.site_core.specs.State.{MachineState}

@@ -1,4 +1,4 @@
--- Of as many states both begin with the others.
+-- With equally many states, each begins with the other.
 use Rattle.std.proofs.Common.{sym, ◌∙◌, arith}
 use Rattle.std.proofs.lemmas.Bool.Decides.{nat_tests}
 use Rattle.version_store.proofs.RecorderLemmas.{kept_states, same_count}
