@@ -17,6 +17,6 @@ pub use laws::{acknowledged_for_good, lines_are_recovered};
 pub use line_ends::whole_length;
 pub use log::Log;
 pub use log_fault::LogFault;
-pub use memory_file::{Answer, MemoryFile};
+pub use memory_file::{FileAnswer, MemoryFile};
 pub use system_file::SystemFile;
 pub use write_fault::WriteFault;

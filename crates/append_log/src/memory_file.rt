@@ -29,7 +29,7 @@ const IN_MEMORY: u64 = 8;
 
 /// The planned outcome of a call.
 #[derive(Clone, Copy)]
-pub enum Answer {
+pub enum FileAnswer {
     /// The whole call succeeds.
     Made,
     /// A write takes at most this many bytes, but at least one. Other calls succeed.
@@ -47,7 +47,7 @@ pub struct MemoryFile {
     /// The number of these bytes that are on its disk.
     synced: usize,
     has_failed: bool,
-    answers: Vec<Answer>,
+    answers: Vec<FileAnswer>,
     calls: Record,
     ghost within: { synced ≤ length bytes.items },
     ghost on_disk: { calls.history.now.synced ≡ take synced bytes.items },
@@ -57,7 +57,7 @@ pub struct MemoryFile {
 
 impl MemoryFile {
     /// Makes a file with these bytes, all of them on its disk.
-    pub fn new(bytes: Vec<u8>, answers: Vec<Answer>) -> MemoryFile
+    pub fn new(bytes: Vec<u8>, answers: Vec<FileAnswer>) -> MemoryFile
         ensures { result.calls.history.now ≡ only_synced bytes.items }
     {
         let mut calls = Record::new();
@@ -87,7 +87,7 @@ impl AppendedFile for MemoryFile {
     ghost history = { λ file. file.calls.history };
 
     fn append(&mut self, bytes: &[u8]) -> Result<usize, WriteFault> {
-        let planned = self.answers.pop().unwrap_or(Answer::Made);
+        let planned = self.answers.pop().unwrap_or(FileAnswer::Made);
         let answer = append_some(&mut self.bytes, planned, bytes);
         match answer {
             Ok(count) => self.calls.note(&[APPENDED, count as u64], bytes),
@@ -101,7 +101,7 @@ impl AppendedFile for MemoryFile {
     }
 
     fn sync(&mut self) -> io::Result<()> {
-        if let Some(Answer::Failed) = self.answers.pop() {
+        if let Some(FileAnswer::Failed) = self.answers.pop() {
             self.has_failed = true;
             self.calls.note(&[SYNC_FAILED, 0], &[]);
             return Err(io::Error::from(ErrorKind::Other));
@@ -112,7 +112,7 @@ impl AppendedFile for MemoryFile {
     }
 
     fn cut(&mut self, end: u64) -> io::Result<()> {
-        if let Some(Answer::Failed) = self.answers.pop() {
+        if let Some(FileAnswer::Failed) = self.answers.pop() {
             self.has_failed = true;
             self.synced = self.synced.min(end as usize);
             self.calls.note(&[CUT_FAILED, end], &[]);
@@ -130,16 +130,16 @@ impl AppendedFile for MemoryFile {
 }
 
 /// Appends as many of the bytes as the answer allows.
-fn append_some(file: &mut Vec<u8>, answer: Answer, bytes: &[u8]) -> Result<usize, WriteFault>
+fn append_some(file: &mut Vec<u8>, answer: FileAnswer, bytes: &[u8]) -> Result<usize, WriteFault>
     ensures count { IfOk result (TakesSome bytes.now) }
     ensures ok { IfOk result (λ count. file.new.items ≡ file.old.items ++ take count bytes.now) }
     ensures err { OnErr result (file.new.items ≡ file.old.items) }
 {
     let count = match answer {
-        Answer::Made => bytes.len(),
-        Answer::Part(most) => bytes.len().min(most.max(1)),
-        Answer::Full => return Err(WriteFault::Full(io::Error::from(ErrorKind::StorageFull))),
-        Answer::Failed => return Err(WriteFault::Failed(io::Error::from(ErrorKind::Other))),
+        FileAnswer::Made => bytes.len(),
+        FileAnswer::Part(most) => bytes.len().min(most.max(1)),
+        FileAnswer::Full => return Err(WriteFault::Full(io::Error::from(ErrorKind::StorageFull))),
+        FileAnswer::Failed => return Err(WriteFault::Failed(io::Error::from(ErrorKind::Other))),
     };
     match file.extend_from_slice(&bytes[..count]) {
         Ok(()) => Ok(count),

@@ -10,7 +10,8 @@ use client_lines::Lines;
 use command_io::{ProgramFault, read_login, read_site_file};
 use jobs::Calling;
 use operator_calls::{
-    Caller, GivenCall, Sending, Visit, is_without_point, point_of_url, url_of_point, visits_of_site,
+    Caller, GivenCall, SendOptions, Visit, is_without_point, point_of_url, url_of_point,
+    visits_of_site,
 };
 use site_rules::Site;
 use std::alloc::{AllocError, AllocGlobal, Global};
@@ -24,7 +25,7 @@ pub fn call_site<R: ClientRuntime + Files<File = File> + Input>(
     calling: Calling<'_>,
 ) -> Result<u8, ProgramFault> {
     check_url(rt.alloc(), calling)?;
-    let sending = Sending {
+    let sending = SendOptions {
         url: calling.url,
         login: read_login(rt, calling.login)?,
         force: calling.force,

@@ -13,7 +13,7 @@ use tungstenite::RandomKeys;
 
 /// The destination of messages.
 #[derive(Drop)]
-struct Callee<R: RandomSource> {
+struct Destination<R: RandomSource> {
     /// The beginning of each line printed about it.
     label: String,
     /// The connection. None for a dry run.
@@ -97,14 +97,14 @@ pub fn send_lines<R: ClientRuntime, S: Read + Drop>(
 fn reach<R: ClientRuntime>(
     caller: &Caller<'_, R>,
     point: Option<&str>,
-) -> Result<Callee<R>, ClientFault> {
+) -> Result<Destination<R>, ClientFault> {
     let label = caller.label_of(point)?;
     let client = if caller.sending.dry_run {
         None
     } else {
         Some(connected(caller, point)?)
     };
-    Ok(Callee { label, client })
+    Ok(Destination { label, client })
 }
 
 /// Returns a connected client.
@@ -129,7 +129,7 @@ fn connected<R: ClientRuntime>(
 /// Sends a message, or prints it in a dry run.
 fn send<R: ClientRuntime, N: Display + Copy + Drop>(
     caller: &mut Caller<'_, R>,
-    callee: &mut Callee<R>,
+    callee: &mut Destination<R>,
     name: N,
     text: &str,
 ) -> Result<(), ClientFault> {
@@ -152,8 +152,8 @@ fn send<R: ClientRuntime, N: Display + Copy + Drop>(
 }
 
 /// Closes the connection, if there is one.
-fn leave<R: RandomSource + Drop>(callee: Callee<R>) {
-    let Callee { label, client } = callee;
+fn leave<R: RandomSource + Drop>(callee: Destination<R>) {
+    let Destination { label, client } = callee;
     drop(label);
     if let Some(client) = client {
         client.end();

@@ -3,7 +3,7 @@
 use command_io::{ProgramFault, read_digested_site};
 use jobs::Calling;
 use journal_file::ScriptEnd;
-use journal_reader::{Following, follow_journal};
+use journal_reader::{FollowRequest, follow_journal};
 use operator_calls::Visit;
 use site_core::Outbox;
 use std::alloc::AllocGlobal;
@@ -24,7 +24,7 @@ pub fn say_waiting<R: Files<File = File> + Clock + Eprint + AllocGlobal>(
         return Ok(());
     }
     let (site, digest) = read_digested_site(rt, path)?;
-    let following = Following {
+    let following = FollowRequest {
         site,
         digest,
         folder,

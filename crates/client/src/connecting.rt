@@ -10,7 +10,7 @@ use tungstenite::handshake::client::request_of;
 use tungstenite::{Error, HandshakeError, RandomKeys, WebSocket, client};
 
 /// A connection after its handshake.
-pub type Connection<R> = WebSocket<TcpStream, RandomKeys<R>>;
+pub type ClientSocket<R> = WebSocket<TcpStream, RandomKeys<R>>;
 
 /// The port of a `ws` URL without one (RFC 6455, section 3).
 const DEFAULT_PORT: u16 = 80;
@@ -84,7 +84,7 @@ pub fn connect<R: Net<Stream = TcpStream> + RandomSource + Copy + Drop>(
     rt: &R,
     alloc: Global,
     address: Address,
-) -> Result<Connection<R>, ClientFault> {
+) -> Result<ClientSocket<R>, ClientFault> {
     let Address { request, has_login } = address;
     let Some(host) = request.uri().host() else {
         return Err(ClientFault::Url);

@@ -9,6 +9,6 @@ mod sockets;
 mod terminal_point;
 
 pub use client_runtime::ClientRuntime;
-pub use connecting::{Address, Connection, connect};
+pub use connecting::{Address, ClientSocket, connect};
 pub use operator::{AnswerLines, CallEnd, OperatorClient};
 pub use terminal_point::TerminalPoint;

@@ -1,6 +1,6 @@
 //! An operator's client.
 
-use crate::sockets::{Came, close, receive, send};
+use crate::sockets::{Received, close, receive, send};
 use client_lines::ClientFault;
 use ocppj_frame::{
     Field, Frame, FrameFault, MessageId, Payload, ReadingMemory, read_frame, text_field,
@@ -71,13 +71,13 @@ impl<S: Read + Write + OpenStream + Drop, K: MaskKeys + Drop> OperatorClient<S, 
         send(self.alloc, &mut self.socket, text)?;
         // There is no timeout: while the connection lasts, an answer always comes.
         for _message in rt.forever() {
-            let Came::Text(answer) = receive(&mut self.socket)? else {
+            let Received::Text(answer) = receive(&mut self.socket)? else {
                 continue;
             };
             lines.write(answer.as_str())?;
             match verdict_of(&mut self.memory, answer.as_str(), &id)? {
-                Some(Verdict::Accepted) => return Ok(CallEnd::Accepted),
-                Some(Verdict::Refused) => return Ok(CallEnd::Refused(answer)),
+                Some(AnswerVerdict::Accepted) => return Ok(CallEnd::Accepted),
+                Some(AnswerVerdict::Refused) => return Ok(CallEnd::Refused(answer)),
                 None => {}
             }
         }
@@ -104,7 +104,7 @@ fn id_of_call(memory: &mut ReadingMemory, text: &str) -> Result<Option<MessageId
 
 /// The outcome of a CALL by its answer.
 #[derive(Clone, Copy)]
-enum Verdict {
+enum AnswerVerdict {
     Accepted,
     Refused,
 }
@@ -114,7 +114,7 @@ fn verdict_of(
     memory: &mut ReadingMemory,
     text: &str,
     call: &MessageId,
-) -> Result<Option<Verdict>, ClientFault> {
+) -> Result<Option<AnswerVerdict>, ClientFault> {
     match read_frame(memory, text) {
         Ok(frame) => Ok(verdict_in(&frame, call.as_str())),
         Err(FrameFault::OutOfMemory) => Err(ClientFault::OutOfMemory),
@@ -122,18 +122,18 @@ fn verdict_of(
     }
 }
 
-fn verdict_in(frame: &Frame<'_>, call: &str) -> Option<Verdict> {
+fn verdict_in(frame: &Frame<'_>, call: &str) -> Option<AnswerVerdict> {
     match frame {
         Frame::Reply { id, payload } => {
             if id.as_str() != call {
                 None
             } else if is_rejected(payload) {
-                Some(Verdict::Refused)
+                Some(AnswerVerdict::Refused)
             } else {
-                Some(Verdict::Accepted)
+                Some(AnswerVerdict::Accepted)
             }
         }
-        Frame::Fault { id } if id.as_str() == call => Some(Verdict::Refused),
+        Frame::Fault { id } if id.as_str() == call => Some(AnswerVerdict::Refused),
         _ => None,
     }
 }

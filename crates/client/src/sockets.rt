@@ -12,7 +12,7 @@ const CLOSING_SECONDS: u64 = 5;
 
 /// The result of a read.
 #[derive(Drop)]
-pub(crate) enum Came {
+pub(crate) enum Received {
     Text(Utf8Bytes),
     /// A message of another kind. The socket itself answers pings.
     Other,
@@ -23,21 +23,21 @@ pub(crate) enum Came {
 /// Reads the next message.
 pub(crate) fn receive<S: Read + Write + Drop, K: MaskKeys + Drop>(
     socket: &mut WebSocket<S, K>,
-) -> Result<Came, ClientFault> {
+) -> Result<Received, ClientFault> {
     match socket.read() {
-        Ok(Message::Text(text)) => Ok(Came::Text(text)),
+        Ok(Message::Text(text)) => Ok(Received::Text(text)),
         Ok(Message::Close(_)) => Err(ClientFault::Closed),
-        Ok(_) => Ok(Came::Other),
-        Err(error) => came_with(error),
+        Ok(_) => Ok(Received::Other),
+        Err(error) => received_error(error),
     }
 }
 
 /// Returns the result of a read that gave an error.
-fn came_with(error: Error) -> Result<Came, ClientFault> {
+fn received_error(error: Error) -> Result<Received, ClientFault> {
     match error {
         Error::Io(error) => {
             if is_no_fault(error.kind()) {
-                Ok(Came::Nothing)
+                Ok(Received::Nothing)
             } else {
                 Err(ClientFault::Socket)
             }

@@ -1,6 +1,6 @@
 //! A simulated charge point that does what lines of text say.
 
-use crate::sockets::{Came, close, receive, send};
+use crate::sockets::{Received, close, receive, send};
 use client_lines::{ClientFault, Lines, PointLine, point_line};
 use ocpp_scalars::{Instant, Moments};
 use sim_point_core::{SimPoint, SimStep};
@@ -153,7 +153,7 @@ impl<S: Read + Write + OpenStream + Drop, K: MaskKeys + Drop, W: Write> Terminal
 
     /// Takes the next message, if one comes within that time, and answers it.
     fn take_message<M: Moments>(&mut self, clock: &M) -> Result<(), ClientFault> {
-        let Came::Text(text) = receive(&mut self.socket)? else {
+        let Received::Text(text) = receive(&mut self.socket)? else {
             return Ok(());
         };
         write_text(self.writer, "got", text.as_str())?;

@@ -7,7 +7,7 @@ use std::alloc::AllocGlobal;
 use std::net::{Net, TcpStream};
 
 /// The exit status if a site isn't well.
-const NOT_WELL: u8 = 2;
+const UNHEALTHY: u8 = 2;
 
 /// The status of a response with the requested state (RFC 9110, section 15).
 const OK: u16 = 200;
@@ -24,12 +24,12 @@ pub fn show_status<R: Print + Eprint + AllocGlobal + Net<Stream = TcpStream>>(
     if status == UNAVAILABLE {
         let why = body.as_str().trim_end();
         let _ = eprintln!(rt; "central: {url}: {why}");
-        return Ok(NOT_WELL);
+        return Ok(UNHEALTHY);
     }
     if status != OK {
         return Err(ProgramFault::NoStatus);
     }
     let table = status_table(rt.alloc(), body.as_str())?;
     print_page(rt, table.text.as_str())?;
-    Ok(if table.is_well { 0 } else { NOT_WELL })
+    Ok(if table.is_healthy { 0 } else { UNHEALTHY })
 }

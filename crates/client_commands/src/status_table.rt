@@ -3,7 +3,7 @@
 use command_io::ProgramFault;
 use json::{Error, Scratch, Value};
 use show_pages::Table;
-use site_status::push_on_one_line;
+use site_status::push_without_controls;
 use std::alloc::{AllocError, Global};
 
 /// The column headings of a table of points.
@@ -28,7 +28,7 @@ pub struct StatusTable {
     /// The table, with warnings below it.
     pub text: String,
     /// Whether the site is well.
-    pub is_well: bool,
+    pub is_healthy: bool,
 }
 
 /// Returns the table of a state in the form of `/state.json`.
@@ -54,11 +54,11 @@ pub fn status_table(alloc: Global, state: &str) -> Result<StatusTable, ProgramFa
     for point in points {
         push_warning(&mut text, point)?;
     }
-    let is_well = health == "ok";
-    if !is_well {
+    let is_healthy = health == "ok";
+    if !is_healthy {
         write!(text, "the site: {health}\n")?;
     }
-    Ok(StatusTable { text, is_well })
+    Ok(StatusTable { text, is_healthy })
 }
 
 /// Returns the cells of a point.
@@ -93,7 +93,7 @@ fn rejected_cell(alloc: Global, point: &Value<'_>) -> Result<String, AllocError>
         }
         cell.push_str(", ")?;
         // The reason is the point's own text: a line break in it would spoil the table.
-        push_on_one_line(&mut cell, reason)?;
+        push_without_controls(&mut cell, reason)?;
     }
     Ok(cell)
 }

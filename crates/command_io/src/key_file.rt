@@ -1,7 +1,7 @@
 //! The file of keys.
 
 use crate::program_fault::ProgramFault;
-use journal_file::or_stop;
+use journal_file::report_error;
 use replay::{InputFault, read_all};
 use site_keys::Keys;
 use std::alloc::AllocGlobal;
@@ -27,7 +27,7 @@ pub fn read_key_bytes<R: Files<File = File> + Eprint + AllocGlobal>(
     path: &str,
 ) -> Result<Vec<u8>, ProgramFault> {
     let opened = fs::open(rt, path);
-    let mut file = or_stop(rt, path, opened, ProgramFault::File)?;
+    let mut file = report_error(rt, path, opened, ProgramFault::File)?;
     match read_all(rt.alloc(), &mut file, MAX_KEY_BYTES) {
         Ok(bytes) => Ok(bytes),
         Err(InputFault::OutOfMemory) => Err(ProgramFault::OutOfMemory),

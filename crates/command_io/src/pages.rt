@@ -1,7 +1,7 @@
 //! Pages that the program prints or writes to files.
 
 use crate::program_fault::ProgramFault;
-use journal_file::or_stop;
+use journal_file::report_error;
 use replay::Playing;
 use std::io::Write;
 use std::rt::Files;
@@ -58,7 +58,7 @@ pub fn print_page<R: Print + Eprint>(rt: &R, page: &str) -> Result<(), ProgramFa
         .and_then(|()| writer.flush())
     {
         Err(error) if error.kind() == io::ErrorKind::BrokenPipe => Ok(()),
-        written => or_stop(rt, "standard output", written, ProgramFault::Write),
+        written => report_error(rt, "standard output", written, ProgramFault::Write),
     }
 }
 
@@ -76,7 +76,7 @@ pub fn as_printed(written: io::Result<()>) -> Result<(), ProgramFault> {
 /// cause to standard error.
 pub fn write_file<R: Files + Eprint>(rt: &R, path: &str, page: &str) -> Result<(), ProgramFault> {
     let created = fs::create(rt, path);
-    let mut file = or_stop(rt, path, created, ProgramFault::Write)?;
+    let mut file = report_error(rt, path, created, ProgramFault::Write)?;
     let written = file.write_all(page.as_bytes()).and_then(|()| file.flush());
-    or_stop(rt, path, written, ProgramFault::Write)
+    report_error(rt, path, written, ProgramFault::Write)
 }

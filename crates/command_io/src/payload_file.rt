@@ -1,7 +1,7 @@
 //! The file of a payload.
 
 use crate::program_fault::ProgramFault;
-use journal_file::or_stop;
+use journal_file::report_error;
 use std::alloc::AllocGlobal;
 use std::fs;
 use std::fs::File;
@@ -17,14 +17,14 @@ pub fn read_payload_file<R: Files<File = File> + Eprint + AllocGlobal>(
     path: &str,
 ) -> Result<String, ProgramFault> {
     let opened = fs::open(rt, path);
-    let mut file = or_stop(rt, path, opened, ProgramFault::File)?;
+    let mut file = report_error(rt, path, opened, ProgramFault::File)?;
     let mut bytes = Vec::new(rt.alloc());
     // One more byte is requested, to see whether the file is too long.
     let read = file
         .by_ref()
         .take(MAX_PAYLOAD_BYTES + 1)
         .read_to_end(&mut bytes);
-    let length = or_stop(rt, path, read, ProgramFault::File)?;
+    let length = report_error(rt, path, read, ProgramFault::File)?;
     let why = match String::from_utf8(bytes) {
         Ok(_) if length as u64 > MAX_PAYLOAD_BYTES => "it is longer than a message may be",
         Ok(text) => return Ok(text),

@@ -4,9 +4,9 @@ ghost use Rattle.std.specs.Prelude.{◌≡◌};
 ghost use Rattle.command_io.specs.ExitStatus.{fault_status, folder_status, summary_status};
 
 use client_lines::ClientFault;
+use journal::{RestoreFault, Unrestored};
 use journal_file::FolderFault;
 use replay::{ReplayFault, Summary};
-use journal::{RestoreFault, Unrestored};
 use site_keys::{KeysFault, NewKeyFault};
 use site_rules::SiteFault;
 use std::alloc::{AllocError, AllocFailed};

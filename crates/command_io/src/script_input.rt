@@ -4,8 +4,8 @@ ghost use Rattle.std.specs.Prelude.{◌≤◌, IfOk, vec_len};
 ghost use Rattle.replay.specs.Limits.{max_script_bytes};
 
 use crate::program_fault::ProgramFault;
-use journal_file::{or_stop, read_journal_script};
 use jobs::Source;
+use journal_file::{read_journal_script, report_error};
 use replay::{InputFault, MAX_SCRIPT_BYTES, ReplayFault, read_all};
 use std::alloc::AllocGlobal;
 use std::fs;
@@ -49,14 +49,14 @@ fn read_script_file<R: Files<File = File> + Eprint + AllocGlobal>(
     ensures short { IfOk result (λ script. vec_len script ≤ max_script_bytes) }
 {
     let opened = fs::open(rt, path);
-    let mut file = or_stop(rt, path, opened, ProgramFault::File)?;
+    let mut file = report_error(rt, path, opened, ProgramFault::File)?;
     let mut script = Vec::new(rt.alloc());
     // One more byte is requested, to see whether the file is too long.
     let read = file
         .by_ref()
         .take(MAX_SCRIPT_BYTES as u64 + 1)
         .read_to_end(&mut script);
-    or_stop(rt, path, read, ProgramFault::File)?;
+    report_error(rt, path, read, ProgramFault::File)?;
     if script.len() > MAX_SCRIPT_BYTES {
         return Err(ProgramFault::Replay(ReplayFault::ScriptTooLong));
     }

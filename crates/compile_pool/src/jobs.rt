@@ -43,7 +43,7 @@ impl<'a> Jobs<'a> {
     }
 
     /// Returns the channel of a job. Only a short job gets that of short ones.
-    fn way_of(&self, job: &Job, short: bool) -> &'a Sender<Job>
+    fn channel_of(&self, job: &Job, short: bool) -> &'a Sender<Job>
         requires { IsTrue short → IsTrue (is_short job.now) }
         ensures { (result ≡ self.now.long)
             ⊎ ((result ≡ self.now.short) × IsTrue (is_short job.now)) }
@@ -57,7 +57,7 @@ impl<'a> Jobs<'a> {
         ensures back { IfErr result (λ back. back ≡ job) }
     {
         let short = short_work(&job).is_some();
-        match self.way_of(&job, short).send(rt, job) {
+        match self.channel_of(&job, short).send(rt, job) {
             Ok(()) => Ok(()),
             Err(unsent) => Err(unsent.into_inner()),
         }
@@ -69,7 +69,7 @@ impl<'a> Jobs<'a> {
         requires short { IsTrue short → IsTrue (is_short job) }
         ensures back { IfErr result (λ unsent. job_of unsent ≡ job) }
     {
-        match self.way_of(&job, short).try_send(rt, job) {
+        match self.channel_of(&job, short).try_send(rt, job) {
             Ok(()) => Ok(()),
             Err(TrySendError::Full(job)) => Err(Unsent::NoRoom(job)),
             Err(unsent) => Err(Unsent::NoWorker(unsent.into_inner())),

@@ -10,7 +10,7 @@ abbrev either : PointState → ℕ → Row → ℕ → Bool → Bool
 either state asked row connector b = cond b (connector == asked) (is_of_active state row connector)
 
 pub only_active : (state : PointState) (asked : ℕ) (row : Row) (connector : ℕ) → is_of_one asked row ≡ false → LooksAt state asked row connector → is_of_active state row connector ≡ true
-only_active state asked row connector whole looked = ap (either state asked row connector) (sym whole) ∙ looked
+only_active state asked row connector whole row_at_connector = ap (either state asked row connector) (sym whole) ∙ row_at_connector
 
 pub active_looked : (state : PointState) (asked : ℕ) (row : Row) (connector : ℕ) → is_of_one asked row ≡ false → is_of_active state row connector ≡ true → LooksAt state asked row connector
 active_looked state asked row connector whole active = ap (either state asked row connector) whole ∙ active
@@ -21,8 +21,8 @@ asked_looked state asked row single =
     ap (either state asked row asked) single ∙ same
 
 pub one_looked : (state : PointState) (asked : ℕ) (row : Row) (connector : ℕ) → is_of_one asked row ≡ true → LooksAt state asked row connector → connector ≡ asked
-one_looked state asked row connector single looked =
-    let same : (connector == asked) ≡ true = ap (either state asked row connector) (sym single) ∙ looked in
+one_looked state asked row connector single row_at_connector =
+    let same : (connector == asked) ≡ true = ap (either state asked row connector) (sym single) ∙ row_at_connector in
     grind (arith, nat_tests)
 
 active_some : (given : Option ℕ) (a b : Bool) → (is_some given && a && b) ≡ true → given ≡ None → ⊥

@@ -12,9 +12,9 @@ use Rattle.meaning.specs.declared.cause.WhyNot.TheVariants.{OtherConnector, NoTr
 use Rattle.meaning.specs.View.{PointState, active_since}
 use Rattle.meaning.specs.Cause.{profile_of, counts_for, prevailing_row}
 use Rattle.meaning.specs.WhyNot.{why_not, is_elsewhere, lacks_transaction, is_hidden, is_above}
-use Rattle.explain_pages.specs.declared.explained_ask.NoPart.{NoPart}
-use Rattle.explain_pages.specs.declared.explained_ask.NoPart.TheVariants.{NotPrevailing, NotLeast, NoActiveConnector, NoLimit, BehindOthers}
-use Rattle.explain_pages.specs.declared.explained_ask.NotCounted.{NotCounted}
+use Rattle.explain_pages.specs.declared.explained_request.NotCountedReason.{NotCountedReason}
+use Rattle.explain_pages.specs.declared.explained_request.NotCountedReason.TheVariants.{NotPrevailing, NotLeast, NoActiveConnector, NoLimit, BehindOthers}
+use Rattle.explain_pages.specs.declared.explained_request.NotCounted.{NotCounted}
 
 -- ---- at one second
 
@@ -56,7 +56,7 @@ holds_for BehindTxProfile state at asked instant row =
 -- `asked` on. NotPrevailing: the row doesn't prevail, for this cause. NoLimit: it has no limit.
 -- BehindOthers: it has no limit or doesn't prevail. NotLeast: it prevails. A ChargePointMaxProfile
 -- prevails for the whole point.
-abbrev pub SaysAt : NoPart → PointState → ℕ → ℕ → ℕ → Row → Type 0
+abbrev pub SaysAt : NotCountedReason → PointState → ℕ → ℕ → ℕ → Row → Type 0
 SaysAt (NotPrevailing why) state connector asked second row =
     holds_for why state (counts_for row.profile.purpose connector) asked second row ≡ true
 SaysAt NoLimit state connector asked second row =
@@ -88,10 +88,10 @@ LooksAt state asked row connector =
 
 -- a reason holds at each second of a request for each connector for which the row is checked, and
 -- there is such a connector
-pub record SaysThroughout (reason : NoPart) (state : PointState) (ask : Ask) (row : Row)
+pub record SaysThroughout (reason : NotCountedReason) (state : PointState) (ask : Ask) (row : Row)
     : Type 0 where
   pub one : ℕ
-  pub looked : LooksAt state ask.connector row one
+  pub row_at_connector : LooksAt state ask.connector row one
   pub each :
       (connector second : ℕ) → LooksAt state ask.connector row connector
       → ask.start ≤ second → second < ask.start + ask.duration
@@ -100,7 +100,7 @@ pub record SaysThroughout (reason : NoPart) (state : PointState) (ask : Ask) (ro
 -- a row prevails at a second of a request for a connector for which it is checked
 pub record PrevailsOnce (state : PointState) (ask : Ask) (row : Row) : Type 0 where
   pub connector : ℕ
-  pub looked : LooksAt state ask.connector row connector
+  pub row_at_connector : LooksAt state ask.connector row connector
   pub second : ℕ
   pub from : ask.start ≤ second
   pub before : second < ask.start + ask.duration
@@ -108,7 +108,7 @@ pub record PrevailsOnce (state : PointState) (ask : Ask) (row : Row) : Type 0 wh
 
 -- A reason of a row holds throughout the request. NotLeast says that the row prevails at some
 -- second. NoActiveConnector says that the row is checked for no connector.
-abbrev pub IsReason : NoPart → PointState → Ask → Row → Type 0
+abbrev pub IsReason : NotCountedReason → PointState → Ask → Row → Type 0
 IsReason (NotPrevailing why) state ask row = SaysThroughout (NotPrevailing why) state ask row
 IsReason NoLimit state ask row = SaysThroughout NoLimit state ask row
 IsReason BehindOthers state ask row = SaysThroughout BehindOthers state ask row

@@ -1,8 +1,8 @@
 //! The strip below a picture's plot that names the cause of each interval's limit.
 
-use crate::drawing::{Sketch, push_letter};
-use crate::entries::{Entry, place_of};
-use crate::explained_ask::ExplainedAsk;
+use crate::drawing::{PictureInput, push_letter};
+use crate::entries::{LimitEntry, place_of};
+use crate::explained_request::ExplainedRequest;
 use crate::markup::push_escaped;
 use crate::scale::{BOTTOM, LEFT, Scale};
 use crate::steps::MAX_INTERVALS;
@@ -20,7 +20,7 @@ pub(crate) const LOWER: u64 = UPPER + 26;
 pub(crate) fn push_causes(
     alloc: Global,
     out: &mut String,
-    sketch: Sketch<'_>,
+    sketch: PictureInput<'_>,
 ) -> Result<(), AllocError> {
     let (x, base) = (LEFT - 10, UPPER + 17);
     write!(
@@ -29,7 +29,7 @@ pub(crate) fn push_causes(
     )?;
     let mut is_odd = false;
     for interval in sketch.explained.intervals.iter().take(MAX_INTERVALS) {
-        let field = Field::of(sketch.scale, interval, is_odd);
+        let field = IntervalBand::of(sketch.scale, interval, is_odd);
         // A field without width can't be seen.
         if field.breadth > 0 {
             push_field(alloc, out, sketch.explained, field)?;
@@ -42,17 +42,17 @@ pub(crate) fn push_causes(
 
 /// The field of an interval.
 #[derive(Clone, Copy)]
-struct Field<'a> {
+struct IntervalBand<'a> {
     interval: &'a Interval,
     left: u64,
     breadth: u64,
     is_odd: bool,
 }
 
-impl<'a> Field<'a> {
-    fn of(scale: Scale, interval: &'a Interval, is_odd: bool) -> Field<'a> {
+impl<'a> IntervalBand<'a> {
+    fn of(scale: Scale, interval: &'a Interval, is_odd: bool) -> IntervalBand<'a> {
         let left = scale.x(interval.start);
-        Field {
+        IntervalBand {
             interval,
             left,
             breadth: scale.x(interval.end).saturating_sub(left),
@@ -64,8 +64,8 @@ impl<'a> Field<'a> {
 fn push_field(
     alloc: Global,
     out: &mut String,
-    explained: &ExplainedAsk<'_>,
-    field: Field<'_>,
+    explained: &ExplainedRequest<'_>,
+    field: IntervalBand<'_>,
 ) -> Result<(), AllocError> {
     let (x, width, height) = (field.left, field.breadth, LOWER - UPPER);
     let class = if field.is_odd { "cause odd" } else { "cause" };
@@ -87,8 +87,8 @@ fn push_field(
 fn push_name(
     alloc: Global,
     out: &mut String,
-    field: Field<'_>,
-    entries: &[Entry],
+    field: IntervalBand<'_>,
+    entries: &[LimitEntry],
 ) -> Result<(), AllocError> {
     let Some(place) = place_of(entries, field.interval.reason.cause) else {
         return Ok(());
@@ -109,11 +109,11 @@ fn push_name(
 }
 
 /// Returns whether an ASCII text fits into a field, at 7 units a character and a margin of 4.
-fn has_room(field: Field<'_>, text: &str) -> bool {
+fn has_room(field: IntervalBand<'_>, text: &str) -> bool {
     (text.len() as u64).saturating_mul(7).saturating_add(4) <= field.breadth
 }
 
-fn push_middle(out: &mut String, field: Field<'_>, text: &str) -> Result<(), AllocError> {
+fn push_middle(out: &mut String, field: IntervalBand<'_>, text: &str) -> Result<(), AllocError> {
     let (x, base) = (field.left.saturating_add(field.breadth / 2), UPPER + 17);
     write!(out, "<text class=\"name\" x=\"{x}\" y=\"{base}\">")?;
     push_escaped(out, text)?;

@@ -1,7 +1,7 @@
 //! The cells of a table of intervals.
 
 use crate::clock::{ClockTime, needs_seconds, push_date, push_time};
-use crate::explained_ask::ExplainedAsk;
+use crate::explained_request::ExplainedRequest;
 use crate::words::{push_length, push_limit, push_why};
 use crate::zone_clock::ZoneClock;
 use std::alloc::{AllocError, Global};
@@ -24,7 +24,7 @@ pub(crate) struct Cells {
 /// A formatter of one interval after another.
 #[derive(Drop)]
 pub(crate) struct CellMaker<'a> {
-    explained: &'a ExplainedAsk<'a>,
+    explained: &'a ExplainedRequest<'a>,
     /// The zone to which times are local; UTC without one.
     zone: Option<ZoneClock<'a>>,
     with_seconds: bool,
@@ -34,7 +34,7 @@ pub(crate) struct CellMaker<'a> {
 
 impl<'a> CellMaker<'a> {
     pub(crate) fn new(
-        explained: &'a ExplainedAsk<'a>,
+        explained: &'a ExplainedRequest<'a>,
         zone: Option<ZoneClock<'a>>,
     ) -> CellMaker<'a> {
         CellMaker {
@@ -85,7 +85,7 @@ impl<'a> CellMaker<'a> {
 /// Formats all intervals.
 pub(crate) fn all_cells(
     alloc: Global,
-    explained: &ExplainedAsk<'_>,
+    explained: &ExplainedRequest<'_>,
     zone: Option<ZoneClock<'_>>,
 ) -> Result<Vec<Cells>, AllocError> {
     let mut maker = CellMaker::new(explained, zone);

@@ -1,6 +1,6 @@
 //! Times of day and dates, in UTC or local to a zone.
 
-use crate::explained_ask::ExplainedAsk;
+use crate::explained_request::ExplainedRequest;
 use crate::zone_clock::{ZoneClock, shown_at};
 use ocpp_scalars::{Instant, LAST_SECOND, push_instant};
 use std::alloc::{AllocError, Global};
@@ -94,7 +94,7 @@ pub(crate) fn weekday(day: u64) -> &'static str {
 }
 
 /// Returns whether a time of the intervals isn't a whole minute, local to a zone or in UTC.
-pub(crate) fn needs_seconds(explained: &ExplainedAsk<'_>, zone: Option<ZoneClock<'_>>) -> bool {
+pub(crate) fn needs_seconds(explained: &ExplainedRequest<'_>, zone: Option<ZoneClock<'_>>) -> bool {
     for interval in explained.intervals {
         if has_seconds(zone, explained.moment(interval.start))
             || has_seconds(zone, explained.moment(interval.end))

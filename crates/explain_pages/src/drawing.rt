@@ -1,8 +1,8 @@
 //! The lines of a picture, its axes and its grid.
 
 use crate::clock::{DAY, push_date, push_time, weekday};
-use crate::entries::{Entry, Line};
-use crate::explained_ask::ExplainedAsk;
+use crate::entries::{LimitEntry, LimitLine};
+use crate::explained_request::ExplainedRequest;
 use crate::scale::{BOTTOM, LEFT, RIGHT, Scale, TOP};
 use crate::steps::Steps;
 use crate::ticks::{MOST_DATES, MOST_LIMITS, MOST_TIMES, date_step, time_step};
@@ -14,10 +14,10 @@ use std::alloc::{AllocError, Global};
 
 /// The input of a picture's drawing.
 #[derive(Clone, Copy)]
-pub(crate) struct Sketch<'a> {
-    pub(crate) explained: &'a ExplainedAsk<'a>,
+pub(crate) struct PictureInput<'a> {
+    pub(crate) explained: &'a ExplainedRequest<'a>,
     pub(crate) scale: Scale,
-    pub(crate) entries: &'a [Entry],
+    pub(crate) entries: &'a [LimitEntry],
     /// The limits of the intervals.
     pub(crate) limit: &'a Steps,
 }
@@ -67,27 +67,27 @@ pub(crate) fn push_entry_line(
     out: &mut String,
     scale: Scale,
     place: usize,
-    entry: &Entry,
+    entry: &LimitEntry,
 ) -> Result<(), AllocError> {
     match &entry.line {
-        Line::Steps(steps) => {
+        LimitLine::Steps(steps) => {
             out.push_str("<path class=\"line ")?;
             push_style(out, place)?;
             out.push_str("\" d=\"")?;
             push_path(out, scale, steps)?;
             out.push_str("\"/>\n")
         }
-        Line::Level(_) if scale.is_passed_by(&entry.line) => Ok(()),
-        Line::Level(limit) => {
+        LimitLine::Level(_) if scale.is_passed_by(&entry.line) => Ok(()),
+        LimitLine::Level(limit) => {
             let (class, y) = (ceiling_class(entry), scale.y(*limit));
             write!(out, "<path class=\"{class}\" d=\"M{LEFT} {y}H{RIGHT}\"/>\n")
         }
-        Line::Nothing => Ok(()),
+        LimitLine::Nothing => Ok(()),
     }
 }
 
 /// Returns the CSS class of a ceiling's line.
-pub(crate) fn ceiling_class(entry: &Entry) -> &'static str {
+pub(crate) fn ceiling_class(entry: &LimitEntry) -> &'static str {
     match entry.cause {
         Cause::PointCeiling => "ceiling whole",
         Cause::ConnectorCeiling | Cause::Profile(_) | Cause::Sum => "ceiling",
@@ -149,7 +149,7 @@ fn push_limit_tick(
 pub(crate) fn push_time_axis(
     alloc: Global,
     out: &mut String,
-    explained: &ExplainedAsk<'_>,
+    explained: &ExplainedRequest<'_>,
     scale: Scale,
 ) -> Result<(), AllocError> {
     let step = u64::from(time_step(explained.ask.duration).max(1));
@@ -166,7 +166,7 @@ pub(crate) fn push_time_axis(
 }
 
 /// Returns the second of a request at which a moment is, at most the request's duration.
-fn second_at(explained: &ExplainedAsk<'_>, moment: u64) -> u32 {
+fn second_at(explained: &ExplainedRequest<'_>, moment: u64) -> u32 {
     let second = moment.saturating_sub(explained.moment(0));
     second.min(u64::from(explained.ask.duration)) as u32
 }
@@ -190,7 +190,7 @@ fn push_time_tick(out: &mut String, x: u64, moment: u64, step: u64) -> Result<()
 fn push_dates(
     alloc: Global,
     out: &mut String,
-    explained: &ExplainedAsk<'_>,
+    explained: &ExplainedRequest<'_>,
     scale: Scale,
 ) -> Result<(), AllocError> {
     let (start, end) = (explained.moment(0), explained.end());

@@ -4,7 +4,7 @@
 ghost use Rattle.std.specs.Prelude.{◌≡◌};
 ghost use Rattle.meaning.specs.Cause.{profile_of};
 
-use crate::explained_ask::ExplainedAsk;
+use crate::explained_request::ExplainedRequest;
 use crate::steps::{MAX_INTERVALS, Steps, first_limit, profile_steps};
 use meaning::{Ask, Cause, PrevailingProfile, View, has_its_transaction};
 use ocpp_scalars::Instant;
@@ -13,14 +13,14 @@ use std::alloc::{AllocError, Global};
 
 /// A profile, a ceiling or the sum, with its own limit over the time of the request.
 #[derive(Drop)]
-pub(crate) struct Entry {
+pub(crate) struct LimitEntry {
     pub(crate) cause: Cause,
-    pub(crate) line: Line,
+    pub(crate) line: LimitLine,
 }
 
 /// The line of an entry.
 #[derive(Drop)]
-pub(crate) enum Line {
+pub(crate) enum LimitLine {
     /// A profile's limits.
     Steps(Steps),
     /// A ceiling, in tenths.
@@ -33,8 +33,8 @@ pub(crate) enum Line {
 /// causes of limits.
 pub(crate) fn entries_of(
     alloc: Global,
-    explained: &ExplainedAsk<'_>,
-) -> Result<Vec<Entry>, AllocError> {
+    explained: &ExplainedRequest<'_>,
+) -> Result<Vec<LimitEntry>, AllocError> {
     let mut entries = Vec::new(alloc);
     for row in explained.view.rows {
         if let Some(entry) = profile_entry(alloc, explained, row)? {
@@ -46,9 +46,9 @@ pub(crate) fn entries_of(
     for interval in explained.intervals.iter().take(MAX_INTERVALS) {
         let cause = interval.reason.cause;
         if place_of(entries.as_slice(), cause).is_none() {
-            entries.push(Entry {
+            entries.push(LimitEntry {
                 cause,
-                line: Line::Nothing,
+                line: LimitLine::Nothing,
             })?;
         }
     }
@@ -56,16 +56,16 @@ pub(crate) fn entries_of(
 }
 
 /// Returns the place of a cause among the entries.
-pub(crate) fn place_of(entries: &[Entry], cause: Cause) -> Option<usize> {
+pub(crate) fn place_of(entries: &[LimitEntry], cause: Cause) -> Option<usize> {
     entries.iter().position(|entry| entry.cause == cause)
 }
 
 /// Returns the entry of a profile if it may set a limit, and has one in the time of the request.
 fn profile_entry(
     alloc: Global,
-    explained: &ExplainedAsk<'_>,
+    explained: &ExplainedRequest<'_>,
     row: &Row,
-) -> Result<Option<Entry>, AllocError> {
+) -> Result<Option<LimitEntry>, AllocError> {
     let mut steps = None;
     if may_count(explained, row) {
         steps = Some(steps_of(alloc, explained, row)?);
@@ -75,24 +75,28 @@ fn profile_entry(
 
 /// Returns whether a row may set a limit of the request: it applies to the connector, and has the
 /// transaction that it needs.
-fn may_count(explained: &ExplainedAsk<'_>, row: &Row) -> bool {
+fn may_count(explained: &ExplainedRequest<'_>, row: &Row) -> bool {
     let started = started_for(&explained.view, &explained.ask, row);
     applies(explained, row) && has_its_transaction(row.profile.purpose, started)
 }
 
 /// Returns the steps of a row in the time of the request.
-fn steps_of(alloc: Global, explained: &ExplainedAsk<'_>, row: &Row) -> Result<Steps, AllocError> {
+fn steps_of(
+    alloc: Global,
+    explained: &ExplainedRequest<'_>,
+    row: &Row,
+) -> Result<Steps, AllocError> {
     let ask = &explained.ask;
     let base = row.base(started_for(&explained.view, ask, row), ask.start);
     profile_steps(alloc, &row.profile, base, ask)
 }
 
 /// Returns the entry of a row with its steps, if one of them has a limit.
-fn stepped_entry(row: &Row, steps: Steps) -> Option<Entry> {
+fn stepped_entry(row: &Row, steps: Steps) -> Option<LimitEntry> {
     if steps.has_limit() {
-        Some(Entry {
+        Some(LimitEntry {
             cause: Cause::Profile(profile_of(row)),
-            line: Line::Steps(steps),
+            line: LimitLine::Steps(steps),
         })
     } else {
         None
@@ -112,7 +116,7 @@ pub fn profile_of(row: &Row) -> PrevailingProfile
 }
 
 /// Returns whether a row applies to the connector of the request.
-fn applies(explained: &ExplainedAsk<'_>, row: &Row) -> bool {
+fn applies(explained: &ExplainedRequest<'_>, row: &Row) -> bool {
     let connector = explained.ask.connector;
     connector == 0 || row.connector == 0 || row.connector == connector
 }
@@ -132,24 +136,27 @@ fn started_for(view: &View<'_>, ask: &Ask, row: &Row) -> Option<Instant> {
 /// Returns the instant whose reason best explains why a profile never sets the limit. It is the
 /// first one at which the profile's schedule has a limit, or the start of the request. Before that
 /// instant the reason would only be that the profile hasn't begun.
-pub fn telling_instant(view: &View<'_>, ask: &Ask, row: &Row) -> Instant {
+pub fn reason_instant(view: &View<'_>, ask: &Ask, row: &Row) -> Instant {
     let base = row.base(started_for(view, ask, row), ask.start);
     first_limit(&row.profile, base, ask)
 }
 
-fn push_ceilings(entries: &mut Vec<Entry>, explained: &ExplainedAsk<'_>) -> Result<(), AllocError> {
+fn push_ceilings(
+    entries: &mut Vec<LimitEntry>,
+    explained: &ExplainedRequest<'_>,
+) -> Result<(), AllocError> {
     let connector = explained.ask.connector as usize;
     if connector > 0 {
         if let Some(ceiling) = explained.view.ceilings.get(connector - 1) {
-            entries.push(Entry {
+            entries.push(LimitEntry {
                 cause: Cause::ConnectorCeiling,
-                line: Line::Level(*ceiling),
+                line: LimitLine::Level(*ceiling),
             })?;
         }
     }
-    entries.push(Entry {
+    entries.push(LimitEntry {
         cause: Cause::PointCeiling,
-        line: Line::Level(explained.view.ceiling),
+        line: LimitLine::Level(explained.view.ceiling),
     })?;
     Ok(())
 }

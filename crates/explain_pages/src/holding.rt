@@ -10,7 +10,7 @@ ghost use Rattle.meaning.specs.WhyNot.{is_elsewhere, lacks_transaction, is_hidde
 ghost use Rattle.meaning.specs.declared.cause.WhyNot.TheVariants.{PastDuration, BeforeFirstPeriod, BelowHigherLevel, BehindTxProfile};
 ghost use Rattle.explain_pages.specs.ByCases.Throughout.{IsSoUntil, Holds, Reaches};
 
-use crate::looked::Looked;
+use crate::row_at_connector::RowAtConnector;
 use meaning::has_its_transaction;
 use ocpp_scalars::{Instant, LAST_SECOND};
 use profile::{Kind, Profile, Purpose, Row, is_candidate};
@@ -19,7 +19,7 @@ use recurrence::{next_change, rate_at};
 /// The first second after the last instant.
 const END_OF_TIME: u64 = LAST_SECOND + 1;
 
-impl Looked<'_> {
+impl RowAtConnector<'_> {
     /// Returns whether the row is installed at another connector.
     pub(crate) fn is_elsewhere(&self) -> bool
         ensures { result ≡ is_elsewhere self.now.row.now.profile.purpose self.now.at

@@ -1,6 +1,6 @@
 //! The JSON of an explained schedule (RFC 8259), for programs.
 
-use crate::explained_ask::{ExplainedAsk, NotCounted};
+use crate::explained_request::{ExplainedRequest, NotCounted};
 use crate::words::{reason_name, sentence};
 use json::{Writer, is_number};
 use meaning::{Cause, PrevailingProfile, Share};
@@ -13,7 +13,7 @@ use sweep_compiler::Interval;
 /// `duration` in seconds, `intervals`, each with `start`, `end`, `limit`, `cause` and `shares`, and
 /// `notCounted`. Limits have one decimal, and instants are strings (RFC 3339). An `end` after the
 /// last instant is null.
-pub fn write_json(alloc: Global, explained: &ExplainedAsk<'_>) -> Result<String, AllocError> {
+pub fn write_json(alloc: Global, explained: &ExplainedRequest<'_>) -> Result<String, AllocError> {
     let mut line = JsonLine::new(alloc);
     line.out.begin_object()?;
     line.push_asked(explained)?;
@@ -60,7 +60,7 @@ impl JsonLine {
     }
 
     /// Appends the fields of the request.
-    fn push_asked(&mut self, explained: &ExplainedAsk<'_>) -> Result<(), AllocError> {
+    fn push_asked(&mut self, explained: &ExplainedRequest<'_>) -> Result<(), AllocError> {
         self.out.key("point")?;
         self.out.string(explained.point)?;
         self.out.key("connector")?;
@@ -75,7 +75,7 @@ impl JsonLine {
 
     fn push_interval(
         &mut self,
-        explained: &ExplainedAsk<'_>,
+        explained: &ExplainedRequest<'_>,
         interval: &Interval,
     ) -> Result<(), AllocError> {
         self.out.begin_object()?;

@@ -1,9 +1,9 @@
 //! The legend of a picture.
 
 use crate::causes::LOWER;
-use crate::drawing::{Sketch, ceiling_class, push_letter, push_style};
-use crate::entries::{Entry, Line};
-use crate::explained_ask::ExplainedAsk;
+use crate::drawing::{PictureInput, ceiling_class, push_letter, push_style};
+use crate::entries::{LimitEntry, LimitLine};
+use crate::explained_request::ExplainedRequest;
 use crate::markup::push_escaped;
 use crate::scale::{LEFT, Scale};
 use crate::steps::Steps;
@@ -27,7 +27,7 @@ pub(crate) fn lower_edge(entries: usize) -> u64 {
 pub(crate) fn push_legend(
     alloc: Global,
     out: &mut String,
-    sketch: Sketch<'_>,
+    sketch: PictureInput<'_>,
 ) -> Result<(), AllocError> {
     let mut text = String::from_str(alloc, "the limit")?;
     push_cut(alloc, &mut text, sketch.explained, sketch.limit)?;
@@ -53,7 +53,7 @@ fn middle_of(place: usize) -> u64 {
 fn push_entry(
     out: &mut String,
     place: usize,
-    entry: &Entry,
+    entry: &LimitEntry,
     middle: u64,
 ) -> Result<(), AllocError> {
     let base = middle.saturating_add(4);
@@ -61,14 +61,14 @@ fn push_entry(
     push_letter(out, place)?;
     out.push_str("</text>")?;
     match entry.line {
-        Line::Steps(_) => {
+        LimitLine::Steps(_) => {
             let (from, to) = (LEFT + 28, LEFT + 88);
             out.push_str("<path class=\"line ")?;
             push_style(out, place)?;
             write!(out, "\" d=\"M{from} {middle}H{to}\"/>")
         }
-        Line::Level(_) => push_sample(out, ceiling_class(entry), middle),
-        Line::Nothing => Ok(()),
+        LimitLine::Level(_) => push_sample(out, ceiling_class(entry), middle),
+        LimitLine::Nothing => Ok(()),
     }
 }
 
@@ -88,20 +88,20 @@ fn push_text(out: &mut String, text: &str, middle: u64) -> Result<(), AllocError
 /// Returns the name of an entry, with a note if the picture cuts its line or leaves it out.
 fn entry_text(
     alloc: Global,
-    explained: &ExplainedAsk<'_>,
+    explained: &ExplainedRequest<'_>,
     scale: Scale,
-    entry: &Entry,
+    entry: &LimitEntry,
 ) -> Result<String, AllocError> {
     let mut text = String::new(alloc);
     push_cause(&mut text, entry.cause)?;
-    if let Line::Level(limit) = entry.line {
+    if let LimitLine::Level(limit) = entry.line {
         text.push_str(", ")?;
         push_limit(&mut text, limit, explained.unit)?;
     }
     if scale.is_passed_by(&entry.line) {
         text.push_str(", above the picture")?;
     }
-    if let Line::Steps(steps) = &entry.line {
+    if let LimitLine::Steps(steps) = &entry.line {
         if scale.is_passed_by(&entry.line) {
             text.push_str(" where it is at its upper edge")?;
         }
@@ -114,7 +114,7 @@ fn entry_text(
 pub(crate) fn push_cut(
     alloc: Global,
     out: &mut String,
-    explained: &ExplainedAsk<'_>,
+    explained: &ExplainedRequest<'_>,
     steps: &Steps,
 ) -> Result<(), AllocError> {
     if steps.end >= explained.ask.duration {

@@ -1,7 +1,7 @@
 //! The letters at the lines of a picture, which don't overlap.
 
 use crate::drawing::push_letter;
-use crate::entries::{Entry, Line};
+use crate::entries::{LimitEntry, LimitLine};
 use crate::scale::{LEFT, RIGHT, Scale};
 use std::alloc::{AllocError, Global};
 
@@ -16,7 +16,7 @@ pub(crate) fn push_letters(
     alloc: Global,
     out: &mut String,
     scale: Scale,
-    entries: &[Entry],
+    entries: &[LimitEntry],
 ) -> Result<(), AllocError> {
     let mut spots = Vec::new(alloc);
     for (place, entry) in entries.iter().enumerate() {
@@ -34,12 +34,12 @@ pub(crate) fn push_letters(
 }
 
 /// Returns the spot above the start of a line, or at the right edge for a ceiling.
-fn beginning(scale: Scale, line: &Line) -> Option<(u64, u64)> {
+fn beginning(scale: Scale, line: &LimitLine) -> Option<(u64, u64)> {
     match line {
-        Line::Level(_) if scale.is_passed_by(line) => None,
-        Line::Level(limit) => Some((RIGHT - 22, above(scale, *limit))),
-        Line::Nothing => None,
-        Line::Steps(steps) => {
+        LimitLine::Level(_) if scale.is_passed_by(line) => None,
+        LimitLine::Level(limit) => Some((RIGHT - 22, above(scale, *limit))),
+        LimitLine::Nothing => None,
+        LimitLine::Steps(steps) => {
             for step in &steps.items {
                 if let Some(limit) = step.limit {
                     return Some((scale.x(step.second) + 6, above(scale, limit)));

@@ -6,12 +6,12 @@ ghost use Rattle.meaning.specs.View.{point_state};
 ghost use Rattle.explain_pages.specs.NotCounted.{is_of_one, is_of_active};
 ghost use Rattle.explain_pages.specs.ByCases.Throughout.{FoundConnector, FoundFailing, IsOf, IsThroughout, FailsSomewhere};
 
-use crate::explained_ask::NoPart;
-use crate::looked::{Looked, RowAsked};
+use crate::explained_request::NotCountedReason;
+use crate::row_at_connector::{RowAtConnector, RowInRequest};
 use ocpp_scalars::Instant;
 use profile::Purpose;
 
-impl RowAsked<'_> {
+impl RowInRequest<'_> {
     /// Returns the first connector for which the row is checked.
     pub(crate) fn first_connector(&self) -> Option<u32>
         ensures { FoundConnector self.now result }
@@ -33,7 +33,7 @@ impl RowAsked<'_> {
     }
 
     /// Returns the first second at which a reason fails, for the first connector where it does.
-    pub(crate) fn first_failing(&self, reason: NoPart) -> Option<Instant>
+    pub(crate) fn first_failing(&self, reason: NotCountedReason) -> Option<Instant>
         ensures { FoundFailing reason self.now result }
     {
         let asked = self.ask.connector;
@@ -55,21 +55,21 @@ impl RowAsked<'_> {
 
     /// Returns whether a reason holds at each second for each connector. If `BehindOthers` doesn't,
     /// the row prevails at some second.
-    pub(crate) fn is_throughout(&self, reason: NoPart) -> bool
+    pub(crate) fn is_throughout(&self, reason: NotCountedReason) -> bool
         ensures { MatchBool result (IsThroughout reason self.now) (FailsSomewhere reason self.now) }
     {
         self.first_failing(reason).is_none()
     }
 
     /// Returns the row as it is checked for a connector.
-    fn looked_at(&self, connector: u32) -> Looked<'_>
+    fn looked_at(&self, connector: u32) -> RowAtConnector<'_>
         ensures { IsOf self.now connector result }
     {
         let at = match self.row.profile.purpose {
             Purpose::ChargePointMaxProfile => 0,
             Purpose::TxDefaultProfile | Purpose::TxProfile => connector as usize,
         };
-        Looked {
+        RowAtConnector {
             view: self.view,
             ask: self.ask,
             place: self.place,

@@ -1,7 +1,7 @@
 //! The HTML page: the picture with the table below it.
 
 use crate::cells::{CellMaker, Cells};
-use crate::explained_ask::{ExplainedAsk, NotCounted};
+use crate::explained_request::{ExplainedRequest, NotCounted};
 use crate::markup::{push_element, push_escaped};
 use crate::picture::{push_more, push_picture};
 use crate::steps::MAX_INTERVALS;
@@ -14,7 +14,7 @@ use std::alloc::{AllocError, Global};
 /// Formats an explained schedule as a whole HTML file that loads nothing: the picture, the
 /// intervals in a table, and the profiles that never set the limit. The table has the first
 /// `MAX_INTERVALS`; a note counts the others.
-pub fn write_page(alloc: Global, explained: &ExplainedAsk<'_>) -> Result<String, AllocError> {
+pub fn write_page(alloc: Global, explained: &ExplainedRequest<'_>) -> Result<String, AllocError> {
     let mut out = String::new(alloc);
     let title = heading(alloc, explained, None)?;
     out.push_str("<!DOCTYPE html>\n<html lang=\"en\">\n<head>\n<meta charset=\"utf-8\">\n")?;
@@ -49,7 +49,7 @@ const HEAD: &str = r#"<h2 id="intervals">Each limit, and why</h2>
 fn push_table(
     alloc: Global,
     out: &mut String,
-    explained: &ExplainedAsk<'_>,
+    explained: &ExplainedRequest<'_>,
 ) -> Result<(), AllocError> {
     out.push_str(HEAD)?;
     let mut maker = CellMaker::new(explained, None);

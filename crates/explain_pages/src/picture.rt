@@ -2,9 +2,11 @@
 
 use crate::causes::push_causes;
 use crate::cells::CellMaker;
-use crate::drawing::{Sketch, push_entry_line, push_limit_axis, push_limit_line, push_time_axis};
+use crate::drawing::{
+    PictureInput, push_entry_line, push_limit_axis, push_limit_line, push_time_axis,
+};
 use crate::entries::entries_of;
-use crate::explained_ask::ExplainedAsk;
+use crate::explained_request::ExplainedRequest;
 use crate::legend::{lower_edge, push_legend};
 use crate::letters::push_letters;
 use crate::markup::{push_element, push_escaped};
@@ -24,7 +26,10 @@ const DESCRIBED: usize = 12;
 /// ceilings are drawn beneath it, each with its own dashes and a letter. A strip below the times
 /// names the cause of each limit. A profile's line has at most `MAX_STEPS` steps, and the limit's
 /// at most `MAX_INTERVALS`; the legend says where a line is cut.
-pub fn write_picture(alloc: Global, explained: &ExplainedAsk<'_>) -> Result<String, AllocError> {
+pub fn write_picture(
+    alloc: Global,
+    explained: &ExplainedRequest<'_>,
+) -> Result<String, AllocError> {
     let mut out = String::from_str(alloc, "<?xml version=\"1.0\" encoding=\"UTF-8\"?>\n")?;
     push_picture(alloc, &mut out, explained)?;
     Ok(out)
@@ -34,7 +39,7 @@ pub fn write_picture(alloc: Global, explained: &ExplainedAsk<'_>) -> Result<Stri
 pub(crate) fn push_picture(
     alloc: Global,
     out: &mut String,
-    explained: &ExplainedAsk<'_>,
+    explained: &ExplainedRequest<'_>,
 ) -> Result<(), AllocError> {
     let entries = entries_of(alloc, explained)?;
     let limit = interval_steps(alloc, explained)?;
@@ -47,7 +52,7 @@ pub(crate) fn push_picture(
         "<rect class=\"paper\" width=\"{BREADTH}\" height=\"{height}\"/>\n"
     )?;
     push_head(alloc, out, explained)?;
-    let sketch = Sketch {
+    let sketch = PictureInput {
         explained,
         scale: Scale::of(explained, entries.as_slice()),
         entries: entries.as_slice(),
@@ -69,7 +74,7 @@ fn push_opening(out: &mut String, height: u64) -> Result<(), AllocError> {
 fn push_description(
     alloc: Global,
     out: &mut String,
-    explained: &ExplainedAsk<'_>,
+    explained: &ExplainedRequest<'_>,
 ) -> Result<(), AllocError> {
     let title = heading(alloc, explained, None)?;
     push_element(
@@ -105,7 +110,7 @@ pub(crate) fn push_more(out: &mut String, count: usize, shown: usize) -> Result<
 fn push_head(
     alloc: Global,
     out: &mut String,
-    explained: &ExplainedAsk<'_>,
+    explained: &ExplainedRequest<'_>,
 ) -> Result<(), AllocError> {
     let head = place(alloc, explained)?;
     write!(out, "<text class=\"head\" x=\"{LEFT}\" y=\"30\">")?;
@@ -126,7 +131,11 @@ fn push_head(
 }
 
 /// Appends the axes, the lines, the letters, the causes and the legend.
-fn push_drawing(alloc: Global, out: &mut String, sketch: Sketch<'_>) -> Result<(), AllocError> {
+fn push_drawing(
+    alloc: Global,
+    out: &mut String,
+    sketch: PictureInput<'_>,
+) -> Result<(), AllocError> {
     let scale = sketch.scale;
     push_limit_axis(out, scale, sketch.explained.unit)?;
     push_time_axis(alloc, out, sketch.explained, scale)?;

@@ -2,8 +2,8 @@
 
 ghost use Rattle.std.specs.Prelude.{◌≤◌};
 
-use crate::entries::{Entry, Line};
-use crate::explained_ask::ExplainedAsk;
+use crate::entries::{LimitEntry, LimitLine};
+use crate::explained_request::ExplainedRequest;
 use crate::steps::Steps;
 use crate::table::largest_limit;
 use crate::ticks::limit_step;
@@ -36,7 +36,7 @@ impl Scale {
     /// Returns a scale that has room for the limits. It ignores a profile's steps and a ceiling
     /// above twice the largest limit: the ceiling is left out if it is above the plot, and the
     /// profile is drawn at the upper edge there.
-    pub(crate) fn of(explained: &ExplainedAsk<'_>, entries: &[Entry]) -> Scale {
+    pub(crate) fn of(explained: &ExplainedRequest<'_>, entries: &[LimitEntry]) -> Scale {
         let limit = largest_limit(explained);
         let bound = match limit {
             // Twice 0 would ignore every profile and ceiling.
@@ -78,21 +78,21 @@ impl Scale {
     }
 
     /// Returns whether a line goes above the upper edge.
-    pub(crate) fn is_passed_by(self, line: &Line) -> bool {
+    pub(crate) fn is_passed_by(self, line: &LimitLine) -> bool {
         match line {
-            Line::Level(limit) => u64::from(*limit) > self.top,
-            Line::Steps(steps) => u64::from(largest_step(steps, u32::MAX)) > self.top,
-            Line::Nothing => false,
+            LimitLine::Level(limit) => u64::from(*limit) > self.top,
+            LimitLine::Steps(steps) => u64::from(largest_step(steps, u32::MAX)) > self.top,
+            LimitLine::Nothing => false,
         }
     }
 }
 
 /// Returns the largest limit of a line that isn't above a bound, or 0.
-fn largest_within(line: &Line, bound: u32) -> u32 {
+fn largest_within(line: &LimitLine, bound: u32) -> u32 {
     match line {
-        Line::Level(limit) if *limit <= bound => *limit,
-        Line::Steps(steps) => largest_step(steps, bound),
-        Line::Level(_) | Line::Nothing => 0,
+        LimitLine::Level(limit) if *limit <= bound => *limit,
+        LimitLine::Steps(steps) => largest_step(steps, bound),
+        LimitLine::Level(_) | LimitLine::Nothing => 0,
     }
 }
 

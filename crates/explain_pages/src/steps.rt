@@ -3,7 +3,7 @@
 ghost use Rattle.std.specs.Prelude.{◌≤◌, IfOk, length};
 ghost use Rattle.explain_pages.specs.Limits.{max_steps};
 
-use crate::explained_ask::ExplainedAsk;
+use crate::explained_request::ExplainedRequest;
 use meaning::Ask;
 use ocpp_scalars::Instant;
 use profile::Profile;
@@ -19,7 +19,7 @@ pub const MAX_INTERVALS: usize = 20_000;
 
 /// The limit from a second on, if there is one.
 #[derive(Clone, Copy)]
-pub(crate) struct Step {
+pub(crate) struct LimitStep {
     /// Counted from the start of the request.
     pub(crate) second: u32,
     /// In tenths.
@@ -29,7 +29,7 @@ pub(crate) struct Step {
 /// Limits over the time of a request, each up to the next.
 #[derive(Drop)]
 pub(crate) struct Steps {
-    pub(crate) items: Vec<Step>,
+    pub(crate) items: Vec<LimitStep>,
     /// The first second after the last step: the duration of the request, or less if the steps were
     /// cut.
     pub(crate) end: u32,
@@ -54,7 +54,7 @@ pub(crate) fn profile_steps(
     let mut items = Vec::new(alloc);
     let mut instant = ask.start;
     for _ in 0..MAX_STEPS {
-        items.push(Step {
+        items.push(LimitStep {
             second: second_of(ask, instant),
             limit: rate_at(profile, base, instant),
         })?;
@@ -99,11 +99,11 @@ fn second_of(ask: &Ask, instant: Instant) -> u32 {
 /// Returns the limits of the intervals.
 pub(crate) fn interval_steps(
     alloc: Global,
-    explained: &ExplainedAsk<'_>,
+    explained: &ExplainedRequest<'_>,
 ) -> Result<Steps, AllocError> {
     let mut items = Vec::new(alloc);
     for interval in explained.intervals.iter().take(MAX_INTERVALS) {
-        items.push(Step {
+        items.push(LimitStep {
             second: interval.start,
             limit: Some(interval.reason.limit),
         })?;

@@ -4,7 +4,7 @@ ghost use Rattle.std.specs.Prelude.{◌≤◌};
 
 use crate::cells::{Cells, all_cells};
 use crate::clock::{ClockTime, needs_seconds, push_date, push_time};
-use crate::explained_ask::{ExplainedAsk, NotCounted};
+use crate::explained_request::{ExplainedRequest, NotCounted};
 use crate::words::{push_length, push_profile, sentence};
 use crate::wrapping::{Margins, push_left, push_lines, push_right, push_times};
 use crate::zone_clock::{ZoneClock, push_ahead};
@@ -21,7 +21,7 @@ const BAR: (usize, usize) = (8, 40);
 /// line is wider than that unless a word or an interval's numbers are.
 pub fn write_table(
     alloc: Global,
-    explained: &ExplainedAsk<'_>,
+    explained: &ExplainedRequest<'_>,
     columns: Option<usize>,
     zone: Option<ZoneClock<'_>>,
 ) -> Result<String, AllocError> {
@@ -37,7 +37,7 @@ pub fn write_table(
 fn push_heading(
     alloc: Global,
     out: &mut String,
-    explained: &ExplainedAsk<'_>,
+    explained: &ExplainedRequest<'_>,
     columns: Option<usize>,
     zone: Option<ZoneClock<'_>>,
 ) -> Result<(), AllocError> {
@@ -89,7 +89,7 @@ fn push_changes(
 /// Returns the point, the connector, and the start, the end and the length of the time.
 pub(crate) fn heading(
     alloc: Global,
-    explained: &ExplainedAsk<'_>,
+    explained: &ExplainedRequest<'_>,
     zone: Option<ZoneClock<'_>>,
 ) -> Result<String, AllocError> {
     let mut text = place(alloc, explained)?;
@@ -104,7 +104,7 @@ pub(crate) fn heading(
 }
 
 /// Returns the point and the connector in words.
-pub(crate) fn place(alloc: Global, explained: &ExplainedAsk<'_>) -> Result<String, AllocError> {
+pub(crate) fn place(alloc: Global, explained: &ExplainedRequest<'_>) -> Result<String, AllocError> {
     let mut text = String::from_str(alloc, explained.point)?;
     if explained.ask.connector == 0 {
         text.push_str(", connector 0 (the whole point)")?;
@@ -119,7 +119,7 @@ pub(crate) fn place(alloc: Global, explained: &ExplainedAsk<'_>) -> Result<Strin
 pub(crate) fn push_moment(
     alloc: Global,
     out: &mut String,
-    explained: &ExplainedAsk<'_>,
+    explained: &ExplainedRequest<'_>,
     zone: Option<ZoneClock<'_>>,
     second: u32,
 ) -> Result<(), AllocError> {
@@ -234,7 +234,7 @@ struct Sheet<'a> {
 fn push_intervals(
     alloc: Global,
     out: &mut String,
-    explained: &ExplainedAsk<'_>,
+    explained: &ExplainedRequest<'_>,
     columns: Option<usize>,
     zone: Option<ZoneClock<'_>>,
 ) -> Result<(), AllocError> {
@@ -260,7 +260,7 @@ fn push_intervals(
 }
 
 /// Returns the largest limit of the intervals, in tenths.
-pub(crate) fn largest_limit(explained: &ExplainedAsk<'_>) -> u32 {
+pub(crate) fn largest_limit(explained: &ExplainedRequest<'_>) -> u32 {
     let mut largest = 0;
     for interval in explained.intervals {
         largest = interval.reason.limit.max(largest);

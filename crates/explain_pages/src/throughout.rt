@@ -1,20 +1,20 @@
 //! How long a reason continues to hold for a row at a connector.
 
 ghost use Rattle.std.specs.Prelude.{IfSome, MatchOption};
-ghost use Rattle.explain_pages.specs.declared.explained_ask.NoPart.TheVariants.{NoLimit, BehindOthers};
+ghost use Rattle.explain_pages.specs.declared.explained_request.NotCountedReason.TheVariants.{NoLimit, BehindOthers};
 ghost use Rattle.explain_pages.specs.ByCases.Throughout.{IsSoUntil, Holds, Says, Fails, FirstFailing};
 
-use crate::explained_ask::NoPart;
+use crate::explained_request::NotCountedReason;
 use crate::holding::{always, before, rate_until};
-use crate::looked::Looked;
+use crate::row_at_connector::RowAtConnector;
 use meaning::{WhyNot, why_not};
 use ocpp_scalars::Instant;
 use recurrence::rate_at;
 
-impl Looked<'_> {
+impl RowAtConnector<'_> {
     /// Returns the first second of the request at which a reason fails, or `None` if it holds
     /// throughout. Where `BehindOthers` fails, the row prevails.
-    pub(crate) fn first_failing(&self, reason: NoPart) -> Option<Instant>
+    pub(crate) fn first_failing(&self, reason: NotCountedReason) -> Option<Instant>
         ensures { FirstFailing reason self.now result }
     {
         let end = self.ask.start.seconds() + u64::from(self.ask.duration);
@@ -33,16 +33,16 @@ impl Looked<'_> {
     }
 
     /// Returns until when a reason continues to hold, if it holds at an instant.
-    fn says_until(&self, reason: NoPart, instant: Instant) -> Option<u64>
+    fn says_until(&self, reason: NotCountedReason, instant: Instant) -> Option<u64>
         ensures { MatchOption result (Fails reason self.now instant)
             (IsSoUntil (Says reason self.now) instant) }
     {
         match reason {
-            NoPart::NotPrevailing(why) => self.holds_until(why, instant),
-            NoPart::NoLimit => self.no_limit_until(instant),
-            NoPart::BehindOthers => self.behind_until(instant),
+            NotCountedReason::NotPrevailing(why) => self.holds_until(why, instant),
+            NotCountedReason::NoLimit => self.no_limit_until(instant),
+            NotCountedReason::BehindOthers => self.behind_until(instant),
             // Neither of these makes a claim about each second.
-            NoPart::NotLeast | NoPart::NoActiveConnector => None,
+            NotCountedReason::NotLeast | NotCountedReason::NoActiveConnector => None,
         }
     }
 

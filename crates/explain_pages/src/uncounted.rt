@@ -6,9 +6,9 @@ ghost use Rattle.meaning.specs.View.{point_state};
 ghost use Rattle.explain_pages.specs.NotCounted.{IsReason, HasReason};
 ghost use Rattle.explain_pages.specs.ByCases.Throughout.{IsLookedAt};
 
-use crate::entries::{profile_of, telling_instant};
-use crate::explained_ask::{NoPart, NotCounted, is_named};
-use crate::looked::RowAsked;
+use crate::entries::{profile_of, reason_instant};
+use crate::explained_request::{NotCounted, NotCountedReason, is_named};
+use crate::row_at_connector::RowInRequest;
 use meaning::{Ask, View, WhyNot, why_not};
 use std::alloc::{AllocError, Global};
 use sweep_compiler::Interval;
@@ -39,7 +39,7 @@ fn not_counted_at(view: &View<'_>, ask: &Ask, place: usize) -> NotCounted
     ensures { HasReason (point_state view.now) ask.now result }
 {
     let row = &view.rows[place];
-    let asked = RowAsked {
+    let asked = RowInRequest {
         view: *view,
         ask: *ask,
         place,
@@ -51,48 +51,48 @@ fn not_counted_at(view: &View<'_>, ask: &Ask, place: usize) -> NotCounted
     }
 }
 
-impl RowAsked<'_> {
+impl RowInRequest<'_> {
     /// Returns the reason why the row never sets the limit.
-    fn reason(&self) -> NoPart
+    fn reason(&self) -> NotCountedReason
         ensures { IsReason result (point_state self.now.view) self.now.ask self.now.row.now }
     {
         match self.first_connector() {
             Some(connector) => self.reason_at(connector),
-            None => NoPart::NoActiveConnector,
+            None => NotCountedReason::NoActiveConnector,
         }
     }
 
     /// Returns the reason of a row that is checked for a connector: the most telling one there, if
     /// it holds throughout.
-    fn reason_at(&self, connector: u32) -> NoPart
-        requires looked { IsLookedAt self.now connector }
+    fn reason_at(&self, connector: u32) -> NotCountedReason
+        requires row_at_connector { IsLookedAt self.now connector }
         ensures { IsReason result (point_state self.now.view) self.now.ask self.now.row.now }
     {
-        let instant = telling_instant(&self.view, &self.ask, self.row);
+        let instant = reason_instant(&self.view, &self.ask, self.row);
         match why_not(&self.view, connector, self.ask.start, instant, self.place) {
-            Some(why) if self.is_throughout(NoPart::NotPrevailing(why)) => {
-                NoPart::NotPrevailing(why)
+            Some(why) if self.is_throughout(NotCountedReason::NotPrevailing(why)) => {
+                NotCountedReason::NotPrevailing(why)
             }
             _ => self.reason_of_many(connector),
         }
     }
 
     /// Returns the reason of a row for which no single reason is the most telling one throughout.
-    fn reason_of_many(&self, connector: u32) -> NoPart
-        requires looked { IsLookedAt self.now connector }
+    fn reason_of_many(&self, connector: u32) -> NotCountedReason
+        requires row_at_connector { IsLookedAt self.now connector }
         ensures { IsReason result (point_state self.now.view) self.now.ask self.now.row.now }
     {
-        let behind_tx = NoPart::NotPrevailing(WhyNot::BehindTxProfile);
+        let behind_tx = NotCountedReason::NotPrevailing(WhyNot::BehindTxProfile);
         // The row prevails at some second and sets no limit there, so another one is as low or
         // lower.
-        if !self.is_throughout(NoPart::BehindOthers) {
-            NoPart::NotLeast
+        if !self.is_throughout(NotCountedReason::BehindOthers) {
+            NotCountedReason::NotLeast
         } else if self.is_throughout(behind_tx) {
             behind_tx
-        } else if self.is_throughout(NoPart::NoLimit) {
-            NoPart::NoLimit
+        } else if self.is_throughout(NotCountedReason::NoLimit) {
+            NotCountedReason::NoLimit
         } else {
-            NoPart::BehindOthers
+            NotCountedReason::BehindOthers
         }
     }
 }

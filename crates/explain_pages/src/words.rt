@@ -1,6 +1,6 @@
 //! Limits, causes and reasons in words. This is the only place with the sentences of reasons.
 
-use crate::explained_ask::NoPart;
+use crate::explained_request::NotCountedReason;
 use crate::length::length_of;
 use meaning::{Cause, PrevailingProfile, Reason, Share, WhyNot};
 use messages::{purpose_name, unit_name};
@@ -9,13 +9,13 @@ use profile::Unit;
 use std::alloc::AllocError;
 
 /// Returns the name of a reason, as programs read it.
-pub(crate) fn reason_name(reason: NoPart) -> &'static str {
+pub(crate) fn reason_name(reason: NotCountedReason) -> &'static str {
     match reason {
-        NoPart::NotLeast => "NotLeast",
-        NoPart::NoActiveConnector => "NoActiveConnector",
-        NoPart::NoLimit => "NoLimit",
-        NoPart::BehindOthers => "BehindOthers",
-        NoPart::NotPrevailing(why) => why_not_name(why),
+        NotCountedReason::NotLeast => "NotLeast",
+        NotCountedReason::NoActiveConnector => "NoActiveConnector",
+        NotCountedReason::NoLimit => "NoLimit",
+        NotCountedReason::BehindOthers => "BehindOthers",
+        NotCountedReason::NotPrevailing(why) => why_not_name(why),
     }
 }
 
@@ -35,15 +35,16 @@ fn why_not_name(why: WhyNot) -> &'static str {
 }
 
 /// Returns the sentence for a reason.
-pub fn sentence(reason: NoPart) -> &'static str {
+pub fn sentence(reason: NotCountedReason) -> &'static str {
     match reason {
-        NoPart::NotLeast => "It prevails, but another limit is as low or lower.",
-        NoPart::NoActiveConnector => {
+        NotCountedReason::NotLeast => "It prevails, but another limit is as low or lower.",
+        NotCountedReason::NoActiveConnector => {
             "No connector for which it speaks has an active transaction."
         }
-        NoPart::NoLimit => "It has no limit in this time.",
-        NoPart::BehindOthers => "Whenever it has a limit, another profile comes before it.",
-        NoPart::NotPrevailing(why) => why_not_sentence(why),
+        NotCountedReason::NoLimit => "It has no limit in this time.",
+        NotCountedReason::BehindOthers =>
+            "Whenever it has a limit, another profile comes before it.",
+        NotCountedReason::NotPrevailing(why) => why_not_sentence(why),
     }
 }
 

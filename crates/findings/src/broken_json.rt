@@ -4,7 +4,7 @@
 ghost use Rattle.std.specs.Prelude.{◌≡◌, ◌↔◌, IfOk, IsSome, None};
 ghost use Rattle.ocppj_frame.specs.Read.{tree_of_text};
 
-use crate::json_fault::{JsonFault, Wanted};
+use crate::json_fault::{ExpectedToken, JsonFault};
 use crate::json_lexeme::{Break, begins_lexeme, is_blank, lexeme_end};
 use json::{Reader, Scratch, Token};
 use ocppj_frame::{FrameFault, ReadingMemory, read_tree};
@@ -20,7 +20,7 @@ struct Walk {
     /// The open objects (`true`) and lists.
     open: Vec<bool>,
     /// The token that has to come next.
-    wanted: Wanted,
+    wanted: ExpectedToken,
 }
 
 /// A token and its offsets.
@@ -53,7 +53,7 @@ pub fn first_break(alloc: Global, text: &str) -> Result<JsonFault, AllocError> {
     let mut reader = Reader::new(text, &mut scratch)?;
     let mut walk = Walk {
         open: Vec::new(alloc),
-        wanted: Wanted::Value,
+        wanted: ExpectedToken::Value,
     };
     // Each token has at least one byte, so this range ends the loop without a proof of its own.
     for _ in 0..text.len() {
@@ -119,7 +119,7 @@ impl Walk {
             Token::EndObject if self.may_end_object() => Ok(self.end(lexeme.comma)),
             Token::EndArray if self.may_end_list() => Ok(self.end(lexeme.comma)),
             Token::Key(_) if self.wants_name() => {
-                self.wanted = Wanted::Value;
+                self.wanted = ExpectedToken::Value;
                 Ok(None)
             }
             token if is_scalar(token) && self.wants_value() => Ok(self.end_value(lexeme.comma)),
@@ -130,20 +130,29 @@ impl Walk {
     fn wants_value(&self) -> bool {
         matches!(
             self.wanted,
-            Wanted::Value | Wanted::NextValue | Wanted::ValueOrEnd
+            ExpectedToken::Value | ExpectedToken::NextValue | ExpectedToken::ValueOrEnd
         )
     }
 
     fn wants_name(&self) -> bool {
-        matches!(self.wanted, Wanted::NameOrEnd | Wanted::NextName)
+        matches!(
+            self.wanted,
+            ExpectedToken::NameOrEnd | ExpectedToken::NextName
+        )
     }
 
     fn may_end_object(&self) -> bool {
-        matches!(self.wanted, Wanted::NameOrEnd | Wanted::CommaOrObjectEnd)
+        matches!(
+            self.wanted,
+            ExpectedToken::NameOrEnd | ExpectedToken::CommaOrObjectEnd
+        )
     }
 
     fn may_end_list(&self) -> bool {
-        matches!(self.wanted, Wanted::ValueOrEnd | Wanted::CommaOrListEnd)
+        matches!(
+            self.wanted,
+            ExpectedToken::ValueOrEnd | ExpectedToken::CommaOrListEnd
+        )
     }
 
     /// Opens an object or a list.
@@ -151,14 +160,14 @@ impl Walk {
         if self.open.len() >= MAX_DEPTH {
             return Ok(Some(Break {
                 offset: start,
-                wanted: Wanted::LessDepth,
+                wanted: ExpectedToken::LessDepth,
             }));
         }
         self.open.push(is_object)?;
         self.wanted = if is_object {
-            Wanted::NameOrEnd
+            ExpectedToken::NameOrEnd
         } else {
-            Wanted::ValueOrEnd
+            ExpectedToken::ValueOrEnd
         };
         Ok(None)
     }
@@ -177,18 +186,18 @@ impl Walk {
             return None;
         };
         self.wanted = match wanted {
-            Wanted::CommaOrObjectEnd => Wanted::NextName,
-            Wanted::CommaOrListEnd => Wanted::NextValue,
+            ExpectedToken::CommaOrObjectEnd => ExpectedToken::NextName,
+            ExpectedToken::CommaOrListEnd => ExpectedToken::NextValue,
             _ => return Some(Break { offset, wanted }),
         };
         None
     }
 
-    fn wanted_behind_value(&self) -> Wanted {
+    fn wanted_behind_value(&self) -> ExpectedToken {
         match self.open.last() {
-            Some(true) => Wanted::CommaOrObjectEnd,
-            Some(false) => Wanted::CommaOrListEnd,
-            None => Wanted::Nothing,
+            Some(true) => ExpectedToken::CommaOrObjectEnd,
+            Some(false) => ExpectedToken::CommaOrListEnd,
+            None => ExpectedToken::Nothing,
         }
     }
 
@@ -210,7 +219,7 @@ impl Walk {
             Ok(end) => Break {
                 offset: behind_blanks(bytes, end),
                 wanted: if self.wants_name() {
-                    Wanted::Colon
+                    ExpectedToken::Colon
                 } else {
                     self.wanted_behind_value()
                 },

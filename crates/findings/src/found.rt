@@ -35,7 +35,7 @@ pub fn field_message(
 ) -> Result<String, AllocError> {
     let field = expected.field;
     let wanted = expected.wanted;
-    let found = what_stands(alloc, value)?;
+    let found = describe_value(alloc, value)?;
     match expected.hint {
         // A field that is present is spelled right, so no other one is meant to be it.
         Some(hint) if value.is_none() => {
@@ -54,7 +54,7 @@ pub fn message_of(alloc: Global, found: &str, wanted: &str) -> Result<String, Al
 }
 
 /// Describes the value at a place.
-pub fn what_stands(alloc: Global, value: Option<Glance<'_>>) -> Result<String, AllocError> {
+pub fn describe_value(alloc: Global, value: Option<Glance<'_>>) -> Result<String, AllocError> {
     match value {
         None => String::from_str(alloc, "it is absent"),
         Some(Glance::Text(text)) => {

@@ -5,7 +5,7 @@ use std::fmt;
 
 /// The token or character wanted where a JSON text breaks.
 #[derive(Clone, Copy, PartialEq, Eq)]
-pub enum Wanted {
+pub enum ExpectedToken {
     Value,
     /// A value after a comma.
     NextValue,
@@ -41,28 +41,29 @@ pub struct JsonFault {
     pub offset: usize,
     /// The character, or none at the end of the text.
     pub found: Option<char>,
-    pub wanted: Wanted,
+    pub wanted: ExpectedToken,
 }
 
-impl fmt::Display for Wanted {
+impl fmt::Display for ExpectedToken {
     fn fmt<W: fmt::Write>(&self, f: &mut fmt::Formatter<W>) -> fmt::Result {
         f.write_str(match self {
-            Wanted::Value => "a value is wanted",
-            Wanted::NextValue => "a value is wanted behind the comma",
-            Wanted::ValueOrEnd => "a value or `]` is wanted",
-            Wanted::NameOrEnd => "a name in double quotes or `}` is wanted",
-            Wanted::NextName => "a name in double quotes is wanted behind the comma",
-            Wanted::Colon => "`:` is wanted behind the name",
-            Wanted::CommaOrObjectEnd => "`,` or `}` is wanted",
-            Wanted::CommaOrListEnd => "`,` or `]` is wanted",
-            Wanted::Nothing => "nothing more is wanted behind the value",
-            Wanted::Digit => "a digit is wanted in the number",
-            Wanted::Quote => "the closing quote of a string is wanted",
-            Wanted::Escape => "one of \" \\ / b f n r t u is wanted behind the backslash",
-            Wanted::HexDigit => "four digits of base 16 are wanted behind \\u",
-            Wanted::LowSurrogate => "both halves of a surrogate pair are wanted",
-            Wanted::NoControl => "an escape such as \\n is wanted for a control character",
-            Wanted::LessDepth => "at most 127 lists and objects inside one another are wanted",
+            ExpectedToken::Value => "a value is wanted",
+            ExpectedToken::NextValue => "a value is wanted behind the comma",
+            ExpectedToken::ValueOrEnd => "a value or `]` is wanted",
+            ExpectedToken::NameOrEnd => "a name in double quotes or `}` is wanted",
+            ExpectedToken::NextName => "a name in double quotes is wanted behind the comma",
+            ExpectedToken::Colon => "`:` is wanted behind the name",
+            ExpectedToken::CommaOrObjectEnd => "`,` or `}` is wanted",
+            ExpectedToken::CommaOrListEnd => "`,` or `]` is wanted",
+            ExpectedToken::Nothing => "nothing more is wanted behind the value",
+            ExpectedToken::Digit => "a digit is wanted in the number",
+            ExpectedToken::Quote => "the closing quote of a string is wanted",
+            ExpectedToken::Escape => "one of \" \\ / b f n r t u is wanted behind the backslash",
+            ExpectedToken::HexDigit => "four digits of base 16 are wanted behind \\u",
+            ExpectedToken::LowSurrogate => "both halves of a surrogate pair are wanted",
+            ExpectedToken::NoControl => "an escape such as \\n is wanted for a control character",
+            ExpectedToken::LessDepth =>
+                "at most 127 lists and objects inside one another are wanted",
         })
     }
 }
@@ -99,7 +100,7 @@ fn is_printable(character: char) -> bool {
 /// Returns the cure of a common mistake.
 fn hint_of(fault: &JsonFault) -> Option<&'static str> {
     match (fault.wanted, fault.found?) {
-        (Wanted::NextValue, ']') | (Wanted::NextName, '}') => Some(
+        (ExpectedToken::NextValue, ']') | (ExpectedToken::NextName, '}') => Some(
             "the comma before it is one too many",
         ),
         (_, '\'') => Some("JSON strings have double quotes"),
@@ -107,11 +108,13 @@ fn hint_of(fault: &JsonFault) -> Option<&'static str> {
             { Some("a typographic quote; JSON has the straight one") }
         (_, '\u{feff}') => Some("a byte order mark; save the file without it"),
         (_, '\u{a0}') => Some("a no-break space; JSON has the ordinary space alone"),
-        (Wanted::NoControl | Wanted::Quote, _) => None,
+        (ExpectedToken::NoControl | ExpectedToken::Quote, _) => None,
         (_, '#' | '/') => Some("JSON has no comments"),
-        (Wanted::Digit, '.') => Some("a digit stands before the point"),
-        (Wanted::Value, 'N' | 'T' | 'F' | 'u') => Some("true, false and null are written small"),
-        (Wanted::CommaOrObjectEnd | Wanted::CommaOrListEnd, '"' | '{' | '[') => {
+        (ExpectedToken::Digit, '.') => Some("a digit stands before the point"),
+        (ExpectedToken::Value, 'N' | 'T' | 'F' | 'u') => Some(
+            "true, false and null are written small",
+        ),
+        (ExpectedToken::CommaOrObjectEnd | ExpectedToken::CommaOrListEnd, '"' | '{' | '[') => {
             Some("a comma is missing before it")
         }
         _ => None,

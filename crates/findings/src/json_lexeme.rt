@@ -1,13 +1,13 @@
 //! Finds the end of a string, a number or a literal of JSON (RFC 8259), or its break. Offsets count
 //! bytes.
 
-use crate::json_fault::Wanted;
+use crate::json_fault::ExpectedToken;
 
 /// The offset at which a text breaks, and the token or character wanted there.
 #[derive(Clone, Copy)]
 pub(crate) struct Break {
     pub offset: usize,
-    pub wanted: Wanted,
+    pub wanted: ExpectedToken,
 }
 
 pub(crate) fn is_blank(byte: u8) -> bool {
@@ -35,7 +35,7 @@ fn byte_at(bytes: &[u8], offset: usize) -> u8 {
     bytes.get(offset).copied().unwrap_or(0)
 }
 
-fn broken<T>(offset: usize, wanted: Wanted) -> Result<T, Break> {
+fn broken<T>(offset: usize, wanted: ExpectedToken) -> Result<T, Break> {
     Err(Break { offset, wanted })
 }
 
@@ -44,7 +44,7 @@ fn word_end(bytes: &[u8], start: usize, word: &[u8]) -> Result<usize, Break> {
     let mut offset = start;
     for letter in word {
         if byte_at(bytes, offset) != *letter {
-            return broken(offset, Wanted::Value);
+            return broken(offset, ExpectedToken::Value);
         }
         offset = offset.saturating_add(1);
     }
@@ -86,7 +86,7 @@ fn digits_end(bytes: &[u8], start: usize) -> Result<usize, Break> {
         offset = offset.saturating_add(1);
     }
     if offset == start {
-        return broken(offset, Wanted::Digit);
+        return broken(offset, ExpectedToken::Digit);
     }
     Ok(offset)
 }
@@ -100,11 +100,11 @@ fn string_end(bytes: &[u8], start: usize) -> Result<usize, Break> {
             None => break,
             Some(b'"') => return Ok(offset.saturating_add(1)),
             Some(b'\\') => offset = escape_end(bytes, offset)?,
-            Some(0..=0x1f) => return broken(offset, Wanted::NoControl),
+            Some(0..=0x1f) => return broken(offset, ExpectedToken::NoControl),
             Some(_) => offset = offset.saturating_add(1),
         }
     }
-    broken(bytes.len(), Wanted::Quote)
+    broken(bytes.len(), ExpectedToken::Quote)
 }
 
 /// Returns the end of an escape, from the offset of its backslash.
@@ -115,8 +115,8 @@ fn escape_end(bytes: &[u8], start: usize) -> Result<usize, Break> {
         Some(b'"' | b'\\' | b'/' | b'b' | b'f' | b'n' | b'r' | b't') => {
             Ok(letter.saturating_add(1))
         }
-        Some(_) => broken(letter, Wanted::Escape),
-        None => broken(letter, Wanted::Quote),
+        Some(_) => broken(letter, ExpectedToken::Escape),
+        None => broken(letter, ExpectedToken::Quote),
     }
 }
 
@@ -126,7 +126,7 @@ fn escape_end(bytes: &[u8], start: usize) -> Result<usize, Break> {
 fn surrogates_end(bytes: &[u8], start: usize) -> Result<usize, Break> {
     let end = start.saturating_add(4);
     match code_at(bytes, start)? {
-        0xdc00..=0xdfff => broken(end.saturating_sub(1), Wanted::LowSurrogate),
+        0xdc00..=0xdfff => broken(end.saturating_sub(1), ExpectedToken::LowSurrogate),
         0xd800..=0xdbff => low_surrogate_end(bytes, end),
         _ => Ok(end),
     }
@@ -138,14 +138,14 @@ fn low_surrogate_end(bytes: &[u8], start: usize) -> Result<usize, Break> {
     for wanted in b"\\u" {
         match bytes.get(offset) {
             Some(byte) if byte == wanted => offset = offset.saturating_add(1),
-            Some(_) => return broken(offset, Wanted::LowSurrogate),
-            None => return broken(offset, Wanted::Quote),
+            Some(_) => return broken(offset, ExpectedToken::LowSurrogate),
+            None => return broken(offset, ExpectedToken::Quote),
         }
     }
     let end = offset.saturating_add(4);
     match code_at(bytes, offset)? {
         0xdc00..=0xdfff => Ok(end),
-        _ => broken(end.saturating_sub(1), Wanted::LowSurrogate),
+        _ => broken(end.saturating_sub(1), ExpectedToken::LowSurrogate),
     }
 }
 
@@ -155,10 +155,10 @@ fn code_at(bytes: &[u8], start: usize) -> Result<u32, Break> {
     let mut offset = start;
     for _ in 0..4 {
         let Some(byte) = bytes.get(offset) else {
-            return broken(offset, Wanted::Quote);
+            return broken(offset, ExpectedToken::Quote);
         };
         let Some(digit) = char::from(*byte).to_digit(16) else {
-            return broken(offset, Wanted::HexDigit);
+            return broken(offset, ExpectedToken::HexDigit);
         };
         code = ((code & 0xfff) << 4) | digit;
         offset = offset.saturating_add(1);

@@ -34,14 +34,14 @@ pub struct Part {
 #[derive(Drop)]
 pub struct Outline {
     pub parts: Vec<Part>,
-    open: Vec<Open>,
+    open: Vec<OpenPart>,
     /// The name read last.
     name: Span,
 }
 
 /// An object or a list that isn't closed yet.
 #[derive(Clone, Copy)]
-struct Open {
+struct OpenPart {
     is_object: bool,
     /// Its index among the parts.
     part: usize,
@@ -94,7 +94,7 @@ impl Outline {
     fn begin_parts(&mut self, is_object: bool) -> Result<(), AllocError> {
         let part = self.parts.len();
         self.add_part()?;
-        self.open.push(Open {
+        self.open.push(OpenPart {
             is_object,
             part,
             entries: 0,

@@ -2,10 +2,10 @@
 
 use crate::broken_json::first_break;
 use crate::finding::{Finding, Location};
-use crate::found::{ExpectedField, Glance, field_message, message_of, what_stands};
+use crate::found::{ExpectedField, Glance, describe_value, field_message, message_of};
 use crate::json_fault::json_fault_text;
 use crate::site_fields::{SiteNames, site_names};
-use crate::site_json::{Verdict, verdict_on};
+use crate::site_json::{JsonVerdict, verdict_on};
 use crate::site_parts::{PartFault, glance_from, read_glance};
 use crate::site_points::{PointsPart, read_points};
 use crate::text_place::place_in_text;
@@ -81,10 +81,10 @@ fn check_site_text(alloc: Global, text: &str) -> Result<Vec<Finding>, AllocError
 /// Returns whether a tree can be read from a text.
 fn is_json(alloc: Global, text: &str, marked: &str) -> Result<bool, AllocError> {
     match verdict_on(alloc, marked)? {
-        Verdict::Json => Ok(true),
-        Verdict::NotJson => Ok(false),
+        JsonVerdict::Json => Ok(true),
+        JsonVerdict::NotJson => Ok(false),
         // Only a tree decides this, which takes many times the file's size; such files are rare.
-        Verdict::Unsure => match read_site(alloc, text.as_bytes()) {
+        JsonVerdict::Unsure => match read_site(alloc, text.as_bytes()) {
             Err(SiteFault::OutOfMemory) => Err(AllocError),
             Err(SiteFault::NotJson) => Ok(false),
             Ok(_) | Err(_) => Ok(true),
@@ -118,7 +118,7 @@ fn check_marked(
 }
 
 fn not_an_object(alloc: Global, value: Glance<'_>) -> Result<Finding, AllocError> {
-    let found = what_stands(alloc, Some(value))?;
+    let found = describe_value(alloc, Some(value))?;
     let wanted = "an object such as {\"unit\":\"A\",\"points\":[..]}";
     let message = message_of(alloc, &found, wanted)?;
     Ok(site_fault(SiteFault::NotAnObject, message))

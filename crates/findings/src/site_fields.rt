@@ -61,7 +61,7 @@ enum Owner {
 
 /// An object or a list that isn't closed yet.
 #[derive(Clone, Copy)]
-struct Open {
+struct OpenPart {
     owner: Owner,
     /// The number of a list's entries that have begun.
     entries: usize,
@@ -74,7 +74,7 @@ struct Open {
 struct Walk<'text> {
     alloc: Global,
     text: &'text str,
-    open: Vec<Open>,
+    open: Vec<OpenPart>,
     /// The name read last.
     name: Span,
     names: SiteNames<'text>,
@@ -163,7 +163,7 @@ impl<'text> Walk<'text> {
     /// Opens an object or a list.
     fn begin(&mut self, owner: Owner) -> Result<(), AllocError> {
         self.count_entry();
-        self.open.push(Open {
+        self.open.push(OpenPart {
             owner,
             entries: 0,
             seen: [false; 3],

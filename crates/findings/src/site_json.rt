@@ -12,7 +12,7 @@ const MAX_DEPTH: usize = 127;
 
 /// Whether a tree can be read from a text.
 #[derive(Clone, Copy, PartialEq, Eq)]
-pub(crate) enum Verdict {
+pub(crate) enum JsonVerdict {
     Json,
     /// It is no JSON, or has a malformed number.
     NotJson,
@@ -22,24 +22,24 @@ pub(crate) enum Verdict {
 
 /// Returns whether a tree can be read from a marked text. Of duplicate fields the last one counts,
 /// so the earlier ones may have malformed numbers.
-pub(crate) fn verdict_on(alloc: Global, marked: &str) -> Result<Verdict, AllocError> {
+pub(crate) fn verdict_on(alloc: Global, marked: &str) -> Result<JsonVerdict, AllocError> {
     let mut scratch = Scratch::new(alloc);
     let mut reader = Reader::new(marked, &mut scratch)?;
     match judge_value(&mut reader, MAX_DEPTH) {
         Ok(verdict) if reader.next().is_none() => Ok(verdict),
-        Ok(_) | Err(_) => Ok(Verdict::NotJson),
+        Ok(_) | Err(_) => Ok(JsonVerdict::NotJson),
     }
 }
 
 /// Reads the next value. An error means that the text breaks elsewhere than in a number.
 #[cycle(judge)]
-fn judge_value(reader: &mut Reader<'_>, depth: usize) -> Result<Verdict, Invalid>
+fn judge_value(reader: &mut Reader<'_>, depth: usize) -> Result<JsonVerdict, Invalid>
     ensures shorter { OnOk result (length reader.new < length reader.old) }
 {
     let token = reader.next().ok_or(Invalid)?;
     match token {
         Token::String(marked) => Ok(judge_string(marked)),
-        Token::Bool(_) | Token::Null => Ok(Verdict::Json),
+        Token::Bool(_) | Token::Null => Ok(JsonVerdict::Json),
         Token::BeginArray if depth > 0 => judge_items(reader, depth - 1),
         Token::BeginObject if depth > 0 => judge_members(reader, depth - 1),
         _ => Err(Invalid),
@@ -47,31 +47,31 @@ fn judge_value(reader: &mut Reader<'_>, depth: usize) -> Result<Verdict, Invalid
 }
 
 /// Judges a marked string: a number by its grammar, a text not at all.
-fn judge_string(marked: &str) -> Verdict {
+fn judge_string(marked: &str) -> JsonVerdict {
     match after_mark(marked, b'n') {
-        Some(number) if !is_number_text(number) => Verdict::NotJson,
-        _ => Verdict::Json,
+        Some(number) if !is_number_text(number) => JsonVerdict::NotJson,
+        _ => JsonVerdict::Json,
     }
 }
 
 #[cycle(judge)]
-fn judge_items(reader: &mut Reader<'_>, depth: usize) -> Result<Verdict, Invalid>
+fn judge_items(reader: &mut Reader<'_>, depth: usize) -> Result<JsonVerdict, Invalid>
     ensures shorter { OnOk result (length reader.new < length reader.old) }
 {
-    let mut verdict = Verdict::Json;
+    let mut verdict = JsonVerdict::Json;
     while !reader.take_end_array() {
         let item = judge_value(reader, depth)?;
         verdict = match (verdict, item) {
-            (Verdict::NotJson, _) | (_, Verdict::NotJson) => Verdict::NotJson,
-            (Verdict::Unsure, _) | (_, Verdict::Unsure) => Verdict::Unsure,
-            (Verdict::Json, Verdict::Json) => Verdict::Json,
+            (JsonVerdict::NotJson, _) | (_, JsonVerdict::NotJson) => JsonVerdict::NotJson,
+            (JsonVerdict::Unsure, _) | (_, JsonVerdict::Unsure) => JsonVerdict::Unsure,
+            (JsonVerdict::Json, JsonVerdict::Json) => JsonVerdict::Json,
         };
     }
     Ok(verdict)
 }
 
 #[cycle(judge)]
-fn judge_members(reader: &mut Reader<'_>, depth: usize) -> Result<Verdict, Invalid>
+fn judge_members(reader: &mut Reader<'_>, depth: usize) -> Result<JsonVerdict, Invalid>
     ensures shorter { OnOk result (length reader.new < length reader.old) }
 {
     let mut members = Members {
@@ -100,7 +100,7 @@ struct Members<'a> {
 
 impl<'a> Members<'a> {
     /// Takes the next member.
-    fn take(&mut self, key: &'a str, value: Verdict) {
+    fn take(&mut self, key: &'a str, value: JsonVerdict) {
         if after_mark(key, b's').is_none() {
             self.has_broken_key = true;
         }
@@ -108,19 +108,19 @@ impl<'a> Members<'a> {
             self.broken = None;
         }
         match value {
-            Verdict::Json => {}
-            Verdict::NotJson if self.broken.is_none() => self.broken = Some(key),
-            Verdict::NotJson | Verdict::Unsure => self.is_unsure = true,
+            JsonVerdict::Json => {}
+            JsonVerdict::NotJson if self.broken.is_none() => self.broken = Some(key),
+            JsonVerdict::NotJson | JsonVerdict::Unsure => self.is_unsure = true,
         }
     }
 
-    fn verdict(self) -> Verdict {
+    fn verdict(self) -> JsonVerdict {
         if self.has_broken_key || self.broken.is_some() {
-            Verdict::NotJson
+            JsonVerdict::NotJson
         } else if self.is_unsure {
-            Verdict::Unsure
+            JsonVerdict::Unsure
         } else {
-            Verdict::Json
+            JsonVerdict::Json
         }
     }
 }

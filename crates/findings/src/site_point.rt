@@ -3,7 +3,7 @@
 ghost use Rattle.std.specs.Prelude.{◌<◌, OnOk, length};
 
 use crate::finding::{Finding, Location};
-use crate::found::{ExpectedField, Glance, LIMIT, field_message, message_of, what_stands};
+use crate::found::{ExpectedField, Glance, LIMIT, describe_value, field_message, message_of};
 use crate::site_fields::SiteNames;
 use crate::site_parts::{PartFault, glance_from, read_glance};
 use crate::site_points::{CheckedPoints, MAX_FOUND};
@@ -141,7 +141,7 @@ impl Connectors {
         self.together = None;
         // One message more than are kept makes `CheckedPoints` warn that there are more.
         if self.wrong.len() <= MAX_FOUND {
-            let found = what_stands(alloc, Some(value))?;
+            let found = describe_value(alloc, Some(value))?;
             let found = format!(in alloc; "connectors[{place}]: {found}")?;
             self.wrong.push(message_of(alloc, &found, LIMIT)?)?;
         }

@@ -3,7 +3,7 @@
 ghost use Rattle.std.specs.Prelude.{◌<◌, OnOk, length};
 
 use crate::finding::{Finding, Location};
-use crate::found::{Glance, message_of, what_stands};
+use crate::found::{Glance, describe_value, message_of};
 use crate::site_fields::SiteNames;
 use crate::site_parts::{PartFault, glance_from, read_glance};
 use crate::site_point::{check_point, read_point};
@@ -136,7 +136,7 @@ fn check_entry(
         return Ok(());
     }
     let value = glance_from(token, reader)?;
-    let found = what_stands(points.alloc, Some(value))?;
+    let found = describe_value(points.alloc, Some(value))?;
     let message = message_of(
         points.alloc,
         &found,

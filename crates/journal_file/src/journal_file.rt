@@ -5,9 +5,9 @@ ghost use Rattle.journal.specs.Account.{Covers};
 ghost use Rattle.journal.specs.MadeStep.{IsOfMadeStep};
 ghost use Rattle.version_store.specs.Recording.{IsAt};
 
+use crate::log_lines::LogLines;
 use crate::reserve_file::ReserveFile;
 use crate::restored_journal::RestoredJournal;
-use crate::said_lines::SaidLines;
 use append_log::{LogFault, SystemFile};
 use ghost_list::{ListName, Unnamed};
 use journal::{
@@ -51,7 +51,7 @@ pub struct JournalFile<R, N: ListName> {
     writer_done: Condvar,
     /// `until_broken` waits here until the journal is broken.
     broken: Condvar,
-    said: SaidLines,
+    said: LogLines,
 }
 
 /// The entries noted but not yet taken for writing, and the state of the file.
@@ -79,7 +79,7 @@ struct WrittenLines<N: ListName> {
 
 /// The outcome of an attempt that put every noted entry on disk.
 #[derive(Drop)]
-enum Kept {
+enum SyncOutcome {
     All,
     /// The device has room again.
     AllAndRoom,
@@ -89,7 +89,7 @@ enum Kept {
 
 /// Why lines aren't on disk.
 #[derive(Drop)]
-enum KeepFault {
+enum SyncError {
     Log(LogFault),
     OutOfMemory,
     /// The noted entries don't continue from the written ones. This never happens.
@@ -99,15 +99,15 @@ enum KeepFault {
 /// The message about a journal in which a step is missing.
 const STEP_MISSING: &str = "a step was made that wasn't noted";
 
-impl From<LogFault> for KeepFault {
-    fn from(fault: LogFault) -> KeepFault {
-        KeepFault::Log(fault)
+impl From<LogFault> for SyncError {
+    fn from(fault: LogFault) -> SyncError {
+        SyncError::Log(fault)
     }
 }
 
-impl From<AllocError> for KeepFault {
-    fn from(_: AllocError) -> KeepFault {
-        KeepFault::OutOfMemory
+impl From<AllocError> for SyncError {
+    fn from(_: AllocError) -> SyncError {
+        SyncError::OutOfMemory
     }
 }
 
@@ -152,7 +152,7 @@ impl<R: Wait + Clock + Eprint + AllocGlobal + Drop, N: ListName> JournalFile<R, 
             written: Mutex::new(written),
             writer_done: Condvar::new(),
             broken: Condvar::new(),
-            said: SaidLines::new(alloc),
+            said: LogLines::new(alloc),
         })
     }
 
@@ -164,7 +164,7 @@ impl<R: Wait + Clock + Eprint + AllocGlobal + Drop, N: ListName> JournalFile<R, 
     /// Waits until all lines that lead to these states are on disk. One session writes and syncs
     /// for all that wait. When it is done, the sessions whose entries it wrote continue, and one of
     /// the others writes.
-    fn keep_up_to(&self, recorded: &RecordedStates<N>) -> Result<Receipt<N>, JournalFault>
+    fn sync_up_to(&self, recorded: &RecordedStates<N>) -> Result<Receipt<N>, JournalFault>
         ensures { IfOk result (λ receipt. Covers N.is_recorded receipt recorded.now) }
     {
         let noted = self.noted.lock(&self.rt);
@@ -221,28 +221,28 @@ impl<R: Wait + Clock + Eprint + AllocGlobal + Drop, N: ListName> JournalFile<R, 
     /// journal before another thread can get the file.
     fn keep_with(&self, written: &mut WrittenLines<N>) -> Result<(), JournalFault> {
         match self.try_to_keep(written) {
-            Ok(Kept::All) => Ok(()),
-            Ok(Kept::AllAndRoom) => {
+            Ok(SyncOutcome::All) => Ok(()),
+            Ok(SyncOutcome::AllAndRoom) => {
                 self.turn(JournalState::Open, &"there is room again");
                 Ok(())
             }
-            Ok(Kept::AllButFull(error)) => {
+            Ok(SyncOutcome::AllButFull(error)) => {
                 self.turn(JournalState::Full, &error);
                 Ok(())
             }
-            Err(KeepFault::OutOfMemory) => Err(JournalFault::OutOfMemory),
-            Err(KeepFault::Log(LogFault::FailedBefore)) => Err(JournalFault::Unwritable),
-            Err(KeepFault::Log(LogFault::Full(error))) => {
+            Err(SyncError::OutOfMemory) => Err(JournalFault::OutOfMemory),
+            Err(SyncError::Log(LogFault::FailedBefore)) => Err(JournalFault::Unwritable),
+            Err(SyncError::Log(LogFault::Full(error))) => {
                 self.turn(JournalState::Full, &error);
                 Err(JournalFault::Unwritable)
             }
-            Err(KeepFault::Log(LogFault::Failed(error))) => {
+            Err(SyncError::Log(LogFault::Failed(error))) => {
                 // A failed write or sync leaves the contents of the file unknown, so it is never
                 // retried.
                 self.turn(JournalState::Broken, &error);
                 Err(JournalFault::Unwritable)
             }
-            Err(KeepFault::StepMissing) => {
+            Err(SyncError::StepMissing) => {
                 self.turn(JournalState::Broken, &STEP_MISSING);
                 Err(JournalFault::Unwritable)
             }
@@ -250,7 +250,7 @@ impl<R: Wait + Clock + Eprint + AllocGlobal + Drop, N: ListName> JournalFile<R, 
     }
 
     /// Writes and syncs everything noted by now.
-    fn try_to_keep(&self, written: &mut WrittenLines<N>) -> Result<Kept, KeepFault> {
+    fn try_to_keep(&self, written: &mut WrittenLines<N>) -> Result<SyncOutcome, SyncError> {
         // Entries whose lines failed for lack of memory come first.
         written.steps.add_lines(FREE_ENTRIES)?;
         self.take_noted(written)?;
@@ -270,8 +270,8 @@ impl<R: Wait + Clock + Eprint + AllocGlobal + Drop, N: ListName> JournalFile<R, 
         let was_full = noted.state == JournalState::Full;
         drop(noted);
         // While the device is full, no entry is noted, so there is time to fill the reserve.
-        if was_full && matches!(kept, Kept::All) && written.reserve.fill() {
-            return Ok(Kept::AllAndRoom);
+        if was_full && matches!(kept, SyncOutcome::All) && written.reserve.fill() {
+            return Ok(SyncOutcome::AllAndRoom);
         }
         Ok(kept)
     }
@@ -285,23 +285,28 @@ impl<R: Wait + Clock + Eprint + AllocGlobal + Drop, N: ListName> JournalFile<R, 
     }
 
     /// Takes the entries noted by now. Those taken before already have their lines.
-    fn take_noted(&self, written: &mut WrittenLines<N>) -> Result<(), KeepFault> {
+    fn take_noted(&self, written: &mut WrittenLines<N>) -> Result<(), SyncError> {
         let mut noted = self.noted.lock(&self.rt);
         if written.steps.take(&mut noted.steps) {
             Ok(())
         } else {
-            Err(KeepFault::StepMissing)
+            Err(SyncError::StepMissing)
         }
     }
 
     /// Sets the state of the journal, and reports the reason if the state is new.
     fn turn<W: Display>(&self, state: JournalState, why: &W) {
-        self.turn_noted(&mut self.noted.lock(&self.rt), state, why);
+        self.set_state_locked(&mut self.noted.lock(&self.rt), state, why);
     }
 
     /// Does the same with `noted` already locked. A broken journal stays broken. The reason is
     /// among the lines to print before `until_broken` wakes.
-    fn turn_noted<W: Display>(&self, noted: &mut NotedEntries<N>, state: JournalState, why: &W) {
+    fn set_state_locked<W: Display>(
+        &self,
+        noted: &mut NotedEntries<N>,
+        state: JournalState,
+        why: &W,
+    ) {
         if noted.state != state && noted.state != JournalState::Broken {
             noted.state = state;
             if let Ok(line) = self.line_of(why) {
@@ -334,7 +339,7 @@ impl<R: Wait + Clock + Eprint + AllocGlobal + Drop, N: ListName> JournalFile<R, 
     }
 
     /// Writes the lines about the journal that wait by now.
-    pub(crate) fn write_said(&self) {
+    pub(crate) fn write_log_lines(&self) {
         self.said.write_waiting(&self.rt);
     }
 }
@@ -375,14 +380,14 @@ impl<N: ListName> WrittenLines<N> {
 
     /// Writes the lines that aren't in the file, and syncs it. If the device is full, gives up the
     /// reserve for them.
-    fn write_and_sync(&mut self) -> Result<(Receipt<N>, Kept), KeepFault> {
+    fn write_and_sync(&mut self) -> Result<(Receipt<N>, SyncOutcome), SyncError> {
         match self.steps.write_and_sync() {
-            Ok(receipt) => Ok((receipt, Kept::All)),
+            Ok(receipt) => Ok((receipt, SyncOutcome::All)),
             Err(LogFault::Full(error)) if self.reserve.give_up() => {
                 let receipt = self.steps.write_and_sync()?;
-                Ok((receipt, Kept::AllButFull(error)))
+                Ok((receipt, SyncOutcome::AllButFull(error)))
             }
-            Err(fault) => Err(KeepFault::Log(fault)),
+            Err(fault) => Err(SyncError::Log(fault)),
         }
     }
 }
@@ -423,7 +428,7 @@ impl<R: Wait + Clock + Eprint + AllocGlobal + Drop, N: ListName> Journal<N> for 
         // The step's lock on the book is still held: a session that sees its state sees this too.
         self.is_kept.store(false, Ordering::SeqCst);
         if !noted.steps.note(step) {
-            self.turn_noted(&mut noted, JournalState::Broken, &STEP_MISSING);
+            self.set_state_locked(&mut noted, JournalState::Broken, &STEP_MISSING);
         }
     }
 
@@ -436,7 +441,7 @@ impl<R: Wait + Clock + Eprint + AllocGlobal + Drop, N: ListName> Journal<N> for 
             return Ok(receipt);
         }
         drop(noted);
-        self.keep_up_to(recorded)
+        self.sync_up_to(recorded)
     }
 
     fn write_out(&self) -> Result<(), JournalFault> {

@@ -40,7 +40,7 @@ pub struct JournalLines {
 
 /// A part of a journal's lines. Each line is whole, and notes a step.
 #[derive(Clone, Copy)]
-pub struct Lines<'a> {
+pub struct JournalPart<'a> {
     /// The number of the first line, counted from 1 over all lines of the journal.
     pub first: u64,
     pub bytes: &'a [u8],
@@ -67,7 +67,7 @@ impl JournalLines {
         &mut self,
         rt: &R,
         journal: &mut NamedFile,
-    ) -> Result<Option<Lines<'_>>, FolderFault> {
+    ) -> Result<Option<JournalPart<'_>>, FolderFault> {
         let mut has_steps = false;
         // Each turn but the last one reads a part of the file, or a line that names a site file.
         for _turn in 0..u64::MAX {
@@ -87,7 +87,7 @@ impl JournalLines {
         let bytes = self.steps.as_slice();
         self.count = self.count.saturating_add(count_lines(bytes));
         self.length = self.length.saturating_add(bytes.len() as u64);
-        Ok(Some(Lines { first, bytes }))
+        Ok(Some(JournalPart { first, bytes }))
     }
 
     /// Returns the digest of the site file that applies after the lines handed out. None if the

@@ -4,10 +4,10 @@ ghost use Rattle.std.specs.Prelude.{◌≤◌, IfOk, vec_len};
 ghost use Rattle.replay.specs.Limits.{max_script_bytes};
 
 use crate::folder_fault::FolderFault;
-use crate::journal_lines::{JournalLines, Lines};
+use crate::journal_lines::{JournalLines, JournalPart};
 use crate::named_file::NamedFile;
 use crate::opening::open_to_read;
-use journal::{Line, LineFault, Noted, RestoreFault, Unrestored, read_bytes, split_line};
+use journal::{Line, Noted, RestoreFault, ScriptLineFault, Unrestored, read_bytes, split_line};
 use messages::Side;
 use ocpp_scalars::push_instant;
 use replay::{LONGEST_FRAME, MAX_SCRIPT_BYTES};
@@ -83,7 +83,7 @@ pub fn say_torn<R: Eprint>(rt: &R, file: &NamedFile, journal: &JournalLines) {
 }
 
 /// Returns the fault of a line of this number that isn't a journal line.
-pub fn unread(line: u64, fault: LineFault) -> FolderFault {
+pub fn unread(line: u64, fault: ScriptLineFault) -> FolderFault {
     FolderFault::Unrestored(Unrestored {
         line,
         fault: RestoreFault::Line(fault),
@@ -127,7 +127,7 @@ impl ScriptReading {
 /// Appends the script's lines for these lines of a journal.
 fn push_lines(
     script: &mut String,
-    lines: Lines<'_>,
+    lines: JournalPart<'_>,
     taken: &mut ScriptLines,
 ) -> Result<(), FolderFault> {
     let (mut rest, mut number) = (lines.bytes, lines.first);

@@ -23,14 +23,14 @@ impl NamedFile {
         most: u64,
     ) -> Result<usize, FolderFault> {
         let read = self.file.by_ref().take(most).read_to_end(bytes);
-        or_stop(rt, self.path.as_str(), read, FolderFault::Read)
+        report_error(rt, self.path.as_str(), read, FolderFault::Read)
     }
 }
 
 /// Returns the value if the system call on a file or an address of this name succeeded. Otherwise
 /// prints the name and the system's error to standard error, and returns this fault. A failed
 /// allocation has its own fault, and nothing is printed.
-pub fn or_stop<T, F: From<AllocError> + Drop, R: Eprint>(
+pub fn report_error<T, F: From<AllocError> + Drop, R: Eprint>(
     rt: &R,
     name: &str,
     done: io::Result<T>,

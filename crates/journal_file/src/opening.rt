@@ -1,7 +1,7 @@
 //! The folder of a running site. One process at a time owns its journal.
 
 use crate::folder_fault::FolderFault;
-use crate::named_file::{NamedFile, or_stop};
+use crate::named_file::{NamedFile, report_error};
 use crate::reserve_file::ReserveFile;
 use std::alloc::{AllocError, AllocGlobal, Global};
 use std::fs::{DirBuilder, File, OpenOptions, TryLockError};
@@ -38,18 +38,18 @@ pub fn open_journal<R: Files<File = File> + Eprint + AllocGlobal>(
         .create(true)
         .mode(OWN_FILE)
         .open(rt, path.as_str());
-    let file = or_stop(rt, path.as_str(), opened, FolderFault::Write)?;
+    let file = report_error(rt, path.as_str(), opened, FolderFault::Write)?;
     // The kernel releases this lock when the process ends, so a killed one leaves none behind.
     match file.try_lock() {
         Ok(()) => {}
         Err(TryLockError::WouldBlock) => return Err(FolderFault::InUse),
         Err(TryLockError::Error(error)) => {
-            or_stop(rt, path.as_str(), Err(error), FolderFault::Write)?
+            report_error(rt, path.as_str(), Err(error), FolderFault::Write)?
         }
     }
     // Without this a power cut can lose a new file's entry in the folder.
     let synced = sync_folder(rt, folder);
-    or_stop(rt, folder, synced, FolderFault::Write)?;
+    report_error(rt, folder, synced, FolderFault::Write)?;
     let reserve = path_in(rt.alloc(), folder, "reserve")?;
     Ok(OpenJournal {
         lines: NamedFile { file, path },
@@ -65,11 +65,11 @@ fn make_folder<R: Files<File = File> + Eprint + AllocGlobal>(
     match DirBuilder::new().mode(OWN_FOLDER).create(rt, folder) {
         Ok(()) => {}
         Err(error) if error.kind() == ErrorKind::AlreadyExists => return Ok(()),
-        Err(error) => return or_stop(rt, folder, Err(error), FolderFault::Write),
+        Err(error) => return report_error(rt, folder, Err(error), FolderFault::Write),
     }
     let above = path_in(rt.alloc(), folder, "..")?;
     let synced = sync_folder(rt, above.as_str());
-    or_stop(rt, above.as_str(), synced, FolderFault::Write)
+    report_error(rt, above.as_str(), synced, FolderFault::Write)
 }
 
 /// Opens the journal of a folder for reading. A running central system may write to it meanwhile.
@@ -79,7 +79,7 @@ pub fn open_to_read<R: Files<File = File> + Eprint + AllocGlobal>(
 ) -> Result<NamedFile, FolderFault> {
     let path = journal_path(rt.alloc(), folder)?;
     let opened = File::open(rt, path.as_str());
-    let file = or_stop(rt, path.as_str(), opened, FolderFault::Read)?;
+    let file = report_error(rt, path.as_str(), opened, FolderFault::Read)?;
     Ok(NamedFile { file, path })
 }
 

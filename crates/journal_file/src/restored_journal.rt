@@ -2,7 +2,7 @@
 
 use crate::folder_fault::FolderFault;
 use crate::journal_lines::JournalLines;
-use crate::named_file::{NamedFile, or_stop};
+use crate::named_file::{NamedFile, report_error};
 use crate::opening::OpenJournal;
 use crate::reserve_file::ReserveFile;
 use append_log::{Log, SystemFile};
@@ -37,7 +37,7 @@ impl RestoredJournal {
                 Err(error)
             }
         };
-        let log = or_stop(rt, path.as_str(), opened, FolderFault::Write)?;
+        let log = report_error(rt, path.as_str(), opened, FolderFault::Write)?;
         let torn = lines.torn();
         if torn > 0 {
             let _ = eprintln!(rt;

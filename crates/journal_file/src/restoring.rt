@@ -4,7 +4,7 @@ ghost use Rattle.std.specs.Prelude.{◌≡◌};
 
 use crate::folder_fault::FolderFault;
 use crate::journal_file::JournalFile;
-use crate::journal_lines::{JournalLines, Lines};
+use crate::journal_lines::{JournalLines, JournalPart};
 use crate::named_file::NamedFile;
 use crate::opening::OpenJournal;
 use crate::rejections::Rejections;
@@ -75,7 +75,7 @@ pub fn restore_shared<
     let journal = JournalFile::make(*rt, restored, added.as_str(), states, syncs)?;
     let kept = journal.keep_all();
     // No thread writes these lines yet.
-    journal.write_said();
+    journal.write_log_lines();
     match kept {
         Ok(()) => Ok((journal, resumed)),
         Err(_) => Err(FolderFault::Write),
@@ -143,7 +143,7 @@ fn restore_lines<C: Ledger, A: Ledger, R: AllocGlobal + Eprint + Clock, N: ListN
 /// its call is the first one of its point.
 fn restore_part<C: Ledger, A: Ledger, N: ListName>(
     alloc: Global,
-    lines: Lines<'_>,
+    lines: JournalPart<'_>,
     book: &mut Book<C, A, N>,
     pass: &mut Pass<C, A>,
     rejections: &mut Rejections,

@@ -3,8 +3,9 @@
 ghost use Rattle.std.specs.Prelude.{◌≡◌};
 
 use crate::added_calls::AddedCalls;
+use journal::{Line, Noted, Unrestored, read_bytes, restore, split_line};
 use journal_file::{
-    FolderFault, JournalLines, Lines, NamedFile, ScriptEnd, ScriptLines, open_to_read,
+    FolderFault, JournalLines, JournalPart, NamedFile, ScriptEnd, ScriptLines, open_to_read,
     say_other_site, say_torn, unread,
 };
 use ocpp_scalars::{Instant, push_instant};
@@ -12,7 +13,6 @@ use ocppj_frame::ReadingMemory;
 use replay::Progress;
 use show_pages::{PointCalls, Standing};
 use site_core::Machine;
-use journal::{Line, Noted, Unrestored, read_bytes, restore, split_line};
 use site_rules::Site;
 use std::alloc::{AllocError, AllocGlobal, Global};
 use std::fs::File;
@@ -23,7 +23,7 @@ use version_store::{Book, Pass};
 
 /// The journal to follow, and how far.
 #[derive(Drop)]
-pub struct Following<'a> {
+pub struct FollowRequest<'a> {
     /// The site of the journal, and the SHA-256 of its file.
     pub site: Site,
     pub digest: [u8; 32],
@@ -99,7 +99,7 @@ impl FollowedJournal {
 /// error how many lines it has, the moment of the last one, and the progress if reading takes long.
 pub fn follow_journal<R: Files<File = File> + Eprint + Clock + AllocGlobal>(
     rt: &R,
-    following: Following<'_>,
+    following: FollowRequest<'_>,
 ) -> Result<FollowedJournal, FolderFault> {
     // `restore` works on a book, which counts changes and answers in two ledgers.
     let blanks = (Blank::new(1), Blank::new(1));
@@ -109,7 +109,7 @@ pub fn follow_journal<R: Files<File = File> + Eprint + Clock + AllocGlobal>(
 /// Follows a journal on a book whose changes and answers are counted by these two ledgers.
 fn follow_counted<C: Ledger, A: Ledger, R: Files<File = File> + Eprint + Clock + AllocGlobal>(
     rt: &R,
-    following: Following<'_>,
+    following: FollowRequest<'_>,
     blanks: (Blank, Blank),
 ) -> Result<FollowedJournal, FolderFault>
     requires changes { (blanks.0.name ≡ C.name) × (blanks.0.parts ≡ C.parts)
@@ -117,7 +117,7 @@ fn follow_counted<C: Ledger, A: Ledger, R: Files<File = File> + Eprint + Clock +
     requires answers { (blanks.1.name ≡ A.name) × (blanks.1.parts ≡ A.parts)
         × (blanks.1.parts ≡ 1) }
 {
-    let Following {
+    let FollowRequest {
         site,
         digest,
         folder,
@@ -126,7 +126,7 @@ fn follow_counted<C: Ledger, A: Ledger, R: Files<File = File> + Eprint + Clock +
         counted_from,
         is_quiet,
     } = following;
-    let wanted = Wanted {
+    let wanted = FollowOptions {
         end,
         point,
         counted_from,
@@ -149,7 +149,7 @@ fn follow_parts<C: Ledger, A: Ledger, R: Eprint + Clock + AllocGlobal>(
     file: &mut NamedFile,
     journal: &mut JournalLines,
     follower: &mut Follower<C, A>,
-    wanted: &Wanted<'_>,
+    wanted: &FollowOptions<'_>,
 ) -> Result<(), FolderFault> {
     let mut progress = Progress::of_lines(rt);
     for _part in 0..u64::MAX {
@@ -168,7 +168,7 @@ fn say_followed<C: Ledger, A: Ledger, R: Eprint + AllocGlobal>(
     file: &NamedFile,
     journal: &JournalLines,
     follower: &Follower<C, A>,
-    wanted: &Wanted<'_>,
+    wanted: &FollowOptions<'_>,
 ) -> Result<bool, FolderFault> {
     say_torn(rt, file, journal);
     let lines = follower.script.count();
@@ -179,7 +179,7 @@ fn say_followed<C: Ledger, A: Ledger, R: Eprint + AllocGlobal>(
 
 /// The end of a journal to follow, and the changes to count.
 #[derive(Clone, Copy)]
-struct Wanted<'a> {
+struct FollowOptions<'a> {
     end: ScriptEnd,
     point: &'a str,
     counted_from: Option<Instant>,
@@ -273,7 +273,11 @@ impl<C: Ledger, A: Ledger> Follower<C, A> {
     }
 
     /// Reads lines, and follows those up to the requested end.
-    fn follow_lines(&mut self, lines: Lines<'_>, wanted: &Wanted<'_>) -> Result<(), FolderFault> {
+    fn follow_lines(
+        &mut self,
+        lines: JournalPart<'_>,
+        wanted: &FollowOptions<'_>,
+    ) -> Result<(), FolderFault> {
         let (mut rest, mut number) = (lines.bytes, lines.first);
         for _line in 0..lines.bytes.len() {
             let Some((bytes, others)) = split_line(rest) else {
@@ -299,7 +303,7 @@ impl<C: Ledger, A: Ledger> Follower<C, A> {
         line: &Line<'_>,
         text: &[u8],
         number: u64,
-        wanted: &Wanted<'_>,
+        wanted: &FollowOptions<'_>,
     ) -> Result<(), FolderFault> {
         // Lines after the end are still read: the notes name the whole journal's lines and last
         // moment.
@@ -329,7 +333,11 @@ impl<C: Ledger, A: Ledger> Follower<C, A> {
     }
 
     /// Takes in when calls were added, if the line is of the point whose changes are counted.
-    fn follow_added(&mut self, line: &Line<'_>, wanted: &Wanted<'_>) -> Result<(), AllocError> {
+    fn follow_added(
+        &mut self,
+        line: &Line<'_>,
+        wanted: &FollowOptions<'_>,
+    ) -> Result<(), AllocError> {
         match self.book.present().outbox_of(line.point) {
             Some(outbox) if line.point == wanted.point => self.added.follow(outbox, line.moment),
             _ => Ok(()),
@@ -379,7 +387,7 @@ fn say_read<R: Eprint + AllocGlobal>(
 /// Prints a note if the journal doesn't reach the requested end. Returns whether it does.
 fn say_end<R: Eprint + AllocGlobal>(
     rt: &R,
-    wanted: &Wanted<'_>,
+    wanted: &FollowOptions<'_>,
     lines: u64,
     first: Option<Instant>,
 ) -> Result<bool, AllocError> {
@@ -415,7 +423,7 @@ fn say_begun<R: Eprint + AllocGlobal>(
 }
 
 /// Returns whether a line is a change to be counted.
-fn is_counted(line: &Line<'_>, wanted: &Wanted<'_>) -> bool {
+fn is_counted(line: &Line<'_>, wanted: &FollowOptions<'_>) -> bool {
     match (&line.noted, wanted.counted_from) {
         (Noted::Message { .. }, Some(moment)) => line.point == wanted.point && line.moment > moment,
         _ => false,

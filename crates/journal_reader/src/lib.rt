@@ -4,4 +4,4 @@
 mod added_calls;
 mod followed_journal;
 
-pub use followed_journal::{FollowedJournal, Following, follow_journal};
+pub use followed_journal::{FollowRequest, FollowedJournal, follow_journal};

@@ -14,7 +14,7 @@ use Rattle.meaning.specs.declared.cause.Cause.TheVariants.{Profile, PointCeiling
 use Rattle.meaning.specs.View.{PointState, active_since, ceiling_of}
 use Rattle.meaning.specs.Prevailing.{counted, has_its_transaction}
 use Rattle.meaning.specs.Limit.{shared_limit}
-use Rattle.meaning.specs.Cause.{RowLimit, Bound, with_limit, row_limit, level_of, prevailing_row, row_or_else, profile_of, bound_of, lesser, lesser_of, own_bound, below_point, bound_by, counts_for, StandsIn, IsPrevailing, IsSetBy}
+use Rattle.meaning.specs.Cause.{RowLimit, Bound, with_limit, row_limit, level_of, prevailing_row, row_or_else, profile_of, bound_of, lesser, lesser_of, own_bound, below_point, bound_by, counts_for, IsRowOf, IsPrevailing, IsSetBy}
 
 -- ---- an element picked from a list has the properties of all its elements
 
@@ -54,16 +54,16 @@ greatest_among {X = X} P key (y ∷ ys) x h e = go (greatest key ys) (λ z. grea
 
 -- ---- rows of a point
 
-stands_later : (first : Row) (rows : List Row) (row : Row) → StandsIn rows row → StandsIn (first ∷ rows) row
+stands_later : (first : Row) (rows : List Row) (row : Row) → IsRowOf rows row → IsRowOf (first ∷ rows) row
 stands_later first rows row h = record { before = first ∷ h.before; after = h.after; is = ap (λ (rows : List Row). first ∷ rows) h.is }
 
 weaker : {X : Type 0} (P Q : X → Type 0) → ((x : X) → P x → Q x) → (xs : List X) → AllByRecursion P xs → AllByRecursion Q xs
 weaker P Q h [] k = tt
 weaker P Q h (x ∷ xs) k = (h x k.0, weaker P Q h xs k.1)
 
-all_stand : (rows : List Row) → AllByRecursion (StandsIn rows) rows
+all_stand : (rows : List Row) → AllByRecursion (IsRowOf rows) rows
 all_stand [] = tt
-all_stand (row ∷ rows) = (record { before = []; after = rows; is = refl }, weaker (StandsIn rows) (StandsIn (row ∷ rows)) (stands_later row rows) rows (all_stand rows))
+all_stand (row ∷ rows) = (record { before = []; after = rows; is = refl }, weaker (IsRowOf rows) (IsRowOf (row ∷ rows)) (stands_later row rows) rows (all_stand rows))
 
 pub and_first : (a b : Bool) → (a && b) ≡ true → a ≡ true
 and_first true b h = refl
@@ -91,7 +91,7 @@ purpose_is TxProfile rows connector row h = tx_is row.profile.purpose (and_first
 
 -- a row counts for a connector among the profiles of a purpose
 pub record Counts (purpose : Purpose) (state : PointState) (connector : ℕ) (row : Row) : Type 0 where
-  pub stands : StandsIn state.rows row
+  pub stands : IsRowOf state.rows row
   pub purpose_is : row.profile.purpose ≡ purpose
   pub has : has_its_transaction purpose (active_since state connector) ≡ true
   pub speaks : is_candidate purpose state.rows connector row ≡ true
@@ -103,7 +103,7 @@ counted_are purpose state connector = go (has_its_transaction purpose (active_si
         → AllByRecursion (Counts purpose state connector) (cond b (filter (is_candidate purpose state.rows connector) state.rows) [])
     go true has =
         all_passing (Counts purpose state connector) (is_candidate purpose state.rows connector) state.rows
-        (weaker (StandsIn state.rows) (λ row. is_candidate purpose state.rows connector row ≡ true → Counts purpose state connector row)
+        (weaker (IsRowOf state.rows) (λ row. is_candidate purpose state.rows connector row ≡ true → Counts purpose state connector row)
         (λ row h passes. record { stands = h; purpose_is = purpose_is purpose state.rows connector row passes; has = has; speaks = passes }) state.rows (all_stand state.rows))
     go false has = tt
 

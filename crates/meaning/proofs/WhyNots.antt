@@ -15,7 +15,7 @@ use Rattle.meaning.specs.declared.cause.WhyNot.{WhyNot}
 use Rattle.meaning.specs.declared.cause.WhyNot.TheVariants.{OtherConnector, NoTransaction, Hidden, NotYetValid, NoLongerValid, PastDuration, BeforeFirstPeriod, BelowHigherLevel, BehindTxProfile}
 use Rattle.meaning.specs.View.{PointState, active_since}
 use Rattle.meaning.specs.Prevailing.{counted, has_its_transaction}
-use Rattle.meaning.specs.Cause.{RowLimit, with_limit, row_limit, level_of, prevailing_row, counts_for, StandsIn}
+use Rattle.meaning.specs.Cause.{RowLimit, with_limit, row_limit, level_of, prevailing_row, counts_for, IsRowOf}
 use Rattle.meaning.specs.WhyNot.{first_of, where_so, is_elsewhere, lacks_transaction, is_hidden, why_not_counted, why_no_limit_in, why_no_limit, is_above, why_behind, why_not, Prevails, HaveOwnKeys}
 use Rattle.meaning.proofs.Causes.{Counts, prevailing_of, some_is, and_first}
 
@@ -110,7 +110,7 @@ lacks_not ChargePointMaxProfile started h = refl
 lacks_not TxDefaultProfile started h = refl
 lacks_not TxProfile started h = false_not (is_some started) h
 
-row_counts : (state : PointState) (at : ℕ) (row : Row) → StandsIn state.rows row → why_not_counted state at row ≡ None → Counts row.profile.purpose state at row
+row_counts : (state : PointState) (at : ℕ) (row : Row) → IsRowOf state.rows row → why_not_counted state at row ≡ None → Counts row.profile.purpose state at row
 row_counts state at row stands h =
     let one = first_none (where_so OtherConnector (is_elsewhere row.profile.purpose at row.connector)) (first_of (where_so NoTransaction (lacks_transaction state at row)) (where_so Hidden (is_hidden state at row))) h in
     let two = first_none (where_so NoTransaction (lacks_transaction state at row)) (where_so Hidden (is_hidden state at row)) one.1 in
@@ -233,7 +233,7 @@ among_here : (before after : List Row) (row : Row) → Among row (before ++ row 
 among_here [] after row = inl refl
 among_here (first ∷ before) after row = inr (among_here before after row)
 
-among_rows : (rows : List Row) (row : Row) → StandsIn rows row → Among row rows
+among_rows : (rows : List Row) (row : Row) → IsRowOf rows row → Among row rows
 among_rows rows row h = subst (Among row) (sym h.is) (among_here h.before h.after row)
 
 any_among : {X : Type 0} (test : X → Bool) (xs : List X) (x : X) → test x ≡ true → Among x xs → list_any test xs ≡ true
@@ -305,7 +305,7 @@ default_from false true true h = cc
 default_from false true false h = inr (refl, refl)
 default_from false false r h = cc
 
-replaced : (rows : List Row) (at : ℕ) (row : Row) → StandsIn rows row → row.profile.purpose ≡ TxDefaultProfile → (row.connector == at) ≡ true → is_replaced_at rows at row.profile.stack_level ≡ true
+replaced : (rows : List Row) (at : ℕ) (row : Row) → IsRowOf rows row → row.profile.purpose ≡ TxDefaultProfile → (row.connector == at) ≡ true → is_replaced_at rows at row.profile.stack_level ≡ true
 replaced rows at row stands purpose here =
     any_among (λ (other : Row). is_tx_default other.profile.purpose && (other.connector == at) && (other.profile.stack_level == row.profile.stack_level)) rows row
     (three (is_tx_default row.profile.purpose) (row.connector == at) (row.profile.stack_level == row.profile.stack_level) (ap is_tx_default purpose) here (grind (arith, nat_tests)))
@@ -369,7 +369,7 @@ behind_none : (given : Option RowLimit) → is_some given ≡ false → given �
 behind_none None h = refl
 behind_none (Some best) h = cc
 
-prevails : (state : PointState) (connector asked instant : ℕ) (row : Row) → HaveOwnKeys state.rows → StandsIn state.rows row
+prevails : (state : PointState) (connector asked instant : ℕ) (row : Row) → HaveOwnKeys state.rows → IsRowOf state.rows row
     → why_not state connector asked instant row ≡ None → Prevails state connector asked instant row
 prevails state connector asked instant row keys stands h =
     let p = row.profile.purpose in
@@ -414,6 +414,6 @@ no_reason state connector asked instant row h =
     (none_where BelowHigherLevel above not_above)
     (none_where BehindTxProfile behind (not_behind_is p state connector asked instant h.no_transaction))))
 
-pub why_not_none : (state : PointState) (connector asked instant : ℕ) (row : Row) → HaveOwnKeys state.rows → StandsIn state.rows row
+pub why_not_none : (state : PointState) (connector asked instant : ℕ) (row : Row) → HaveOwnKeys state.rows → IsRowOf state.rows row
     → (why_not state connector asked instant row ≡ None) ↔ Prevails state connector asked instant row
 why_not_none state connector asked instant row keys stands = (prevails state connector asked instant row keys stands, no_reason state connector asked instant row)

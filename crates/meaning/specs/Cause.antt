@@ -142,7 +142,7 @@ counts_for TxDefaultProfile connector = connector
 counts_for TxProfile connector = connector
 
 -- a row is in a list
-pub record StandsIn (rows : List Row) (row : Row) : Type 0 where
+pub record IsRowOf (rows : List Row) (row : Row) : Type 0 where
   pub before : List Row
   pub after : List Row
   pub is : rows ≡ before ++ row ∷ after
@@ -151,7 +151,7 @@ pub record StandsIn (rows : List Row) (row : Row) : Type 0 where
 pub record IsPrevailing (state : PointState) (connector asked instant limit : ℕ)
     (profile : PrevailingProfile) : Type 0 where
   pub row : Row
-  pub stands : StandsIn state.rows row
+  pub stands : IsRowOf state.rows row
   pub of_row : profile ≡ profile_of row
   pub prevails :
       prevailing_row profile.purpose state (counts_for profile.purpose connector) asked instant

@@ -12,7 +12,7 @@ use Rattle.profile.specs.Row.{base}
 use Rattle.meaning.specs.declared.cause.WhyNot.{WhyNot}
 use Rattle.meaning.specs.declared.cause.WhyNot.TheVariants.{OtherConnector, NoTransaction, Hidden, NotYetValid, NoLongerValid, BeforeAnchor, PastDuration, BeforeFirstPeriod, BelowHigherLevel, BehindTxProfile}
 use Rattle.meaning.specs.View.{PointState, active_since}
-use Rattle.meaning.specs.Cause.{RowLimit, with_limit, level_of, prevailing_row, counts_for, StandsIn}
+use Rattle.meaning.specs.Cause.{RowLimit, with_limit, level_of, prevailing_row, counts_for, IsRowOf}
 
 abbrev pub first_of : Option WhyNot → Option WhyNot → Option WhyNot
 first_of None later = later
@@ -105,6 +105,6 @@ pub record Prevails (state : PointState) (connector asked instant : ℕ) (row : 
 -- no two rows have the same connector, purpose and stack level, which holds of every book
 pub record HaveOwnKeys (rows : List Row) : Type 0 where
   pub same :
-      (one other : Row) → StandsIn rows one → StandsIn rows other
+      (one other : Row) → IsRowOf rows one → IsRowOf rows other
       → one.connector ≡ other.connector → one.profile.purpose ≡ other.profile.purpose
       → one.profile.stack_level ≡ other.profile.stack_level → one ≡ other

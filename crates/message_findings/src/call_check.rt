@@ -2,7 +2,7 @@
 
 use crate::field_fault::field_fault_message;
 use crate::line_hints::point_hint;
-use crate::line_text::{LineText, Sender};
+use crate::line_text::{LineMessage, Sender};
 use crate::payload_fields::{UnknownField, repeated_payload_fields, unknown_payload_fields};
 use crate::payload_objects::{PayloadObject, names_of};
 use crate::printed_check::depends_on_state;
@@ -23,14 +23,17 @@ use std::alloc::{AllocError, Global};
 
 /// A CALL in a line.
 #[derive(Clone, Copy)]
-pub(crate) struct Call<'a, 'node, 'memory> {
-    pub text: &'a LineText<'a>,
+pub(crate) struct LineCall<'a, 'node, 'memory> {
+    pub text: &'a LineMessage<'a>,
     pub action: &'a str,
     pub payload: Node<'node, 'memory>,
 }
 
 /// Checks a CALL.
-pub(crate) fn check_call(report: &mut Report, call: &Call<'_, '_, '_>) -> Result<(), AllocError> {
+pub(crate) fn check_call(
+    report: &mut Report,
+    call: &LineCall<'_, '_, '_>,
+) -> Result<(), AllocError> {
     let kind = ActionKind::named(call.action);
     if call.text.sender == Sender::Hold && kind != Some(ActionKind::GetCompositeSchedule) {
         return not_composite(report, call.text, "it is a CALL of another action");
@@ -87,7 +90,7 @@ fn actions_of(alloc: Global, side: Side) -> Result<Vec<&'static str>, AllocError
 /// Checks the fields of an action, and the action itself.
 fn check_action(
     report: &mut Report,
-    call: &Call<'_, '_, '_>,
+    call: &LineCall<'_, '_, '_>,
     kind: ActionKind,
 ) -> Result<(), AllocError> {
     let alloc = report.alloc;
@@ -112,7 +115,7 @@ fn check_action(
 /// Checks an action whose fields are right.
 fn check_asked(
     report: &mut Report,
-    call: &Call<'_, '_, '_>,
+    call: &LineCall<'_, '_, '_>,
     kind: ActionKind,
     action: Action,
 ) -> Result<(), AllocError> {
@@ -150,7 +153,7 @@ fn check_asked(
 }
 
 /// Reports the refusal of any other action, unless it depends on the point's state.
-fn check_refused(report: &mut Report, text: &LineText<'_>) -> Result<(), AllocError> {
+fn check_refused(report: &mut Report, text: &LineMessage<'_>) -> Result<(), AllocError> {
     match text.refusal() {
         Some(Refusal::UnknownPoint) => {
             let message = unknown_point_message(report, text.site, text.point)?;
@@ -223,7 +226,7 @@ pub(crate) fn warn_unknown(
 /// Checks a ClearChargingProfile, which clears all profiles that match its criteria.
 fn check_clear(
     report: &mut Report,
-    call: &Call<'_, '_, '_>,
+    call: &LineCall<'_, '_, '_>,
     criteria: &Criteria,
 ) -> Result<(), AllocError> {
     let alloc = report.alloc;
@@ -335,7 +338,7 @@ pub(crate) fn unknown_point_message(
 }
 
 /// Returns the point of the line.
-pub(crate) fn point_of<'a>(site: &'a Site, text: &LineText<'_>) -> Option<SitePoint<'a>> {
+pub(crate) fn point_of<'a>(site: &'a Site, text: &LineMessage<'_>) -> Option<SitePoint<'a>> {
     site.point(site.place_of(text.point)?)
 }
 
@@ -343,7 +346,7 @@ pub(crate) fn point_of<'a>(site: &'a Site, text: &LineText<'_>) -> Option<SitePo
 /// depends on the point's state.
 fn check_ask(
     report: &mut Report,
-    text: &LineText<'_>,
+    text: &LineMessage<'_>,
     request: &ScheduleRequest,
 ) -> Result<(), AllocError> {
     match text.rejection() {
@@ -363,7 +366,7 @@ fn check_ask(
 /// Describes the value for which a request for a schedule is refused.
 fn ask_found(
     alloc: Global,
-    text: &LineText<'_>,
+    text: &LineMessage<'_>,
     request: &ScheduleRequest,
     refusal: Refusal,
 ) -> Result<String, AllocError> {
@@ -383,7 +386,7 @@ fn ask_found(
 pub(crate) fn connector_found(
     alloc: Global,
     site: &Site,
-    text: &LineText<'_>,
+    text: &LineMessage<'_>,
     connector: u32,
 ) -> Result<String, AllocError> {
     match point_of(site, text) {
@@ -396,7 +399,7 @@ pub(crate) fn connector_found(
 }
 
 /// Returns the number of connectors of the line's point.
-pub(crate) fn connector_count(text: &LineText<'_>) -> usize {
+pub(crate) fn connector_count(text: &LineMessage<'_>) -> usize {
     point_of(text.site, text).map_or(0, |point| point.ceilings.len())
 }
 
@@ -424,7 +427,11 @@ pub(crate) fn reject(
 }
 
 /// Checks a StartTransaction. Reports a connector that the point lacks.
-fn check_start(report: &mut Report, text: &LineText<'_>, connector: u32) -> Result<(), AllocError> {
+fn check_start(
+    report: &mut Report,
+    text: &LineMessage<'_>,
+    connector: u32,
+) -> Result<(), AllocError> {
     let Some(point) = point_of(text.site, text) else {
         return Ok(());
     };

@@ -5,7 +5,7 @@ use crate::report::Report;
 use crate::sentences::line_sentence;
 use findings::{excerpt, is_similar, similar_name};
 use ocpp_scalars::{InstantFault, read_instant};
-use replay::LineFault;
+use replay::ScriptLineFault;
 use site_rules::Site;
 use std::alloc::{AllocError, Global};
 
@@ -17,32 +17,32 @@ pub(crate) fn mistake_message(
     report: &mut Report,
     site: &Site,
     line: &[u8],
-    fault: LineFault,
+    fault: ScriptLineFault,
 ) -> Result<String, AllocError> {
     let alloc = report.alloc;
     let (text, valid) = utf8_of(line);
     match fault {
-        LineFault::TooLong => {
+        ScriptLineFault::TooLong => {
             let count = line.len();
             format!(in alloc; "{fault}: {count} bytes; at most 1048576 are wanted")
         }
-        LineFault::BadText => {
+        ScriptLineFault::BadText => {
             format!(in alloc; "{fault}: it isn't UTF-8 from its byte at offset {valid} on")
         }
-        LineFault::BadLine => {
+        ScriptLineFault::BadLine => {
             let hint = form_hint(alloc, text)?;
             let rule = line_sentence(fault);
             let text = excerpt(alloc, text)?;
             format!(in alloc; "{fault}: {hint}; {rule}: {text}")
         }
-        LineFault::BadInstant => bad_instant(alloc, word_at(text, 0)),
-        LineFault::UnknownPoint => {
+        ScriptLineFault::BadInstant => bad_instant(alloc, word_at(text, 0)),
+        ScriptLineFault::UnknownPoint => {
             let id = word_at(text, 2);
             let hint = point_hint(report, site, id)?;
             let id = excerpt(alloc, id)?;
             format!(in alloc; "{fault}: the site has no point \"{id}\"{hint}")
         }
-        LineFault::NotComposite | LineFault::UnknownRequest => {
+        ScriptLineFault::NotComposite | ScriptLineFault::UnknownRequest => {
             let why = line_sentence(fault);
             format!(in alloc; "{fault}: {why}")
         }
@@ -60,7 +60,7 @@ fn bad_instant(alloc: Global, word: &str) -> Result<String, AllocError> {
         Ok(_) => "",
         Err(fault) => instant_hint(word, fault),
     };
-    let fault = LineFault::BadInstant;
+    let fault = ScriptLineFault::BadInstant;
     let rule = line_sentence(fault);
     let word = excerpt(alloc, word)?;
     format!(in alloc; "{fault}: \"{word}\" {hint}; {rule}")

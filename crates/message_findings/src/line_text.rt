@@ -30,7 +30,7 @@ impl Sender {
 
 /// A message in a line, and its outcome.
 #[derive(Clone, Copy)]
-pub(crate) struct LineText<'a> {
+pub(crate) struct LineMessage<'a> {
     pub site: &'a Site,
     pub moment: Instant,
     pub sender: Sender,
@@ -49,16 +49,16 @@ pub(crate) struct LineText<'a> {
     pub replies_to_start: bool,
 }
 
-impl<'a> LineText<'a> {
+impl<'a> LineMessage<'a> {
     /// Makes the message of a line whose second word is `hold`.
     pub(crate) fn held(
         site: &'a Site,
         played: &'a PlayedLine<'_>,
         sent: &'a SentText<'_>,
-    ) -> LineText<'a> {
-        LineText {
+    ) -> LineMessage<'a> {
+        LineMessage {
             sender: Sender::Hold,
-            ..LineText::new(site, played, sent)
+            ..LineMessage::new(site, played, sent)
         }
     }
 
@@ -67,12 +67,12 @@ impl<'a> LineText<'a> {
         site: &'a Site,
         played: &'a PlayedLine<'_>,
         sent: &'a SentText<'_>,
-    ) -> LineText<'a> {
+    ) -> LineMessage<'a> {
         let sender = match sent.sender() {
             Side::Operator => Sender::Operator,
             Side::Point => Sender::Point,
         };
-        LineText {
+        LineMessage {
             site,
             moment: sent.moment(),
             sender,

@@ -1,7 +1,7 @@
 //! Checks an install, and warns of a profile that probably does something unintended.
 
 use crate::call_check::{connector_found, point_of, reject, unit_found, unknown_point_message};
-use crate::line_text::LineText;
+use crate::line_text::LineMessage;
 use crate::report::Report;
 use crate::sentences::never_sentence;
 use findings::{instant_text, tenths_text};
@@ -14,7 +14,7 @@ use std::alloc::{AllocError, Global};
 /// Checks a SetChargingProfile whose fields are right.
 pub(crate) fn check_install(
     report: &mut Report,
-    text: &LineText<'_>,
+    text: &LineMessage<'_>,
     connector: u32,
     parts: ProfileParts,
 ) -> Result<(), AllocError> {
@@ -82,7 +82,7 @@ pub(crate) fn warn_never_rated(report: &mut Report, profile: &Profile) -> Result
 fn place_found(
     alloc: Global,
     site: &Site,
-    text: &LineText<'_>,
+    text: &LineMessage<'_>,
     connector: u32,
     refusal: Refusal,
 ) -> Result<String, AllocError> {
@@ -162,7 +162,7 @@ fn warn_transaction(report: &mut Report, profile: &Profile) -> Result<(), AllocE
 /// Warns of a profile that never lowers a limit at the line's point.
 pub(crate) fn warn_ceiling_at(
     report: &mut Report,
-    text: &LineText<'_>,
+    text: &LineMessage<'_>,
     connector: u32,
     profile: &Profile,
 ) -> Result<(), AllocError> {

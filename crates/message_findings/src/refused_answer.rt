@@ -1,6 +1,6 @@
 //! Explains the refusal in an answer to the operator who got it.
 
-use crate::rejection::{Rejection, fault_of, refusal_of, rejection_of};
+use crate::rejection::{RejectedAnswer, fault_of, refusal_of, rejection_of};
 use crate::sentences::{call_sentence, sentence};
 use findings::excerpt;
 use ocpp_scalars::Refusal;
@@ -23,17 +23,20 @@ pub fn answer_sentence(alloc: Global, answer: &str) -> Result<Option<String>, Al
     }
 }
 
-fn sentence_of(alloc: Global, answer: Option<Rejection<'_>>) -> Result<Option<String>, AllocError> {
+fn sentence_of(
+    alloc: Global,
+    answer: Option<RejectedAnswer<'_>>,
+) -> Result<Option<String>, AllocError> {
     match answer {
-        Some(Rejection::Rejected(reason)) => refusal_sentence(alloc, reason),
-        Some(Rejection::Error { code, description }) => match refusal_sentence(
+        Some(RejectedAnswer::Rejected(reason)) => refusal_sentence(alloc, reason),
+        Some(RejectedAnswer::Error { code, description }) => match refusal_sentence(
             alloc,
             description,
         )? {
             Some(sentence) => Ok(Some(sentence)),
             None => fault_sentence(alloc, code, description),
         },
-        Some(Rejection::Unknown) | None => Ok(None),
+        Some(RejectedAnswer::Unknown) | None => Ok(None),
     }
 }
 

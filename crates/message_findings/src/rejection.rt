@@ -6,7 +6,7 @@ use ocppj_frame::{Field, Node, text_field};
 
 /// An answer that isn't simply accepted.
 #[derive(Clone, Copy)]
-pub(crate) enum Rejection<'text> {
+pub(crate) enum RejectedAnswer<'text> {
     /// A `Rejected` with this reason.
     Rejected(&'text str),
     /// A CALLERROR.
@@ -58,12 +58,12 @@ const FAULTS: [CallFault; 5] = [
 ];
 
 /// Returns the rejection in the frame of a tree, if it is an answer that isn't simply accepted.
-pub(crate) fn rejection_of<'memory>(root: Node<'_, 'memory>) -> Option<Rejection<'memory>> {
+pub(crate) fn rejection_of<'memory>(root: Node<'_, 'memory>) -> Option<RejectedAnswer<'memory>> {
     let entries = root.list()?;
     match entries.get(0)?.number()? {
         "3" => rejection_of_result(entries.get(2)?),
         "4" => {
-            Some(Rejection::Error {
+            Some(RejectedAnswer::Error {
                 code: entries.get(2)?.text()?,
                 description: entries.get(3)?.text()?,
             })
@@ -73,13 +73,13 @@ pub(crate) fn rejection_of<'memory>(root: Node<'_, 'memory>) -> Option<Rejection
 }
 
 /// Returns the rejection in the payload of a CALLRESULT.
-fn rejection_of_result<'memory>(payload: Node<'_, 'memory>) -> Option<Rejection<'memory>> {
+fn rejection_of_result<'memory>(payload: Node<'_, 'memory>) -> Option<RejectedAnswer<'memory>> {
     match text_field(payload, "status") {
         Field::Value("Rejected") => match text_field(payload, "reason") {
-            Field::Value(reason) => Some(Rejection::Rejected(reason)),
+            Field::Value(reason) => Some(RejectedAnswer::Rejected(reason)),
             _ => None,
         },
-        Field::Value("Unknown") => Some(Rejection::Unknown),
+        Field::Value("Unknown") => Some(RejectedAnswer::Unknown),
         _ => None,
     }
 }

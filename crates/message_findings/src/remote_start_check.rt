@@ -1,7 +1,7 @@
 //! Checks a remote start, and how one that waits ends.
 
 use crate::call_check::{connector_count, reject, unit_found, unknown_point_message};
-use crate::line_text::LineText;
+use crate::line_text::LineMessage;
 use crate::printed_check::depends_on_state;
 use crate::profile_check::{check_parts, warn_ceiling_at, warn_never_rated, warn_rates};
 use crate::report::Report;
@@ -15,7 +15,7 @@ use std::alloc::AllocError;
 /// Checks a RemoteStartTransaction whose fields are right.
 pub(crate) fn check_remote_start(
     report: &mut Report,
-    text: &LineText<'_>,
+    text: &LineMessage<'_>,
     start: RemoteStartTransaction,
 ) -> Result<(), AllocError> {
     let RemoteStartTransaction {
@@ -75,7 +75,7 @@ fn check_start_profile(
 /// Reports why a remote start is rejected, unless that depends on the point's state.
 fn refuse_start(
     report: &mut Report,
-    text: &LineText<'_>,
+    text: &LineMessage<'_>,
     connector: u32,
     purpose: Option<Purpose>,
 ) -> Result<(), AllocError> {

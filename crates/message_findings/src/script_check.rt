@@ -2,15 +2,15 @@
 
 use crate::audit_check::judged_audit;
 use crate::line_hints::mistake_message;
-use crate::line_text::LineText;
+use crate::line_text::LineMessage;
 use crate::remote_start_check::check_ended_start;
 use crate::report::Report;
 use crate::sentences::line_sentence;
-use crate::starts::Starts;
+use crate::starts::PendingRemoteStarts;
 use crate::text_check::check_text;
 use findings::Finding;
 use ocppj_frame::ReadingMemory;
-use replay::{Held, LineFault, PlayedLine, Playing, PrintedLine, ScriptLine};
+use replay::{Held, PlayedLine, Playing, PrintedLine, ScriptLine, ScriptLineFault};
 use std::alloc::{AllocError, Global};
 
 /// A check of a script, line by line as it is played. It finds faults of lines, refused messages,
@@ -20,13 +20,13 @@ use std::alloc::{AllocError, Global};
 pub struct ScriptCheck {
     report: Report,
     memory: ReadingMemory,
-    held: Vec<HeldLine>,
-    starts: Starts,
+    held: Vec<HeldRequest>,
+    starts: PendingRemoteStarts,
 }
 
 /// A request that a `hold` line took.
 #[derive(Clone, Copy)]
-struct HeldLine {
+struct HeldRequest {
     request: u64,
     /// The line's number.
     line: u64,
@@ -39,7 +39,7 @@ impl ScriptCheck {
             report: Report::new(alloc),
             memory: ReadingMemory::new(alloc),
             held: Vec::new(alloc),
-            starts: Starts::new(alloc),
+            starts: PendingRemoteStarts::new(alloc),
         }
     }
 
@@ -52,7 +52,7 @@ impl ScriptCheck {
         self.report.go_to(played.number);
         for line in &played.outcome.printed {
             if let PrintedLine::Held(request) = line {
-                self.held.push(HeldLine {
+                self.held.push(HeldRequest {
                     request: *request,
                     line: played.number,
                 })?;
@@ -72,10 +72,10 @@ impl ScriptCheck {
             None => Ok(()),
             Some(Ok(ScriptLine::Text(sent))) => {
                 let starts = self.starts.follow(playing, played, sent.point())?;
-                let text = LineText {
+                let text = LineMessage {
                     audit: judged_audit(playing, played, sent.point()),
                     replies_to_start: starts.is_reply,
-                    ..LineText::new(site, played, sent)
+                    ..LineMessage::new(site, played, sent)
                 };
                 check_text(report, &mut self.memory, &text)?;
                 match &starts.ended {
@@ -87,7 +87,7 @@ impl ScriptCheck {
                 check_text(
                     report,
                     &mut self.memory,
-                    &LineText::held(site, played, sent),
+                    &LineMessage::held(site, played, sent),
                 )
             }
             Some(Ok(ScriptLine::Release(number))) => {
@@ -127,7 +127,7 @@ impl ScriptCheck {
 
 /// Reports that no request of this number is held.
 fn unknown_request(report: &mut Report, number: u64) -> Result<(), AllocError> {
-    let sentence = line_sentence(LineFault::UnknownRequest);
+    let sentence = line_sentence(ScriptLineFault::UnknownRequest);
     let message = format!(in report.alloc;
         "UnknownRequest: release {number}: {sentence}; a hold line that takes one prints its number"
     )?;

@@ -4,7 +4,7 @@
 use messages::CallFault;
 use ocpp_scalars::Refusal;
 use profile_findings::NeverRated;
-use replay::LineFault;
+use replay::ScriptLineFault;
 
 /// Returns the reason why a step is refused.
 pub fn sentence(refusal: Refusal) -> &'static str {
@@ -52,18 +52,19 @@ pub fn sentence(refusal: Refusal) -> &'static str {
 }
 
 /// Returns the reason why a line of a script can't be played.
-pub fn line_sentence(fault: LineFault) -> &'static str {
+pub fn line_sentence(fault: ScriptLineFault) -> &'static str {
     match fault {
-        LineFault::TooLong => "the line has more than 1048576 bytes",
-        LineFault::BadText => "the line isn't UTF-8",
-        LineFault::BadLine =>
+        ScriptLineFault::TooLong => "the line has more than 1048576 bytes",
+        ScriptLineFault::BadText => "the line isn't UTF-8",
+        ScriptLineFault::BadLine =>
             "the line is neither INSTANT operator ID FRAME, with operator, point or hold, nor INSTANT release N, each with one space between the words",
-        LineFault::BadInstant => "the first word isn't an instant such as 2025-01-31T18:00:00Z",
-        LineFault::UnknownPoint =>
+        ScriptLineFault::BadInstant =>
+            "the first word isn't an instant such as 2025-01-31T18:00:00Z",
+        ScriptLineFault::UnknownPoint =>
             "the site has no point of this identity; letters of either case differ",
-        LineFault::NotComposite =>
+        ScriptLineFault::NotComposite =>
             "a request that is held has to be a CALL of GetCompositeSchedule",
-        LineFault::UnknownRequest => "no request of this number is held",
+        ScriptLineFault::UnknownRequest => "no request of this number is held",
     }
 }
 

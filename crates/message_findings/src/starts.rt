@@ -10,7 +10,7 @@ use std::alloc::{AllocError, Global};
 
 /// A remote start that waits for its transaction.
 #[derive(Drop)]
-struct KnownStart {
+struct PendingRemoteStart {
     connector: u32,
     /// The number of its call.
     call: u64,
@@ -24,7 +24,7 @@ struct KnownStart {
 struct PointStarts {
     /// Whether the call in flight is that of a remote start.
     is_asked: bool,
-    waiting: Vec<KnownStart>,
+    waiting: Vec<PendingRemoteStart>,
 }
 
 /// A remote start that ended with a transaction, but without its profile.
@@ -47,16 +47,16 @@ pub(crate) struct StartsChange {
 
 /// The remote starts that wait at the points.
 #[derive(Drop)]
-pub(crate) struct Starts {
+pub(crate) struct PendingRemoteStarts {
     alloc: Global,
     /// The points of the site file, in its order, up to the last one with a message so far.
     points: Vec<PointStarts>,
 }
 
-impl Starts {
+impl PendingRemoteStarts {
     /// Begins before the first line, without any.
-    pub(crate) fn new(alloc: Global) -> Starts {
-        Starts {
+    pub(crate) fn new(alloc: Global) -> PendingRemoteStarts {
+        PendingRemoteStarts {
             alloc,
             points: Vec::new(alloc),
         }
@@ -126,10 +126,10 @@ fn known_starts(
     alloc: Global,
     playing: &Playing<'_>,
     point: &str,
-) -> Result<Vec<KnownStart>, AllocError> {
+) -> Result<Vec<PendingRemoteStart>, AllocError> {
     let mut starts = Vec::new(alloc);
     for start in playing.machine().waiting_of(point) {
-        starts.push(KnownStart {
+        starts.push(PendingRemoteStart {
             connector: start.connector,
             call: start.call,
             id_tag: start.id_tag.copy(alloc)?,

@@ -1,8 +1,8 @@
 //! Checks the message in a line of a script as a frame (OCPP-J 1.6, chapter 4).
 
 use crate::audit_check::check_verdict;
-use crate::call_check::{Call, check_call};
-use crate::line_text::{LineText, Sender};
+use crate::call_check::{LineCall, check_call};
+use crate::line_text::{LineMessage, Sender};
 use crate::remote_start_check::warn_not_started;
 use crate::report::Report;
 use crate::sentences::{call_sentence, line_sentence};
@@ -13,7 +13,7 @@ use ocppj_frame::{
     Field, Frame, FrameFault, MAX_ID_CHARACTERS, Node, ReadingMemory, read_frame, read_tree,
     text_field,
 };
-use replay::LineFault;
+use replay::ScriptLineFault;
 use std::alloc::{AllocError, Global};
 
 /// The outcome of reading a message.
@@ -29,7 +29,7 @@ enum Reading {
 pub(crate) fn check_text(
     report: &mut Report,
     memory: &mut ReadingMemory,
-    text: &LineText<'_>,
+    text: &LineMessage<'_>,
 ) -> Result<(), AllocError> {
     match check_message(report, memory, text)? {
         Reading::Checked => Ok(()),
@@ -41,7 +41,7 @@ pub(crate) fn check_text(
 fn check_message(
     report: &mut Report,
     memory: &mut ReadingMemory,
-    text: &LineText<'_>,
+    text: &LineMessage<'_>,
 ) -> Result<Reading, AllocError> {
     match read_frame(memory, text.frame) {
         Ok(frame) => check_frame(report, text, frame)?,
@@ -55,7 +55,7 @@ fn check_message(
 /// Checks a frame.
 fn check_frame(
     report: &mut Report,
-    text: &LineText<'_>,
+    text: &LineMessage<'_>,
     frame: Frame<'_>,
 ) -> Result<(), AllocError> {
     match frame {
@@ -64,7 +64,7 @@ fn check_frame(
             payload,
             ..
         } => {
-            let call = Call {
+            let call = LineCall {
                 text,
                 action: action.as_str(),
                 payload: payload.root(),
@@ -119,7 +119,7 @@ fn status_of_start<'memory>(payload: Node<'_, 'memory>) -> Option<&'memory str> 
 /// an operator's reply. A point's reply that confirms no call is ignored.
 fn check_reply(
     report: &mut Report,
-    text: &LineText<'_>,
+    text: &LineMessage<'_>,
     id: &str,
     status: Option<&str>,
 ) -> Result<(), AllocError> {
@@ -151,10 +151,10 @@ fn check_reply(
 /// Reports a `hold` line that is no request for a schedule.
 pub(crate) fn not_composite(
     report: &mut Report,
-    text: &LineText<'_>,
+    text: &LineMessage<'_>,
     why: &str,
 ) -> Result<(), AllocError> {
-    let fault = LineFault::NotComposite;
+    let fault = ScriptLineFault::NotComposite;
     let rule = line_sentence(fault);
     let frame = excerpt(report.alloc, text.frame)?;
     let message = format!(in report.alloc; "{fault}: {rule}, and {why}: {frame}")?;
@@ -162,7 +162,7 @@ pub(crate) fn not_composite(
 }
 
 /// Reports a CALL whose action is no string or whose payload is no object.
-fn check_malformed(report: &mut Report, text: &LineText<'_>) -> Result<(), AllocError> {
+fn check_malformed(report: &mut Report, text: &LineMessage<'_>) -> Result<(), AllocError> {
     if text.sender == Sender::Hold {
         return not_composite(report, text, "it is malformed");
     }
@@ -176,7 +176,7 @@ fn check_malformed(report: &mut Report, text: &LineText<'_>) -> Result<(), Alloc
 fn check_dropped(
     report: &mut Report,
     memory: &mut ReadingMemory,
-    text: &LineText<'_>,
+    text: &LineMessage<'_>,
 ) -> Result<(), AllocError> {
     let before = character_count(text.line).saturating_sub(character_count(text.frame));
     let why = why_dropped(report.alloc, memory, text.frame, before)?;

@@ -143,7 +143,7 @@ pub fn push_profile(out: &mut String, profile: &Profile) -> Result<(), AllocErro
         (profile_text profile.now) }
 {
     out.push_str("{")?;
-    push_own_fields(out, profile)?;
+    push_profile_scalars(out, profile)?;
     out.push_str(r#","chargingSchedule":"#)?;
     push_schedule(out, &profile.schedule)?;
     out.push_str("}")?;
@@ -151,7 +151,7 @@ pub fn push_profile(out: &mut String, profile: &Profile) -> Result<(), AllocErro
 }
 
 /// Appends the fields of a profile up to its schedule.
-fn push_own_fields(out: &mut String, profile: &Profile) -> Result<(), AllocError>
+fn push_profile_scalars(out: &mut String, profile: &Profile) -> Result<(), AllocError>
     ensures { Appends result (string_bytes out.old) (string_bytes out.new)
         (fields_text (own_fields profile.now)) }
 {
@@ -366,7 +366,7 @@ fn push_remote_start_words(
         (remote_start_words connector id_tag.now profile.now) }
 {
     push_tag_words(out, connector, id_tag.as_str())?;
-    push_words_of_profile(out, profile)?;
+    push_profile_suffix(out, profile)?;
     Ok(())
 }
 
@@ -379,7 +379,7 @@ fn push_tag_words(out: &mut String, connector: u32, id_tag: &str) -> Result<(), 
     push_words(out, " at connector ", FieldValue::Whole(connector))
 }
 
-fn push_words_of_profile(out: &mut String, profile: &Option<Profile>) -> Result<(), AllocError>
+fn push_profile_suffix(out: &mut String, profile: &Option<Profile>) -> Result<(), AllocError>
     ensures { Appends result (string_bytes out.old) (string_bytes out.new)
         (words_of_profile profile.now) }
 {

@@ -20,7 +20,7 @@ const FAILED: u8 = 3;
 
 /// The options for sending messages.
 #[derive(Drop)]
-pub struct Sending<'a> {
+pub struct SendOptions<'a> {
     /// The operator's URL, without an identity if points are called by theirs.
     pub url: &'a str,
     /// The name and the key for authentication, if any.
@@ -35,12 +35,12 @@ pub struct Sending<'a> {
 #[derive(Drop)]
 pub struct Caller<'a, R> {
     pub rt: &'a R,
-    pub sending: Sending<'a>,
+    pub sending: SendOptions<'a>,
     status: u8,
 }
 
 impl<'a, R: Print + Eprint + AllocGlobal> Caller<'a, R> {
-    pub fn new(rt: &'a R, sending: Sending<'a>) -> Caller<'a, R> {
+    pub fn new(rt: &'a R, sending: SendOptions<'a>) -> Caller<'a, R> {
         Caller {
             rt,
             sending,

@@ -8,7 +8,7 @@ use std::alloc::{AllocError, Global};
 
 /// A profile of a point at a line.
 #[derive(Drop)]
-pub(crate) struct Kept {
+pub(crate) struct InstalledProfile {
     pub(crate) name: PrevailingProfile,
     /// The payload that installs it.
     // A profile is compared by this text, since it has all fields and the connector.
@@ -20,15 +20,15 @@ pub(crate) struct Kept {
 }
 
 /// Returns the profiles that a point has.
-pub(crate) fn kept_by(
+pub(crate) fn installed_profiles(
     alloc: Global,
     machine: &Machine,
     point: &str,
-) -> Result<Vec<Kept>, AllocError> {
+) -> Result<Vec<InstalledProfile>, AllocError> {
     let mut kept = Vec::new(alloc);
     if let Some(book) = machine.book_of(point) {
         for row in book.view().rows {
-            kept.push(Kept {
+            kept.push(InstalledProfile {
                 name: name_of(row),
                 payload: payload_of(alloc, row)?,
                 transaction: transaction_of(machine, point, row.connector),
@@ -66,7 +66,7 @@ pub(crate) fn transaction_of(machine: &Machine, point: &str, connector: u32) -> 
 }
 
 /// Returns whether one of these profiles is the same, at the same connector.
-pub(crate) fn is_among(kept: &Kept, others: &[Kept]) -> bool {
+pub(crate) fn contains_profile(kept: &InstalledProfile, others: &[InstalledProfile]) -> bool {
     let payload = kept.payload.as_str();
     others.iter().any(|other| other.payload.as_str() == payload)
 }

@@ -1,6 +1,6 @@
 //! Finds the changes of later lines at the point of an undo, and which of them it reverts.
 
-use crate::kept::{Kept, is_among, kept_by};
+use crate::kept::{InstalledProfile, contains_profile, installed_profiles};
 use meaning::PrevailingProfile;
 use messages::purpose_name;
 use ocpp_scalars::{Instant, push_instant};
@@ -39,7 +39,7 @@ pub(crate) struct PointFollower<'a> {
     alloc: Global,
     point: &'a str,
     /// The profiles that the point has.
-    kept: Vec<Kept>,
+    kept: Vec<InstalledProfile>,
     changes: Vec<LaterChange>,
 }
 
@@ -53,7 +53,7 @@ impl<'a> PointFollower<'a> {
         Ok(PointFollower {
             alloc,
             point,
-            kept: kept_by(alloc, machine, point)?,
+            kept: installed_profiles(alloc, machine, point)?,
             changes: Vec::new(alloc),
         })
     }
@@ -75,7 +75,7 @@ impl<'a> PointFollower<'a> {
         }
         // The lists are compared since a line has more effects than it names: an install replaces
         // others, and a transaction ends TxProfiles.
-        let now = kept_by(self.alloc, machine, self.point)?;
+        let now = installed_profiles(self.alloc, machine, self.point)?;
         for profile in without(self.alloc, now.as_slice(), self.kept.as_slice())? {
             self.changes.push(LaterChange {
                 line: played.number,
@@ -98,7 +98,10 @@ impl<'a> PointFollower<'a> {
 
     /// Returns the changes that are reverted if the point has these profiles again. Of several
     /// changes of one profile the last counts. A line with an install is named by that.
-    pub(crate) fn taken_back(self, before: &[Kept]) -> Result<Vec<LaterChange>, AllocError> {
+    pub(crate) fn taken_back(
+        self,
+        before: &[InstalledProfile],
+    ) -> Result<Vec<LaterChange>, AllocError> {
         let cleared = without(self.alloc, self.kept.as_slice(), before)?;
         let mut back = Vec::new(self.alloc);
         for kept in before {
@@ -147,12 +150,12 @@ fn may_change_profiles(change: PointChange) -> bool {
 /// Returns the names of the profiles that aren't among the others.
 fn without(
     alloc: Global,
-    profiles: &[Kept],
-    others: &[Kept],
+    profiles: &[InstalledProfile],
+    others: &[InstalledProfile],
 ) -> Result<Vec<PrevailingProfile>, AllocError> {
     let mut names = Vec::new(alloc);
     for kept in profiles {
-        if !is_among(kept, others) {
+        if !contains_profile(kept, others) {
             names.push(kept.name)?;
         }
     }

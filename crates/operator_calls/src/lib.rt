@@ -13,7 +13,7 @@ mod undone_line;
 mod visit;
 
 pub use call_script::{CallScript, on_one_line, script_of_calls};
-pub use caller::{Caller, Sending};
+pub use caller::{Caller, SendOptions};
 pub use given_call::GivenCall;
 pub use later_changes::LaterChange;
 pub use operator_url::{is_without_point, point_of_url, url_of_point};

@@ -4,7 +4,7 @@ ghost use Rattle.std.specs.Prelude.{◌≤◌, length};
 ghost use Rattle.replay.specs.Limits.{max_script_bytes};
 
 use crate::given_call::GivenCall;
-use crate::kept::{Kept, is_among, kept_by, transaction_of};
+use crate::kept::{InstalledProfile, contains_profile, installed_profiles, transaction_of};
 use crate::later_changes::{LaterChange, PointFollower};
 use client_lines::{clear_call, set_profile_call};
 use profile::Purpose;
@@ -52,13 +52,13 @@ pub fn undo_to<R: Clock + Eprint + AllocGlobal>(
     let mut progress = Progress::of_lines(rt);
     let mut playing = Playing::new(alloc, script, site)?;
     play_to(rt, &mut playing, &mut progress, script.len(), number)?;
-    let mut before = kept_by(alloc, playing.machine(), point)?;
+    let mut before = installed_profiles(alloc, playing.machine(), point)?;
     // The follower begins after the undone line, whose own changes aren't later ones.
     let behind = number.saturating_add(1);
     play_to(rt, &mut playing, &mut progress, script.len(), behind)?;
     let mut follower = PointFollower::begin(alloc, playing.machine(), point)?;
     follow_rest(rt, &mut playing, &mut progress, script.len(), &mut follower)?;
-    let now = kept_by(alloc, playing.machine(), point)?;
+    let now = installed_profiles(alloc, playing.machine(), point)?;
     let lost = find_lost(alloc, playing.machine(), point, &mut before, now.as_slice())?;
     let calls = calls_between(alloc, before.as_slice(), now.as_slice())?;
     let later = follower.taken_back(before.as_slice())?;
@@ -70,12 +70,12 @@ fn find_lost(
     alloc: Global,
     machine: &Machine,
     point: &str,
-    before: &mut Vec<Kept>,
-    now: &[Kept],
+    before: &mut Vec<InstalledProfile>,
+    now: &[InstalledProfile],
 ) -> Result<Vec<LostProfile>, AllocError> {
     let mut lost = Vec::new(alloc);
     for kept in before {
-        if is_among(kept, now) {
+        if contains_profile(kept, now) {
             continue;
         }
         kept.comes_back = may_come_back(machine, point, kept);
@@ -127,7 +127,7 @@ fn follow_rest<R: Clock + Eprint>(
 }
 
 /// Returns whether a point may get a profile again: a TxProfile only in its own transaction.
-fn may_come_back(machine: &Machine, point: &str, kept: &Kept) -> bool {
+fn may_come_back(machine: &Machine, point: &str, kept: &InstalledProfile) -> bool {
     kept.name.purpose != Purpose::TxProfile
         || kept.transaction == transaction_of(machine, point, kept.name.connector)
 }
@@ -135,12 +135,12 @@ fn may_come_back(machine: &Machine, point: &str, kept: &Kept) -> bool {
 /// Returns the calls that lead from the present profiles to the earlier ones.
 fn calls_between(
     alloc: Global,
-    before: &[Kept],
-    now: &[Kept],
+    before: &[InstalledProfile],
+    now: &[InstalledProfile],
 ) -> Result<Vec<GivenCall>, AllocError> {
     let mut calls = Vec::new(alloc);
     for added in now {
-        if !is_among(added, before) && !is_replaced(added, before) {
+        if !contains_profile(added, before) && !is_replaced(added, before) {
             let id = added.name.id;
             // Many points ignore the other criteria of a clear with an id.
             let criteria = format!(in alloc; "{{\"id\":{id}}}")?;
@@ -156,7 +156,7 @@ fn calls_between(
 }
 
 /// Returns whether a profile that comes back replaces this one, which then needs no clear.
-fn is_replaced(added: &Kept, before: &[Kept]) -> bool {
+fn is_replaced(added: &InstalledProfile, before: &[InstalledProfile]) -> bool {
     let name = added.name;
     before
         .iter()

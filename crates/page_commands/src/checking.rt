@@ -1,9 +1,9 @@
 //! The job of `central check`.
 
 use command_io::{ProgramFault, print_page, read_key_bytes, read_script_of, read_site_bytes};
-use journal_file::read_boots;
 use findings::{Finding, check_site, exit_status};
 use jobs::{Checking, Source};
+use journal_file::read_boots;
 use site_checks::{PlayedScript, find_in_keys, push_findings, push_played, site_page};
 use site_rules::{Site, SiteFault, read_site};
 use site_status::Boot;

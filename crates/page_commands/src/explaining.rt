@@ -9,13 +9,13 @@ use command_io::{
     ProgramFault, Screen, note_refused_lines, note_unzoned, now, page_status, print_page,
     read_digested_site, read_script_of, script_end, write_file,
 };
-use journal_file::ScriptEnd;
 use explain_pages::{
-    ClockShift, ExplainedAsk, ZoneClock, not_counted, write_json, write_page, write_picture,
+    ClockShift, ExplainedRequest, ZoneClock, not_counted, write_json, write_page, write_picture,
     write_table,
 };
 use jobs::{Explaining, Source, Start, read_duration};
-use journal_reader::{Following, follow_journal};
+use journal_file::ScriptEnd;
+use journal_reader::{FollowRequest, follow_journal};
 use meaning::Ask;
 use ocpp_scalars::{Instant, write_instant};
 use point_book::PointBook;
@@ -55,7 +55,7 @@ pub fn explain_file<R: Files<File = File> + Input + Print + Eprint + Clock + All
     let Source::Journal(folder) = explaining.source else {
         return explain_script(rt, presentation, end, site, &ask);
     };
-    let following = Following {
+    let following = FollowRequest {
         site,
         digest,
         folder,
@@ -227,7 +227,7 @@ fn print_explanation<R: Files + Print + Eprint + AllocGlobal>(
     let explanation = explain(alloc, book, ask, &mut Turns::new())?;
     let view = book.view();
     let rest = not_counted(alloc, &view, ask, explanation.intervals())?;
-    let explained = ExplainedAsk {
+    let explained = ExplainedRequest {
         point: presentation.explaining.point,
         unit: presentation.unit,
         ask: *ask,

@@ -4,9 +4,9 @@ use command_io::{
     ProgramFault, note_refused_lines, page_status, print_page, read_digested_site, read_script_of,
     script_end,
 };
-use journal_file::ScriptEnd;
 use jobs::{Showing, Source};
-use journal_reader::{Following, follow_journal};
+use journal_file::ScriptEnd;
+use journal_reader::{FollowRequest, follow_journal};
 use show_pages::{Depth, Standing, standing_json, standing_text, trace_script};
 use site_rules::Site;
 use std::alloc::AllocGlobal;
@@ -23,7 +23,7 @@ pub fn show_file<R: Files<File = File> + Input + Print + Eprint + Clock + AllocG
     let Source::Journal(folder) = showing.source else {
         return show_script(rt, showing, end, site);
     };
-    let following = Following {
+    let following = FollowRequest {
         site,
         digest,
         folder,

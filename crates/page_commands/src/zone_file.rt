@@ -1,9 +1,9 @@
 //! The file of a time zone, in the system's database.
 
 use command_io::ProgramFault;
-use journal_file::or_stop;
 use explain_pages::ClockShift;
 use jobs::Explaining;
+use journal_file::report_error;
 use meaning::Ask;
 use replay::{InputFault, read_all};
 use std::alloc::AllocGlobal;
@@ -70,7 +70,7 @@ fn read_zone_bytes<R: Files<File = File> + Eprint + AllocGlobal>(
         Err(error) if error.kind() == ErrorKind::NotFound => return Err(ProgramFault::NoZone),
         opened => opened,
     };
-    let mut file = or_stop(rt, path, opened, ProgramFault::File)?;
+    let mut file = report_error(rt, path, opened, ProgramFault::File)?;
     match read_all(rt.alloc(), &mut file, MAX_ZONE_BYTES) {
         Ok(bytes) => Ok(bytes),
         Err(InputFault::OutOfMemory) => Err(ProgramFault::OutOfMemory),

@@ -11,7 +11,7 @@ use std::alloc::{AllocError, Global};
 
 /// The changes that a line made to the profiles of its point.
 #[derive(Clone, Copy)]
-pub struct RowChange<'a> {
+pub struct ProfileChange<'a> {
     /// The line's number, from 1.
     pub number: u64,
     /// The line's frame.
@@ -24,7 +24,7 @@ pub struct RowChange<'a> {
 
 /// Checks a change. Finds the profiles that an install replaced, and the ChargePointMaxProfiles
 /// that a clear by other criteria removed too.
-pub fn check_change(alloc: Global, change: &RowChange<'_>) -> Result<Vec<Finding>, AllocError> {
+pub fn check_change(alloc: Global, change: &ProfileChange<'_>) -> Result<Vec<Finding>, AllocError> {
     let mut findings = Vec::new(alloc);
     if let Some(came) = change.came {
         for gone in change.gone {

@@ -3,7 +3,7 @@
 ghost use Rattle.std.specs.Prelude.{◌↔◌, IfOk, IsSome};
 ghost use Rattle.profile_findings.specs.Fuse.{IsRaised, IsRaisedOrGone};
 
-use crate::standing_check::highest_limit;
+use crate::installed_check::highest_limit;
 use findings::{Finding, Location, tenths_text};
 use messages::unit_name;
 use point_book::PointBook;

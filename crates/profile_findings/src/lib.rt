@@ -5,12 +5,12 @@ mod boot_check;
 mod change_check;
 mod fuse_check;
 mod hidden;
+mod installed_check;
 mod never;
-mod standing_check;
 mod together;
 
 pub use boot_check::check_boot;
-pub use change_check::{RowChange, check_change, has_no_criterion, takes_place_of};
+pub use change_check::{ProfileChange, check_change, has_no_criterion, takes_place_of};
 pub use fuse_check::{check_fuse, check_raise, check_unlimited, fuse_limit};
+pub use installed_check::check_installed_profiles;
 pub use never::{NeverRated, never_rated};
-pub use standing_check::check_standing;

@@ -86,7 +86,7 @@ fn fence_after(profile: &Profile, anchor: u64, begin: u64, second: u64) -> u64
     let from = bound_after(profile.valid_from, second);
     let to = bound_after(profile.valid_to, second);
     let end = end_after(profile.schedule.duration, begin, second);
-    let round = round_after(profile.kind, anchor, begin, second);
+    let round = next_recurrence(profile.kind, anchor, begin, second);
     lesser(lesser(from, to), lesser(end, round))
 }
 
@@ -115,7 +115,7 @@ fn end_after(duration: Option<u32>, begin: u64, second: u64) -> u64
 }
 
 /// Returns the second at which a schedule that began at `begin` begins again.
-fn round_after(kind: Kind, anchor: u64, begin: u64, second: u64) -> u64
+fn next_recurrence(kind: Kind, anchor: u64, begin: u64, second: u64) -> u64
     requires after { anchor ≤ second }
     requires in_calendar { second ≤ last_second }
     requires begin { begin ≡ second - offset_after kind (second - anchor) }

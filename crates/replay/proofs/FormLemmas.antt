@@ -9,8 +9,8 @@ use Rattle.std.proofs.lemmas.Slice.Eq.{bytes_eq-Decides}
 use Rattle.std.proofs.Math.ListN.{get_or-append}
 use Rattle.std.proofs.Math.Seq.{take-append_seam, drop-append-add, get_or-append_seam}
 use Rattle.std.specs.Fmt.{decimal}
-use Rattle.replay.specs.declared.script.form.LineWord.{LineWord}
-use Rattle.replay.specs.declared.script.form.LineWord.TheVariants.{Operator, Point, Hold}
+use Rattle.replay.specs.declared.script.form.ScriptWord.{ScriptWord}
+use Rattle.replay.specs.declared.script.form.ScriptWord.TheVariants.{Operator, Point, Hold}
 use Rattle.replay.specs.Form.{Form, text_line, release_line, spelled, IsWord, IsOfForm}
 use Rattle.texts.specs.ByCases.Number.{number_of}
 use Rattle.texts.specs.Theory.Number.{either, number_is, number_made}
@@ -62,7 +62,7 @@ word_made word rest is =
     ∙ rw (lt-ltb 0 (length word) is.0, lt-ltb (length word) (length text) long) whole
 
 -- a word names the kind of line that it spells, and no other word does
-word_is_spelled : (text : List ℕ) (word : LineWord) → word_named text ≡ Some word → text ≡ spelled word
+word_is_spelled : (text : List ℕ) (word : ScriptWord) → word_named text ≡ Some word → text ≡ spelled word
 word_is_spelled text word some =
     elim (either (bytes_eq text (codes "operator")) Operator word _ some) [
       | inl test ↦ (bytes_eq-Decides text (codes "operator")).0 test.0 ∙ ap spelled test.1
@@ -75,17 +75,17 @@ word_is_spelled text word some =
       ]
     ]
 
-word_made_named : (word : LineWord) → word_named (spelled word) ≡ Some word
+word_made_named : (word : ScriptWord) → word_named (spelled word) ≡ Some word
 word_made_named Operator = refl
 word_made_named Point = refl
 word_made_named Hold = refl
 
-not_release : (word : LineWord) → bytes_eq (spelled word) (codes "release") ≡ false
+not_release : (word : ScriptWord) → bytes_eq (spelled word) (codes "release") ≡ false
 not_release Operator = refl
 not_release Point = refl
 not_release Hold = refl
 
-spelled_is_word : (word : LineWord) → IsWord (spelled word)
+spelled_is_word : (word : ScriptWord) → IsWord (spelled word)
 spelled_is_word Operator = (lit< tt, λ k below. eqb-false (get_or (codes "operator") k 0) 32 (fails_before_first is_space (codes "operator") k 0 below))
 spelled_is_word Point = (lit< tt, λ k below. eqb-false (get_or (codes "point") k 0) 32 (fails_before_first is_space (codes "point") k 0 below))
 spelled_is_word Hold = (lit< tt, λ k below. eqb-false (get_or (codes "hold") k 0) 32 (fails_before_first is_space (codes "hold") k 0 below))

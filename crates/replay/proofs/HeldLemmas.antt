@@ -4,15 +4,15 @@ use Rattle.std.proofs.lemmas.List.Sums.{prefix_len-le-length}
 use Rattle.std.specs.List.{position, position_or_len}
 use Rattle.std.proofs.lemmas.Bool.{ltb-true, ltb-false}
 use Rattle.replay.specs.declared.player.held.Held.{Held}
-use Rattle.replay.specs.Held.{id_held, let_go}
+use Rattle.replay.specs.Held.{id_held, remove_held}
 use Rattle.replay.specs.ByCases.Held.{has_number}
 
 -- no request has the number
-pub absent : (number : ℕ) (held : List Held) → position_or_len (has_number number) held ≡ length held → (None ≡ id_held number held) × (held ≡ let_go number held)
+pub absent : (number : ℕ) (held : List Held) → position_or_len (has_number number) held ≡ length held → (None ≡ id_held number held) × (held ≡ remove_held number held)
 absent number [] none = (refl, refl)
 absent number (one ∷ others) none =
     elim (one.number == number) as (λ b. cond (not b) (1 + position_or_len (has_number number) others) 0 ≡ length (one ∷ others)
-    → (None ≡ cond b (Some one.id) (id_held number others)) × (one ∷ others ≡ cond b others (one ∷ let_go number others))) [
+    → (None ≡ cond b (Some one.id) (id_held number others)) × (one ∷ others ≡ cond b others (one ∷ remove_held number others))) [
       | true ↦ λ here. absurd (omega (arith, here))
       | false ↦ λ here. let rest = absent number others (omega (arith, here)) in (rest.0, ap (λ l. one ∷ l) rest.1)
     ] none
@@ -30,13 +30,13 @@ moved one others d n place e =
 -- the first request that has the number
 pub present : (number : ℕ) (held : List Held) (d : Held) → position_or_len (has_number number) held < length held
     → (Some (get_or held (position_or_len (has_number number) held) d).id ≡ id_held number held)
-    × (take (position_or_len (has_number number) held) held ++ drop (position_or_len (has_number number) held + 1) held ≡ let_go number held)
+    × (take (position_or_len (has_number number) held) held ++ drop (position_or_len (has_number number) held + 1) held ≡ remove_held number held)
 present number [] d some = absurd (omega (arith, some))
 present number (one ∷ others) d some =
     let place = position_or_len (has_number number) others in
     elim (one.number == number) as (λ b. cond (not b) (1 + place) 0 < length (one ∷ others)
     → (Some (get_or (one ∷ others) (cond (not b) (1 + place) 0) d).id ≡ cond b (Some one.id) (id_held number others))
-    × (take (cond (not b) (1 + place) 0) (one ∷ others) ++ drop (cond (not b) (1 + place) 0 + 1) (one ∷ others) ≡ cond b others (one ∷ let_go number others))) [
+    × (take (cond (not b) (1 + place) 0) (one ∷ others) ++ drop (cond (not b) (1 + place) 0 + 1) (one ∷ others) ≡ cond b others (one ∷ remove_held number others))) [
       | true ↦ λ here. (refl, refl)
       | false ↦ λ here.
           let rest = present number others d (omega (arith, here)) in

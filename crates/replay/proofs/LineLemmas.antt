@@ -7,7 +7,7 @@ use Rattle.site_rules.specs.Site.{SiteState}
 use Rattle.replay.specs.Limits.{max_line_bytes}
 use Rattle.replay.specs.ByCases.Form.{form_of}
 use Rattle.replay.specs.Line.{line_of, line_of_form}
-use Rattle.replay.specs.declared.script.line.LineFault.TheVariants.{TooLong, BadText}
+use Rattle.replay.specs.declared.script.line.ScriptLineFault.TheVariants.{TooLong, BadText}
 
 pub line_of-text : (site : SiteState) (line : List ℕ) → length line ≤ max_line_bytes → IsUtf8 line → line_of_form site (form_of line) ≡ line_of site line
 unfolding line_of

@@ -26,7 +26,7 @@ use Rattle.site_core.specs.State.{MachineState, opening, audit_job, link_of}
 use Rattle.site_core.specs.Run.{Runs}
 use Rattle.site_core.specs.Step.{RepliesAreTheirSteps}
 use Rattle.site_core.specs.History.{Event, history_of}
-use Rattle.replay.specs.declared.script.line.LineFault.{LineFault}
+use Rattle.replay.specs.declared.script.line.ScriptLineFault.{ScriptLineFault}
 use Rattle.replay.specs.declared.script.line.ScriptLine.{ScriptLine}
 use Rattle.replay.specs.declared.script.line.ScriptLine.TheVariants.{Text, Hold, Release}
 use Rattle.texts.specs.declared.asked.Asked.{Asked}
@@ -404,7 +404,7 @@ hold_part laws old text (asked.Confirm point number accepted) is =
 abbrev PlayedPart : PlayerState → LineStep → Type 0
 PlayedPart old line = Part old.machine line.after.machine line.printed
 
-fault_part : (old : PlayerState) (line : ℕ) (fault : LineFault)
+fault_part : (old : PlayerState) (line : ℕ) (fault : ScriptLineFault)
     → PlayedPart old (fault_played old line fault)
 fault_part old line fault = no_step old.machine (lines.Fault line fault ∷ []) refl refl
 
@@ -428,7 +428,7 @@ said_part laws old line (Hold text) =
 said_part laws old line (Release number) =
     release_part laws old line number (id_held number old.held)
 
-read_part : Laws → (old : PlayerState) (line : ℕ) (read : Result ScriptLine LineFault)
+read_part : Laws → (old : PlayerState) (line : ℕ) (read : Result ScriptLine ScriptLineFault)
     → PlayedPart old (read_played old line read)
 read_part laws old line (Ok said) = said_part laws old line said
 read_part laws old line (Err fault) = fault_part old line fault
@@ -437,7 +437,7 @@ line_part : Laws → (old : PlayerState) (number : ℕ) (line : List ℕ)
     → PlayedPart old (line_played old number line)
 line_part laws old number line = by_said (said_on old.machine.site line)
   where
-    by_said : (said : Option (Result ScriptLine LineFault))
+    by_said : (said : Option (Result ScriptLine ScriptLineFault))
         → PlayedPart old (played_as old number said)
     by_said None = nothing old.machine
     by_said (Some read) = read_part laws old number read

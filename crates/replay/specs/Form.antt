@@ -3,17 +3,17 @@ use Rattle.std.specs.Prelude.{ℕ, ◌≡◌, ◌≢◌, ◌<◌, List, ◌∷�
 use Rattle.std.specs.Fmt.{decimal}
 use Rattle.std.specs.List.{EachIndex}
 use Rattle.ocpp_scalars.specs.Ascii.{space}
-use Rattle.replay.specs.declared.script.form.LineWord.{LineWord}
-use Rattle.replay.specs.declared.script.form.LineWord.TheVariants.{Operator, Point, Hold}
+use Rattle.replay.specs.declared.script.form.ScriptWord.{ScriptWord}
+use Rattle.replay.specs.declared.script.form.ScriptWord.TheVariants.{Operator, Point, Hold}
 use Rattle.texts.specs.Number.{IsNumber}
 
 pub data Form : Type 0 where
   -- `INSTANT operator ID FRAME`, `INSTANT point ID FRAME` and `INSTANT hold ID FRAME`
-  text_line : List ℕ → LineWord → List ℕ → List ℕ → Form
+  text_line : List ℕ → ScriptWord → List ℕ → List ℕ → Form
   -- `INSTANT release N`
   release_line : List ℕ → ℕ → Form
 
-abbrev pub spelled : LineWord → List ℕ
+abbrev pub spelled : ScriptWord → List ℕ
 spelled Operator = codes "operator"
 spelled Point = codes "point"
 spelled Hold = codes "hold"

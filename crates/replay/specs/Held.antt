@@ -9,7 +9,7 @@ id_held number (held ∷ others) =
     if held.number == number then Some held.id else id_held number others
 
 -- the request of this number is released
-abbrev pub let_go : ℕ → List Held → List Held
-let_go number [] = []
-let_go number (held ∷ others) =
-    if held.number == number then others else held ∷ let_go number others
+abbrev pub remove_held : ℕ → List Held → List Held
+remove_held number [] = []
+remove_held number (held ∷ others) =
+    if held.number == number then others else held ∷ remove_held number others

@@ -12,8 +12,8 @@ use Rattle.site_core.specs.declared.reply.Reply.{Reply}
 use Rattle.site_core.specs.declared.reply.Reply.TheVariants.{Taken}
 use Rattle.site_core.specs.State.{MachineState}
 use Rattle.site_rules.specs.Site.{SiteState}
-use Rattle.replay.specs.declared.script.line.LineFault.{LineFault}
-use Rattle.replay.specs.declared.script.line.LineFault.TheVariants.{NotComposite, UnknownRequest}
+use Rattle.replay.specs.declared.script.line.ScriptLineFault.{ScriptLineFault}
+use Rattle.replay.specs.declared.script.line.ScriptLineFault.TheVariants.{NotComposite, UnknownRequest}
 use Rattle.replay.specs.declared.script.line.ScriptLine.{ScriptLine}
 use Rattle.replay.specs.declared.script.line.ScriptLine.TheVariants.{Text, Hold, Release}
 use Rattle.replay.specs.declared.script.point_change.PointChange.{PointChange}
@@ -21,7 +21,7 @@ use Rattle.replay.specs.declared.script.point_change.PointChange.TheVariants.{No
 use Rattle.replay.specs.declared.script.played_line.LineOutcome.{LineOutcome}
 use Rattle.texts.specs.declared.asked.Asked.{Asked}
 use Rattle.texts.specs.declared.asked.Asked.TheVariants as asked
-use Rattle.replay.specs.Held.{id_held, let_go}
+use Rattle.replay.specs.Held.{id_held, remove_held}
 use Rattle.replay.specs.Player.{PlayerState, with_machine}
 use Rattle.texts.specs.SentText as texts
 use Rattle.replay.specs.MachineSteps.{Stepped, Sending, stepped_exactly, handed_out, stepped_at_once, attached_once, sent_first, replied_by}
@@ -135,7 +135,7 @@ hold_handled old text other = asked_handled old text other
 -- the request of this number is answered and released
 abbrev pub release_handled : PlayerState → ℕ → List ℕ → Handled
 release_handled old number id =
-    answered (record old { held = let_go number old.held }) id GetCompositeSchedule
+    answered (record old { held = remove_held number old.held }) id GetCompositeSchedule
     (handed_out old.machine number)
 
 -- ---- lines
@@ -155,7 +155,7 @@ text_played text = record {
   after = text.after;
 }
 
-abbrev pub fault_played : PlayerState → ℕ → LineFault → LineStep
+abbrev pub fault_played : PlayerState → ℕ → ScriptLineFault → LineStep
 fault_played old line fault = record {
   printed = lines.Fault line fault ∷ [];
   is_fault = true;
@@ -177,16 +177,16 @@ said_played old line (Text text) = text_played (text_handled old text.sender tex
 said_played old line (Hold text) = hold_played old line text (hold_of text)
 said_played old line (Release number) = release_played old line number (id_held number old.held)
 
-abbrev pub read_played : PlayerState → ℕ → Result ScriptLine LineFault → LineStep
+abbrev pub read_played : PlayerState → ℕ → Result ScriptLine ScriptLineFault → LineStep
 read_played old line (Ok said) = said_played old line said
 read_played old line (Err fault) = fault_played old line fault
 
 -- the contents of a line on a site, or its fault; an empty line has no contents
-abbrev pub said_on : SiteState → List ℕ → Option (Result ScriptLine LineFault)
+abbrev pub said_on : SiteState → List ℕ → Option (Result ScriptLine ScriptLineFault)
 said_on site line = if length line == 0 then None else Some (line_of site line)
 
 -- an empty line prints nothing
-abbrev pub played_as : PlayerState → ℕ → Option (Result ScriptLine LineFault) → LineStep
+abbrev pub played_as : PlayerState → ℕ → Option (Result ScriptLine ScriptLineFault) → LineStep
 played_as old number None = record { printed = []; is_fault = false; change = Nothing; after = old }
 played_as old number (Some read) = read_played old number read
 

@@ -6,7 +6,7 @@ use Rattle.messages.specs.declared.call.Call.{Call}
 use Rattle.messages.specs.declared.response.Response.{Response}
 use Rattle.messages.specs.CallText.{call_text}
 use Rattle.messages.specs.ResponseText.{response_text}
-use Rattle.replay.specs.declared.script.line.LineFault.{LineFault}
+use Rattle.replay.specs.declared.script.line.ScriptLineFault.{ScriptLineFault}
 pub use Rattle.replay.specs.declared.script.printed_line.PrintedLine.{PrintedLine}
 use Rattle.replay.specs.declared.script.printed_line.PrintedLine.TheVariants as lines
 use Rattle.replay.specs.Line.{fault_name}
@@ -24,7 +24,7 @@ abbrev pub held_line : ℕ → List ℕ
 held_line number = codes "held " ++ (decimal number ++ codes "\n")
 
 -- `! LINE NAME`
-abbrev pub fault_line : ℕ → LineFault → List ℕ
+abbrev pub fault_line : ℕ → ScriptLineFault → List ℕ
 fault_line number why =
     codes "! " ++ (decimal number ++ (codes " " ++ (fault_name why ++ codes "\n")))
 

@@ -11,7 +11,7 @@ mod script_laws;
 pub use player::held::Held;
 pub use progress::Progress;
 pub use script::input::{InputFault, read_all};
-pub use script::line::{LONGEST_FRAME, LineFault, ScriptLine, read_line};
+pub use script::line::{LONGEST_FRAME, ScriptLine, ScriptLineFault, read_line};
 pub use script::lines::split_line;
 pub use script::played_line::{LineOutcome, PlayedLine};
 pub use script::playing::{Playing, play_quietly};

@@ -38,12 +38,12 @@ struct Attention {
     /// Whether it was pinged since it was heard.
     is_pinged: bool,
     /// The last call that was sent to it.
-    sent: Option<SentMoment>,
+    sent: Option<CallMoment>,
 }
 
 /// When a call was sent to a point.
 #[derive(Clone, Copy)]
-struct SentMoment {
+struct CallMoment {
     number: u64,
     moment: Instant,
 }
@@ -183,7 +183,7 @@ impl Attention {
     /// A call was sent just now. Without a clock nobody waits for its reply.
     fn note_sent<R: Clock>(&mut self, rt: &R, number: u64) {
         self.sent = match Instant::now(rt) {
-            Ok(moment) => Some(SentMoment { number, moment }),
+            Ok(moment) => Some(CallMoment { number, moment }),
             Err(_) => None,
         };
     }

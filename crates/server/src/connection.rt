@@ -2,7 +2,7 @@
 
 ghost use Rattle.session.specs.Serving.{KeepsPass};
 
-use server_ports::{ClientRequest, Entry, PathPeer, peer_of_path, shake_hands};
+use server_ports::{Access, ClientRequest, PathPeer, peer_of_path, shake_hands};
 use session::{Context, SessionCore, serve_session};
 use std::alloc::AllocError;
 use std::io::{Read, Write};
@@ -19,7 +19,7 @@ pub(crate) fn run_connection<W: World, S: Read + Write + Drop>(
 ) -> Pass<W::Changes, W::Answers>
     ensures { KeepsPass pass result }
 {
-    let Ok((socket, asked)) = shake_hands(context.alloc, Entry::Open, stream) else {
+    let Ok((socket, asked)) = shake_hands(context.alloc, Access::Open, stream) else {
         return pass;
     };
     match admit(context, &asked) {

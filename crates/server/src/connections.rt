@@ -17,7 +17,7 @@ use world::Unrecorded;
 
 /// The passes of all sessions, once these have ended.
 #[derive(Drop)]
-pub(crate) struct Served<C: Ledger, A: Ledger> {
+pub(crate) struct EndedSessions<C: Ledger, A: Ledger> {
     pub(crate) passes: Vec<Pass<C, A>>,
     /// Whether each connection could be accepted.
     pub(crate) is_accepting: bool,
@@ -51,7 +51,7 @@ pub(crate) fn run_connections<
     context: &Context<'_, Unrecorded<C, A, R, M>>,
     listener: TcpListener,
     passes: Vec<Pass<C, A>>,
-) -> Result<Served<C, A>, AllocError>
+) -> Result<EndedSessions<C, A>, AllocError>
     ensures { IfOk result (λ served. length served.passes.items ≡ length passes.items) }
 {
     let count = passes.len();
@@ -61,13 +61,13 @@ pub(crate) fn run_connections<
     Ok(thread::scope(
         thread::scope_env(),
         context.rt,
-        |scope| -> Served<C, A>
+        |scope| -> EndedSessions<C, A>
             requires { (vec_len sessions ≡ 0) × (length passes.items ≤ vec_capacity sessions)
                 × (vec_len ended ≡ 0) × (length passes.items ≤ vec_capacity ended) }
             ensures { length result.passes.items ≡ length passes.items }
         {
             let begun = begin_all(scope, context, listener, passes, sessions);
-            Served {
+            EndedSessions {
                 passes: end_all(context.rt, begun.sessions, ended),
                 is_accepting: begun.is_accepting,
             }

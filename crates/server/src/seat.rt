@@ -10,7 +10,7 @@ use crossbeam_channel::Receiver;
 use ghost_list::ListName;
 use journal::Journal;
 use server_ports::{
-    ClientRequest, Entry, IncomingStream, SeatContext, SeatWorld, Unshaken, note_operator,
+    Access, ClientRequest, IncomingStream, SeatContext, SeatWorld, Unshaken, note_operator,
     note_unknown, note_unshaken, shake_hands,
 };
 use session::{Context, Peer, claim_link, release_link};
@@ -128,7 +128,7 @@ fn shake_in_time<'a, C: Ledger, A: Ledger, R: Threads + Wait + Clock + Sync, J, 
     seats: &SeatContext<C, A, R, J, N>,
     stream: IncomingStream<'a, R>,
 ) -> Result<(SeatSocket<'a, R>, ClientRequest), Unshaken> {
-    let entry = Entry::Guarded {
+    let entry = Access::Guarded {
         keys: seats.options.keys.as_ref(),
         address: seats.options.address.as_str(),
     };
@@ -149,7 +149,7 @@ fn shake_in_time<'a, C: Ledger, A: Ledger, R: Threads + Wait + Clock + Sync, J, 
 fn shake_apart<'a, R: Threads + Wait + Clock + Sync>(
     rt: &R,
     alloc: Global,
-    entry: Entry<'_>,
+    entry: Access<'_>,
     stream: IncomingStream<'a, R>,
 ) -> Result<(SeatSocket<'a, R>, ClientRequest), Unshaken> {
     let (shaken, ()) = thread::join(rt, move || shake_hands(alloc, entry, stream), || ());

@@ -2,7 +2,7 @@
 
 ghost use Rattle.std.specs.Prelude.{◌≡◌, ◌≤◌, IfOk, length};
 
-use crate::connections::{Served, run_connections};
+use crate::connections::{EndedSessions, run_connections};
 use compile_pool::{MAX_JOBS, Open, run_pool};
 use crossbeam_channel::bounded;
 use journal::NoJournal;
@@ -40,7 +40,7 @@ pub fn serve<R: Threads + Wait + Sync, M: Moments + Sync>(
     requires workers { 1 ≤ workers }
     requires sessions { 1 ≤ sessions }
 {
-    let plan = Plan {
+    let plan = ServePlan {
         alloc,
         workers,
         sessions,
@@ -52,7 +52,7 @@ pub fn serve<R: Threads + Wait + Sync, M: Moments + Sync>(
 
 /// How a site is served.
 #[derive(Drop)]
-struct Plan<'a, M> {
+struct ServePlan<'a, M> {
     alloc: Global,
     workers: usize,
     sessions: u64,
@@ -67,7 +67,7 @@ fn run_counted<
     M: Moments + Sync,
 >(
     rt: &R,
-    plan: Plan<'_, M>,
+    plan: ServePlan<'_, M>,
     site: Site,
     listener: TcpListener,
     blanks: (Blank, Blank),
@@ -113,15 +113,15 @@ fn run_beside_workers<
     M: Moments + Sync,
 >(
     rt: &R,
-    plan: Plan<'_, M>,
+    plan: ServePlan<'_, M>,
     listener: TcpListener,
     shared: &Shared<C, A>,
     passes: Vec<Pass<C, A>>,
-) -> Result<Served<C, A>, AllocError>
+) -> Result<EndedSessions<C, A>, AllocError>
     requires { 1 ≤ plan.workers }
     ensures { IfOk result (λ served. length served.passes.items ≡ length passes.items) }
 {
-    let Plan {
+    let ServePlan {
         alloc,
         workers,
         clock,
@@ -131,7 +131,7 @@ fn run_beside_workers<
     thread::scope(
         thread::scope_env(),
         rt,
-        |scope| -> Result<Served<C, A>, AllocError>
+        |scope| -> Result<EndedSessions<C, A>, AllocError>
             requires { 1 ≤ workers }
             ensures { IfOk result (λ served. length served.passes.items ≡ length passes.items) }
         {

@@ -4,10 +4,10 @@ use ghost_list::ListName;
 use journal::Journal;
 use messages::ActionKind;
 use ocpp_scalars::{Instant, Moments};
-use server_core::{Rejected, Reply};
+use server_core::{PointReply, Rejected};
 use server_ports::SeatContext;
 use session::{Breach, Ended, SentCall, SessionCore, Told};
-use site_status::{Boot, CallNumbers, SentMoment, Sighting};
+use site_status::{Boot, CallMoment, CallNumbers, Observation};
 use std::alloc::{AllocError, Global};
 use std::rt::Clock;
 use std::sync::Wait;
@@ -36,7 +36,7 @@ impl<C: Ledger, A: Ledger, R: Wait + Clock, J: Journal<N>, N: ListName> SessionW
         let seats = self.seats;
         seats.watch.begin(&seats.rt, self.link.is_some());
         if let (Some(link), Some(moment)) = (self.link, seats.clock.now()) {
-            self.see(Sighting::Connected { link, moment });
+            self.see(Observation::Connected { link, moment });
             self.say(core, Event::Connected);
         }
     }
@@ -68,11 +68,11 @@ impl<C: Ledger, A: Ledger, R: Wait + Clock, J: Journal<N>, N: ListName> SessionW
             }
             return;
         }
-        self.see(Sighting::Heard { moment });
+        self.see(Observation::Heard { moment });
         match told {
             Told::Boot => self.hear_boot(core, moment),
             Told::Reply { call, rejection } => {
-                let reply = Reply {
+                let reply = PointReply {
                     call,
                     rejection,
                     moment,
@@ -86,7 +86,7 @@ impl<C: Ledger, A: Ledger, R: Wait + Clock, J: Journal<N>, N: ListName> SessionW
     /// A call was sent.
     pub(crate) fn send(&self, call: SentCall) {
         if let Some(moment) = self.seats.clock.now() {
-            self.see(Sighting::Sent(SentMoment {
+            self.see(Observation::Sent(CallMoment {
                 number: call.number,
                 action: call.action,
                 moment,
@@ -123,11 +123,11 @@ impl<C: Ledger, A: Ledger, R: Wait + Clock, J: Journal<N>, N: ListName> SessionW
             None => 0,
         };
         drop(book);
-        self.see(Sighting::Booted(Boot { moment, first_call }));
+        self.see(Observation::Booted(Boot { moment, first_call }));
         self.say(core, Event::Booted);
     }
 
-    fn hear_reply(&self, core: &SessionCore, reply: Reply) {
+    fn hear_reply(&self, core: &SessionCore, reply: PointReply) {
         let seats = self.seats;
         let call = reply.call;
         let said = reason_of(seats.alloc, &reply);
@@ -141,7 +141,7 @@ impl<C: Ledger, A: Ledger, R: Wait + Clock, J: Journal<N>, N: ListName> SessionW
         self.say_made(core, what);
     }
 
-    fn see(&self, sighting: Sighting) {
+    fn see(&self, sighting: Observation) {
         let seats = self.seats;
         seats.watch.see(&seats.rt, self.place, sighting);
     }
@@ -189,7 +189,7 @@ impl Event {
 }
 
 /// A copy of the reason for which a point rejects a call; empty where it doesn't.
-fn reason_of(alloc: Global, reply: &Reply) -> Result<String, AllocError> {
+fn reason_of(alloc: Global, reply: &PointReply) -> Result<String, AllocError> {
     match &reply.rejection {
         Some(reason) => String::from_str(alloc, reason.as_str()),
         None => Ok(String::new(alloc)),

@@ -8,7 +8,7 @@ use command_io::{ProgramFault, read_digested_site, read_key_file};
 use ghost_list::{ListName, Unnamed};
 use jobs::{MAX_SEATS, MAX_WORKERS, Running};
 use journal_file::{
-    FolderFault, JournalFile, OpenJournal, Resumed, open_journal, or_stop, restore_shared,
+    FolderFault, JournalFile, OpenJournal, Resumed, open_journal, report_error, restore_shared,
 };
 use server::{
     SeatContext, SeatOptions, SeatedBook, StatusPort, begin_boots, begin_status, run_seats,
@@ -148,9 +148,9 @@ fn listen<R: Eprint + Net<Listener = TcpListener, Stream = TcpStream>>(
             return Err(ProgramFault::NoPort);
         }
     }
-    let listener = or_stop(rt, address, bound, ProgramFault::Socket)?;
+    let listener = report_error(rt, address, bound, ProgramFault::Socket)?;
     let told = listener.local_addr();
-    let local = or_stop(rt, address, told, ProgramFault::Socket)?;
+    let local = report_error(rt, address, told, ProgramFault::Socket)?;
     if is_open || local.ip().is_loopback() {
         Ok(listener)
     } else {

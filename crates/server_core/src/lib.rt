@@ -21,12 +21,12 @@ pub use deadlines::{
     SILENCE_BEFORE_CALL, SILENCE_BEFORE_PING, TICK,
 };
 pub use free_seats::FreeSeats;
-pub use long_messages::{LongMessages, Place};
+pub use long_messages::{LongMessagePlace, LongMessages};
 pub use notices::Notices;
 pub use pace::{AheadClients, Pace};
 pub use present_streams::PresentStreams;
 pub use seldom::Seldom;
 pub use shared_stream::{SharedStream, seconds_since, shut};
-pub use site_watch::{Rejected, Reply, Seen, SiteWatch};
+pub use site_watch::{PointReply, Rejected, Seen, SiteWatch};
 pub use status_stream::StatusStream;
 pub use unfinished_handshakes::UnfinishedHandshakes;

@@ -10,18 +10,18 @@ const MAX_PLACES: u64 = 16;
 /// connections never have one.
 #[derive(Drop)]
 pub struct LongMessages {
-    places: Mutex<Places>,
+    places: Mutex<FreePlaces>,
 }
 
 #[derive(Clone, Copy)]
-struct Places {
+struct FreePlaces {
     free: u64,
     waiting: u64,
 }
 
 /// Whether a connection has one of the places.
 #[derive(Clone, Copy, PartialEq, Eq)]
-pub enum Place {
+pub enum LongMessagePlace {
     /// It has had no long message.
     Unasked,
     /// It waits for one.
@@ -34,7 +34,7 @@ impl LongMessages {
     /// No connection has a long message yet.
     pub fn new() -> LongMessages {
         LongMessages {
-            places: Mutex::new(Places {
+            places: Mutex::new(FreePlaces {
                 free: MAX_PLACES,
                 waiting: 0,
             }),
@@ -43,28 +43,28 @@ impl LongMessages {
 
     /// Asks for a place for a connection that has none, perhaps once more. Without a free one the
     /// connection waits for it.
-    pub fn ask<R: Wait>(&self, rt: &R, place: Place) -> Place {
+    pub fn ask<R: Wait>(&self, rt: &R, place: LongMessagePlace) -> LongMessagePlace {
         let mut places = self.places.lock(rt);
         if places.free == 0 {
-            if place == Place::Unasked {
+            if place == LongMessagePlace::Unasked {
                 places.waiting = places.waiting.saturating_add(1);
             }
-            return Place::Awaited;
+            return LongMessagePlace::Awaited;
         }
-        if place == Place::Awaited {
+        if place == LongMessagePlace::Awaited {
             places.waiting = places.waiting.saturating_sub(1);
         }
         places.free -= 1;
-        Place::Taken
+        LongMessagePlace::Taken
     }
 
     /// A connection ends that has such a place, or waits for one.
-    pub fn leave<R: Wait>(&self, rt: &R, place: Place) {
+    pub fn leave<R: Wait>(&self, rt: &R, place: LongMessagePlace) {
         let mut places = self.places.lock(rt);
         match place {
-            Place::Unasked => {}
-            Place::Awaited => places.waiting = places.waiting.saturating_sub(1),
-            Place::Taken => places.free = places.free.saturating_add(1),
+            LongMessagePlace::Unasked => {}
+            LongMessagePlace::Awaited => places.waiting = places.waiting.saturating_sub(1),
+            LongMessagePlace::Taken => places.free = places.free.saturating_add(1),
         }
     }
 

@@ -1,7 +1,7 @@
 //! Lines for people, which a thread of their own writes to standard error.
 
 use ocpp_scalars::{Instant, Moments, push_instant};
-use site_status::push_on_one_line;
+use site_status::push_without_controls;
 use std::alloc::{AllocError, Global};
 use std::mem;
 use std::sync::{Condvar, Mutex, Wait};
@@ -115,8 +115,8 @@ fn line_of(alloc: Global, moment: Instant, who: &str, what: &str) -> Result<Stri
     let mut line = String::from_str(alloc, "central: ")?;
     push_instant(&mut line, moment)?;
     line.push(' ')?;
-    push_on_one_line(&mut line, who)?;
+    push_without_controls(&mut line, who)?;
     line.push_str(": ")?;
-    push_on_one_line(&mut line, what)?;
+    push_without_controls(&mut line, what)?;
     Ok(line)
 }

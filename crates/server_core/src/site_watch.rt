@@ -5,8 +5,8 @@ use messages::{ActionKind, ReplyStatus};
 use ocpp_scalars::Instant;
 use site_core::Machine;
 use site_status::{
-    Boot, CallMoments, CallNumbers, PointNews, RejectedCalls, SentMoment, Sighting, SiteCounts,
-    boot_to_keep,
+    Boot, CallMoments, CallNumbers, Observation, PointActivity, RejectedCalls, SentMoment,
+    SiteCounts, boot_to_keep,
 };
 use std::alloc::{AllocError, Global};
 use std::sync::{Mutex, Wait};
@@ -24,13 +24,13 @@ pub struct SiteWatch {
 #[derive(Drop)]
 pub struct Seen {
     /// Of each point, by its place in the site.
-    pub points: Vec<PointNews>,
+    pub points: Vec<PointActivity>,
     pub counts: SiteCounts,
 }
 
 /// A point's reply to a call.
 #[derive(Drop)]
-pub struct Reply {
+pub struct PointReply {
     pub call: u64,
     /// Why the point rejects it, if it does.
     pub rejection: Option<String>,
@@ -50,7 +50,7 @@ impl SiteWatch {
         let mut places = Vec::with_capacity(alloc, points)?;
         let mut calls = Vec::with_capacity(alloc, points)?;
         for _point in 0..points {
-            places.push(PointNews::new())?;
+            places.push(PointActivity::new())?;
             calls.push(CallMoments::new(alloc))?;
         }
         Ok(SiteWatch {
@@ -95,8 +95,8 @@ impl SiteWatch {
     }
 
     /// This was seen of the point at a place.
-    pub fn see<R: Wait>(&self, rt: &R, place: usize, sighting: Sighting) {
-        let is_boot = matches!(sighting, Sighting::Booted(_));
+    pub fn see<R: Wait>(&self, rt: &R, place: usize, sighting: Observation) {
+        let is_boot = matches!(sighting, Observation::Booted(_));
         let mut seen = self.seen.lock(rt);
         if let Some(news) = seen.points.get_mut(place) {
             news.see(sighting);
@@ -111,7 +111,7 @@ impl SiteWatch {
     pub fn resume_boot<R: Wait>(&self, rt: &R, place: usize, boot: Boot) {
         let mut seen = self.seen.lock(rt);
         if let Some(news) = seen.points.get_mut(place) {
-            news.see(Sighting::Booted(boot));
+            news.see(Observation::Booted(boot));
         }
     }
 
@@ -160,8 +160,8 @@ impl SiteWatch {
     }
 
     /// The point at a place replied to a call. Where it rejects it, returns what that asked.
-    pub fn reply<R: Wait>(&self, rt: &R, place: usize, reply: Reply) -> Option<Rejected> {
-        let Reply {
+    pub fn reply<R: Wait>(&self, rt: &R, place: usize, reply: PointReply) -> Option<Rejected> {
+        let PointReply {
             call,
             rejection,
             moment,

@@ -1,7 +1,7 @@
 //! Who is let in.
 
 ghost use Rattle.std.specs.Prelude.{◌≡◌, ◌↔◌, List, ℕ, None, IfOk, option_copied};
-ghost use Rattle.site_keys.specs.Admission.{IsAdmittedAs, MayCome};
+ghost use Rattle.site_keys.specs.Admission.{IsAdmittedAs, IsAdmitted};
 ghost use Rattle.server_ports.specs.PathRole.{identity_of, role_of};
 
 use crate::own_host::is_for_this_machine;
@@ -18,7 +18,7 @@ pub const AUTHORIZATION: &str = "authorization";
 
 /// Whom a server lets in.
 #[derive(Clone, Copy)]
-pub enum Entry<'a> {
+pub enum Access<'a> {
     /// Whoever comes.
     Open,
     /// No web page. Where there are keys, only whom they let come; else whoever asks for this machine,
@@ -29,7 +29,7 @@ pub enum Entry<'a> {
     },
 }
 
-impl Entry<'_> {
+impl Access<'_> {
     /// The status that refuses a request (RFC 9110, sections 15.5.2, 15.5.4 and 15.5.20), or None where
     /// it is let in.
     pub fn refusal(
@@ -37,7 +37,7 @@ impl Entry<'_> {
         alloc: Global,
         request: &Request<()>,
     ) -> Result<Option<StatusCode>, AllocError> {
-        let Entry::Guarded { keys, address } = self else {
+        let Access::Guarded { keys, address } = self else {
             return Ok(None);
         };
         let headers = request.headers();
@@ -68,7 +68,7 @@ fn refusal_by_keys(
     authorization: Option<&[u8]>,
 ) -> Result<Option<StatusCode>, AllocError>
     ensures { IfOk result (λ refusal. (refusal ≡ None) ↔ ((user : List ℕ)
-        × MayCome keys.now (role_of peer.entry) (identity_of peer.entry)
+        × IsAdmitted keys.now (role_of peer.entry) (identity_of peer.entry)
         (option_copied authorization.entry) user)) }
 {
     let admission = admission_of(alloc, keys, peer, authorization)?;
@@ -83,7 +83,7 @@ fn admission_of(
     authorization: Option<&[u8]>,
 ) -> Result<Admission, AllocError>
     ensures { IfOk result (λ admission. (user : List ℕ) → IsAdmittedAs admission user
-        ↔ MayCome keys.now (role_of peer.entry) (identity_of peer.entry)
+        ↔ IsAdmitted keys.now (role_of peer.entry) (identity_of peer.entry)
         (option_copied authorization.entry) user) }
 {
     match peer {

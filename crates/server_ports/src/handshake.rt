@@ -1,6 +1,6 @@
 //! The handshake of a connection (RFC 6455, section 4.2): who connects, and whether in OCPP 1.6.
 
-use crate::entry::Entry;
+use crate::entry::Access;
 use crate::request_words::{said_of, user_of};
 use http::{HeaderMap, HeaderName, HeaderValue, Request, Response, StatusCode};
 use std::alloc::{AllocError, Global};
@@ -29,9 +29,9 @@ const CHALLENGE: &str = "Basic realm=\"central\", charset=\"UTF-8\"";
 
 /// Reads what a client asks for. Refuses it, or accepts OCPP 1.6 where that is offered.
 #[derive(Drop)]
-struct Reading<'a> {
+struct RequestReader<'a> {
     alloc: Global,
-    entry: Entry<'a>,
+    entry: Access<'a>,
     asked: &'a mut Option<ClientRequest>,
     /// What is said of the request, if it is refused.
     refused: &'a mut Option<Result<String, AllocError>>,
@@ -46,13 +46,13 @@ pub enum Unshaken {
     Failed,
 }
 
-impl Callback for Reading<'_> {
+impl Callback for RequestReader<'_> {
     fn on_request(
         self,
         request: &Request<()>,
         response: Response<()>,
     ) -> Result<Response<()>, ErrorResponse> {
-        let Reading {
+        let RequestReader {
             alloc,
             entry,
             asked,
@@ -135,11 +135,11 @@ fn refusal(alloc: Global, status: StatusCode) -> ErrorResponse {
 /// Shakes hands with a client, if it is let in.
 pub fn shake_hands<S: Read + Write + Drop>(
     alloc: Global,
-    entry: Entry<'_>,
+    entry: Access<'_>,
     stream: S,
 ) -> Result<(WebSocket<S, NoMask>, ClientRequest), Unshaken> {
     let (mut asked, mut refused) = (None, None);
-    let reading = Reading {
+    let reading = RequestReader {
         alloc,
         entry,
         asked: &mut asked,

@@ -5,8 +5,8 @@ ghost use Rattle.std.specs.Counts.{IsPrefixLen};
 ghost use Rattle.std.specs.Prelude.{IfOk};
 
 use server_core::{
-    LONGEST_HANDSHAKE, LONGEST_MESSAGE, LONGEST_WRITE, LongMessages, Place, SharedStream, TICK,
-    seconds_since, shut,
+    LONGEST_HANDSHAKE, LONGEST_MESSAGE, LONGEST_WRITE, LongMessagePlace, LongMessages,
+    SharedStream, TICK, seconds_since, shut,
 };
 use std::alloc::Global;
 use std::io::{ErrorKind, Read, Write};
@@ -41,7 +41,7 @@ pub struct IncomingStream<'a, R> {
     rt: &'a R,
     stream: SharedStream,
     places: &'a LongMessages,
-    place: Place,
+    place: LongMessagePlace,
     /// Until when the handshake has to be whole, while it isn't.
     handshake: Option<Instant>,
     /// When the last byte came, or else the handshake began.
@@ -82,7 +82,7 @@ impl<'a, R: Clock + Wait> IncomingStream<'a, R> {
             rt,
             stream,
             places,
-            place: Place::Unasked,
+            place: LongMessagePlace::Unasked,
             handshake: Some(deadline),
             heard: now,
             unfinished: None,
@@ -104,7 +104,9 @@ impl<'a, R: Clock + Wait> IncomingStream<'a, R> {
     /// Whether it is to end: it has a place that another connection waits for, and no message that it
     /// has begun.
     pub fn is_in_the_way(&self) -> bool {
-        self.place == Place::Taken && self.unfinished.is_none() && self.places.are_wanted(self.rt)
+        self.place == LongMessagePlace::Taken
+            && self.unfinished.is_none()
+            && self.places.are_wanted(self.rt)
     }
 
     /// Whether its client sends faster than it is served, as far as the last read told.
@@ -115,7 +117,7 @@ impl<'a, R: Clock + Wait> IncomingStream<'a, R> {
     /// The connection ends: its place is free again.
     pub fn end(&mut self) {
         self.places.leave(self.rt, self.place);
-        self.place = Place::Unasked;
+        self.place = LongMessagePlace::Unasked;
     }
 
     /// For how many seconds nothing has come.
@@ -143,11 +145,11 @@ impl<'a, R: Clock + Wait> IncomingStream<'a, R> {
         if seconds_since(self.rt, message.begun) >= LONGEST_MESSAGE {
             return Err(io::Error::from(ErrorKind::TimedOut));
         }
-        if message.bytes < LONGEST_WITHOUT_PLACE || self.place == Place::Taken {
+        if message.bytes < LONGEST_WITHOUT_PLACE || self.place == LongMessagePlace::Taken {
             return Ok(());
         }
         self.place = self.places.ask(self.rt, self.place);
-        if self.place == Place::Taken {
+        if self.place == LongMessagePlace::Taken {
             return Ok(());
         }
         let before = Instant::now(self.rt)?;

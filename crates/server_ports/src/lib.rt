@@ -21,7 +21,7 @@ mod workers;
 pub use accepting::accept_connections;
 pub use arrivals::{note_operator, note_unknown, note_unshaken};
 pub use boot_keeper::{BootKeeper, begin_boots};
-pub use entry::Entry;
+pub use entry::Access;
 pub use handshake::{ClientRequest, Unshaken, shake_hands};
 pub use incoming_stream::IncomingStream;
 pub use own_host::is_own_host;

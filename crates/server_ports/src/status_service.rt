@@ -62,14 +62,13 @@ impl<C: Ledger, A: Ledger, R: Wait + Clock + Drop, J: WatchedJournal + Drop, N: 
     }
 }
 
-impl<C: Ledger, A: Ledger, R: Wait + Clock + Drop, J: WatchedJournal + Drop, N: ListName> StatusService<
-    '_,
-    C,
-    A,
-    R,
-    J,
-    N,
-> {
+impl<
+    C: Ledger,
+    A: Ledger,
+    R: Wait + Clock + Drop,
+    J: WatchedJournal + Drop,
+    N: ListName,
+> StatusService<'_, C, A, R, J, N> {
     /// Whether a request is for this machine, where that is wanted.
     fn is_for_us(&self, request: &Request<Bytes>) -> bool {
         match &self.port.address {

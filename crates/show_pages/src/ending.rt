@@ -1,7 +1,7 @@
 //! Sentences about what a script leaves undone.
 
 use crate::trace::{HeldLine, Trace};
-use crate::traced_calls::{AddedCall, PointCalls};
+use crate::traced_calls::{PointCalls, UnsentCall};
 use crate::words::counted;
 use site_core::Machine;
 use std::alloc::{AllocError, Global};
@@ -122,6 +122,6 @@ fn push_waiting(
 }
 
 /// Returns the first line that added one of these calls.
-fn first_line(waiting: &[AddedCall]) -> Option<u64> {
+fn first_line(waiting: &[UnsentCall]) -> Option<u64> {
     waiting.iter().find_map(|added| added.line)
 }

@@ -20,4 +20,4 @@ pub use row_changes::RowChange;
 pub use standing::{Standing, standing_text};
 pub use table::Table;
 pub use trace::{Depth, HeldLine, Trace, TracedLine, trace_script, trace_text};
-pub use traced_calls::{AddedCall, PointCalls, RejectedCall, SentCall};
+pub use traced_calls::{PointCalls, RejectedCall, TracedCall, UnsentCall};

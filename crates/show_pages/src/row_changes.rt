@@ -25,7 +25,7 @@ pub(crate) struct PointRows {
 
 /// The profile that came to a point, and those that are gone.
 #[derive(Drop)]
-pub(crate) struct CameAndGone {
+pub(crate) struct RowDifference {
     pub came: Option<PrevailingProfile>,
     pub gone: Vec<PrevailingProfile>,
 }
@@ -43,7 +43,7 @@ impl PointRows {
         &mut self,
         alloc: Global,
         rows: &[Row],
-    ) -> Result<Option<CameAndGone>, AllocError> {
+    ) -> Result<Option<RowDifference>, AllocError> {
         if self.are(rows) {
             return Ok(None);
         }
@@ -63,7 +63,7 @@ impl PointRows {
             .copied()
             .filter(|last| !self.named.contains(last));
         self.named = now;
-        Ok(Some(CameAndGone { came, gone }))
+        Ok(Some(RowDifference { came, gone }))
     }
 
     /// Returns whether these rows have the names of the recorded ones, in their order.

@@ -8,7 +8,7 @@ use std::alloc::{AllocError, Global};
 
 /// A call that went out.
 #[derive(Drop)]
-pub struct SentCall {
+pub struct TracedCall {
     pub number: u64,
     /// Its action and the profiles that it is about, in words.
     pub what: String,
@@ -21,7 +21,7 @@ pub struct SentCall {
 
 /// A call that hasn't gone out.
 #[derive(Drop)]
-pub struct AddedCall {
+pub struct UnsentCall {
     pub number: u64,
     /// The line that added it; `None` for call 0, which waits from the start.
     pub line: Option<u64>,
@@ -30,7 +30,7 @@ pub struct AddedCall {
 /// A call that the point replied to without doing it.
 #[derive(Drop)]
 pub struct RejectedCall {
-    pub call: SentCall,
+    pub call: TracedCall,
     /// The line with the point's reply.
     pub line: u64,
     /// The reply's status, `no known status`, or `CALLERROR`.
@@ -43,9 +43,9 @@ pub struct PointCalls {
     /// The number of calls so far, confirmed or not.
     count: u64,
     /// The call that went out and has no reply.
-    pub in_flight: Option<SentCall>,
+    pub in_flight: Option<TracedCall>,
     /// The calls that never went out, in the order of their numbers.
-    pub waiting: Vec<AddedCall>,
+    pub waiting: Vec<UnsentCall>,
     /// The rejected calls that weren't done later, in the order of the replies.
     pub rejected: Vec<RejectedCall>,
 }
@@ -54,7 +54,7 @@ impl PointCalls {
     /// Returns the calls before the first line: call 0 waits.
     pub fn new(alloc: Global) -> Result<PointCalls, AllocError> {
         let mut waiting = Vec::new(alloc);
-        waiting.push(AddedCall {
+        waiting.push(UnsentCall {
             number: 0,
             line: None,
         })?;
@@ -69,7 +69,7 @@ impl PointCalls {
     /// Records that a line added the calls below the number `next`.
     pub fn added(&mut self, next: u64, line: u64) -> Result<(), AllocError> {
         for number in self.count..next {
-            self.waiting.push(AddedCall {
+            self.waiting.push(UnsentCall {
                 number,
                 line: Some(line),
             })?;
@@ -87,7 +87,7 @@ impl PointCalls {
         push_subject(&mut what, &call.body)?;
         let mut fields = String::new(alloc);
         push_payload_fields(&mut fields, &call.body)?;
-        self.in_flight = Some(SentCall {
+        self.in_flight = Some(TracedCall {
             number,
             what,
             action,

@@ -4,18 +4,18 @@ use Rattle.std.proofs.lemmas.List.{map-set, length-map}
 use Rattle.std.specs.List.{position}
 use Rattle.transactions.specs.declared.transaction.Transaction.{Transaction}
 use Rattle.transactions.specs.ActiveTable.{active_at, has_id, connector_of, emptied, stopped}
-use Rattle.sim_point_core.specs.declared.own_book.Running.{Running}
-use Rattle.sim_point_core.specs.ByCases.Running.{running_of, running_in, slots_of, running_at}
+use Rattle.sim_point_core.specs.declared.own_book.ActiveTransaction.{ActiveTransaction}
+use Rattle.sim_point_core.specs.ByCases.ActiveTransaction.{running_of, running_in, slots_of, running_at}
 
 pub slots-replicate : (count : ℕ) → replicate count None ≡ slots_of (replicate count None)
 slots-replicate zero = refl
-slots-replicate (suc count) = ap (λ (rest : List (Option Running)). None ∷ rest) (slots-replicate count)
+slots-replicate (suc count) = ap (λ (rest : List (Option ActiveTransaction)). None ∷ rest) (slots-replicate count)
 
-pub slots-set : (slots : List (Option Transaction)) (running : List (Option Running)) (place : ℕ)
+pub slots-set : (slots : List (Option Transaction)) (running : List (Option ActiveTransaction)) (place : ℕ)
     (slot : Option Transaction) → running ≡ slots_of slots
     → set running place (running_in slot) ≡ slots_of (set slots place slot)
 slots-set slots running place slot is =
-    ap (λ (r : List (Option Running)). set r place (running_in slot)) is ∙ sym (map-set running_in slots place slot)
+    ap (λ (r : List (Option ActiveTransaction)). set r place (running_in slot)) is ∙ sym (map-set running_in slots place slot)
 
 -- the value stored for a slot is that of its transaction
 pub running-active : (slots : List (Option Transaction)) (connector : ℕ)
@@ -47,10 +47,10 @@ one-stopped slots id connector is = go (position (has_id id) slots) is
         ap (λ (p : ℕ). set slots p None) same
 
 -- a book begins with nothing running
-pub running-empty : (count : ℕ) (running : List (Option Running)) → running ≡ replicate count None
+pub running-empty : (count : ℕ) (running : List (Option ActiveTransaction)) → running ≡ replicate count None
     → running ≡ slots_of (replicate count None)
 running-empty count running is = is ∙ slots-replicate count
 
-pub length-running : (slots : List (Option Transaction)) (running : List (Option Running)) → running ≡ slots_of slots
+pub length-running : (slots : List (Option Transaction)) (running : List (Option ActiveTransaction)) → running ≡ slots_of slots
     → length running ≡ length slots
 length-running slots running is = ap length is ∙ length-map slots running_in

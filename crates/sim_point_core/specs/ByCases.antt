@@ -1,3 +1,3 @@
 -- Forms by cases, with which proofs compute.
-pub mod Running
+pub mod ActiveTransaction
 pub mod Steps

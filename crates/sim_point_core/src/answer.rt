@@ -16,7 +16,7 @@ use std::alloc::{AllocError, Global};
 
 /// The moment of an answer, and the unit of the limits of the point that answers.
 #[derive(Clone, Copy)]
-pub struct Answering {
+pub struct AnswerContext {
     pub alloc: Global,
     pub unit: Unit,
     pub now: Instant,
@@ -25,7 +25,7 @@ pub struct Answering {
 /// Performs an action, and returns the message that answers the CALL of this id. If memory runs
 /// out, nothing changes.
 pub fn answer_action(
-    answering: Answering,
+    answering: AnswerContext,
     book: &mut OwnBook,
     id: &str,
     action: Action,
@@ -36,7 +36,7 @@ pub fn answer_action(
         ≡ (answered answering.unit book.old answering.now action).book) }
     ensures unchanged { OnErr result (book.new ≡ book.old) }
 {
-    let Answering { alloc, now, .. } = answering;
+    let AnswerContext { alloc, now, .. } = answering;
     match action {
         Action::SetChargingProfile { connector, profile } => {
             match row_made(now, connector, profile) {
@@ -69,7 +69,7 @@ fn row_made(now: Instant, connector: u32, parts: ProfileParts) -> Result<Row, Re
 
 /// Installs a profile (chapter 5.16), or answers with the refusal.
 fn install(
-    answering: Answering,
+    answering: AnswerContext,
     book: &mut OwnBook,
     id: &str,
     row: Row,
@@ -80,7 +80,7 @@ fn install(
         ≡ (installed_unless book.old row (row_refusal answering.unit book.old row)).book) }
     ensures unchanged { OnErr result (book.new ≡ book.old) }
 {
-    let Answering { alloc, unit, .. } = answering;
+    let AnswerContext { alloc, unit, .. } = answering;
     if let Some(refusal) = row_refusal(unit, book.book(), &row) {
         return write_response(alloc, id, &Response::Rejected(refusal));
     }
@@ -142,14 +142,14 @@ fn clear(
 
 /// Composes the schedule of the point's profiles (chapter 5.7), or returns the refusal.
 fn compose(
-    answering: Answering,
+    answering: AnswerContext,
     book: &PointBook,
     request: &ScheduleRequest,
 ) -> Result<Response, AllocError>
     ensures { IfOk result (λ response. response ≡ schedule_of_ask answering.unit book.now
         (ask_at answering.unit book.now answering.now request.now)) }
 {
-    let Answering {
+    let AnswerContext {
         alloc,
         unit,
         now,

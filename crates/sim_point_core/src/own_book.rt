@@ -6,7 +6,7 @@ ghost use Rattle.profile.specs.Changes.{matches};
 ghost use Rattle.transactions.specs.ActiveTable.{active_at};
 ghost use Rattle.point_book.specs.Book.{empty_book};
 ghost use Rattle.point_book.specs.Changes.{install_refusal, IsRefused, book_installed, book_cleared, book_started, book_stopped};
-ghost use Rattle.sim_point_core.specs.ByCases.Running.{running_of, running_at};
+ghost use Rattle.sim_point_core.specs.ByCases.ActiveTransaction.{running_of, running_at};
 
 use ocpp_scalars::Refusal;
 use point_book::PointBook;
@@ -17,7 +17,7 @@ use transactions::{Began, Begin};
 
 /// The data of an active transaction that its stop needs.
 #[derive(Clone, Copy, PartialEq, Eq)]
-pub struct Running {
+pub struct ActiveTransaction {
     /// transactionId.
     pub id: i32,
     /// meterStart, in watt-hours.
@@ -29,14 +29,14 @@ pub struct Running {
 pub struct OwnBook {
     book: PointBook,
     /// The transactions of connectors 1, 2, ..
-    running: Vec<Option<Running>>,
+    running: Vec<Option<ActiveTransaction>>,
 }
 
 // Clauses see only the book; the transactions beside it are those in it.
 impl Model for OwnBook {
     ghost use Rattle.std.specs.Prelude.{◌≡◌};
     ghost use Rattle.point_book.specs.Book.{BookState};
-    ghost use Rattle.sim_point_core.specs.ByCases.Running.{slots_of};
+    ghost use Rattle.sim_point_core.specs.ByCases.ActiveTransaction.{slots_of};
 
     ghost Value = { BookState };
 
@@ -64,7 +64,7 @@ impl OwnBook {
 
     /// Returns the active transaction at a connector. Connector 0 and a connector that the point
     /// lacks have none.
-    pub fn running_at(&self, connector: u32) -> Option<Running>
+    pub fn running_at(&self, connector: u32) -> Option<ActiveTransaction>
         ensures { result ≡ option_map running_of (active_at self.now.transactions connector) }
     {
         running_at(self.running.as_slice(), connector)
@@ -128,16 +128,16 @@ impl OwnBook {
     }
 }
 
-fn running_of(id: i32, begin: &Begin) -> Running
+fn running_of(id: i32, begin: &Begin) -> ActiveTransaction
     ensures { result ≡ record { id = id; meter = begin.now.meter_start } }
 {
-    Running {
+    ActiveTransaction {
         id,
         meter: begin.meter_start,
     }
 }
 
-fn running_at(running: &[Option<Running>], connector: u32) -> Option<Running>
+fn running_at(running: &[Option<ActiveTransaction>], connector: u32) -> Option<ActiveTransaction>
     ensures { result ≡ running_at running.now connector }
 {
     if connector == 0 {
@@ -149,7 +149,10 @@ fn running_at(running: &[Option<Running>], connector: u32) -> Option<Running>
     }
 }
 
-fn nothing_running(alloc: Global, connectors: u32) -> Result<Vec<Option<Running>>, AllocError>
+fn nothing_running(
+    alloc: Global,
+    connectors: u32,
+) -> Result<Vec<Option<ActiveTransaction>>, AllocError>
     ensures { IfOk result (λ running. running.items ≡ replicate connectors None) }
 {
     let mut running = Vec::with_capacity(alloc, connectors as usize)?;

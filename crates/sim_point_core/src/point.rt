@@ -7,7 +7,7 @@ ghost use Rattle.ocpp_scalars.specs.declared.refusal.Refusal.{Refusal};
 ghost use Rattle.sim_point_core.specs.RemoteStart.{start_kept};
 ghost use Rattle.sim_point_core.specs.SimPoint.{new_point, replied, heard, heard_action, heard_request, heard_start, called};
 
-use crate::answer::{Answering, answer_action};
+use crate::answer::{AnswerContext, answer_action};
 use crate::own_book::OwnBook;
 use crate::point_call::{InFlight, first_call, reply_to};
 use crate::point_call_text::write_call;
@@ -145,7 +145,7 @@ impl SimPoint {
         match action {
             Action::RemoteStartTransaction(request) => Ok(Some(self.on_remote_start(id, request)?)),
             action => {
-                let answering = Answering {
+                let answering = AnswerContext {
                     alloc: self.alloc,
                     unit: self.unit,
                     now,

@@ -5,10 +5,10 @@
 mod finding_lines;
 mod key_check;
 mod line_points;
+mod max_profile_limits;
 mod played_calls;
 mod played_lines;
 mod played_script;
-mod point_fuses;
 
 pub use finding_lines::{push_findings, site_page};
 pub use key_check::find_in_keys;

@@ -3,8 +3,8 @@
 ghost use Rattle.std.specs.Prelude.{◌≤◌, length};
 ghost use Rattle.replay.specs.Limits.{max_script_bytes};
 
+use crate::max_profile_limits::fuse_at;
 use crate::played_lines::{find_at_point, find_in_changes, find_in_played};
-use crate::point_fuses::fuse_at;
 use findings::{Finding, Severity};
 use message_findings::{ScriptCheck, check_sent};
 use profile_findings::check_fuse;

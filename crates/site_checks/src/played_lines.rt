@@ -2,7 +2,7 @@
 
 use findings::Finding;
 use message_findings::{ScriptCheck, check_printed};
-use profile_findings::{RowChange, check_change, check_standing};
+use profile_findings::{ProfileChange, check_change, check_installed_profiles};
 use replay::PlayedLine;
 use show_pages::Trace;
 use site_core::Machine;
@@ -33,7 +33,7 @@ pub(crate) fn find_in_changes(
         if changed.number < first {
             continue;
         }
-        let change = RowChange {
+        let change = ProfileChange {
             number: changed.number,
             frame: changed.frame.as_str(),
             came: changed.came,
@@ -52,7 +52,7 @@ pub(crate) fn find_at_point(
     point: &str,
 ) -> Result<Vec<Finding>, AllocError> {
     match machine.book_of(point) {
-        Some(book) => check_standing(alloc, machine.site().unit(), point, book),
+        Some(book) => check_installed_profiles(alloc, machine.site().unit(), point, book),
         None => Ok(Vec::new(alloc)),
     }
 }

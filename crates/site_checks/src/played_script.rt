@@ -5,8 +5,8 @@ ghost use Rattle.replay.specs.Limits.{max_script_bytes};
 
 use crate::finding_lines::push_script_findings;
 use crate::line_points::LinePoints;
+use crate::max_profile_limits::MaxProfileLimits;
 use crate::played_lines::{find_at_point, find_in_changes, find_in_played};
-use crate::point_fuses::PointFuses;
 use findings::{Finding, sort_by_line};
 use message_findings::ScriptCheck;
 use profile_findings::check_boot;
@@ -73,7 +73,7 @@ fn find_in_lines<R: Clock + Eprint>(
 ) -> Result<Vec<Finding>, AllocError> {
     let mut check = ScriptCheck::new(alloc);
     let mut printed = Vec::new(alloc);
-    let mut fuses = PointFuses::new(alloc, trace.playing().machine())?;
+    let mut fuses = MaxProfileLimits::new(alloc, trace.playing().machine())?;
     let mut progress = Progress::of_lines(rt);
     // Each line has at least one byte, so this range ends the loop without a proof.
     for _line in 0..script.len() {

@@ -22,7 +22,7 @@ use crate::outbox::Outbox;
 use crate::outcome::{Outcome, Refused, RunFault};
 use crate::point_id::PointId;
 use crate::reply::Reply;
-use crate::request::Request;
+use crate::request::KeptRequest;
 use crate::requests::{compile_outlook, copy_of_requests, hand_out_outlook, request_asked};
 use crate::step::Step;
 use crate::via::Via;
@@ -47,7 +47,7 @@ pub struct Machine {
     /// Each at its place in the site file.
     points: Vec<ChargePoint>,
     /// In the order of their numbers.
-    requests: Vec<Request>,
+    requests: Vec<KeptRequest>,
     is_stopped: bool,
 }
 

@@ -17,7 +17,7 @@ pub const MAX_REQUESTS: usize = 64;
 /// A request for a composite schedule that is kept until its answer is handed out. The book has the
 /// connector of the `Ask`.
 #[derive(Drop)]
-pub(crate) struct Request {
+pub(crate) struct KeptRequest {
     pub number: u64,
     /// The place of its point in the site file.
     pub place: usize,
@@ -28,7 +28,7 @@ pub(crate) struct Request {
     pub answer: Option<Result<Composite, Refusal>>,
 }
 
-impl Model for Request {
+impl Model for KeptRequest {
     ghost use Rattle.std.specs.Prelude.{◌≤◌, length};
     ghost use Rattle.site_core.specs.State.{Kept};
 
@@ -45,12 +45,12 @@ impl Model for Request {
     ghost invariant = { λ r. r.ask.connector ≤ length r.book.ceilings };
 }
 
-impl Request {
+impl KeptRequest {
     /// Copies the request, sharing the book.
-    pub fn copy(&self) -> Result<Request, AllocError>
+    pub fn copy(&self) -> Result<KeptRequest, AllocError>
         ensures { IfOk result (λ copy. copy ≡ self.now) }
     {
-        Ok(Request {
+        Ok(KeptRequest {
             number: self.number,
             place: self.place,
             book: self.book.share()?,

@@ -10,14 +10,14 @@ ghost use Rattle.site_core.specs.Post.{IsRefusedPost};
 ghost use Rattle.site_core.specs.ByCases.Requests.{refusal_to_compile, IsCompiledIn, IsPostedIn, handed_out, compile_outlook, hand_out_outlook};
 
 use crate::reply::Reply;
-use crate::request::Request;
+use crate::request::KeptRequest;
 use meaning::{Ask, Composite};
 use ocpp_scalars::Refusal;
 use std::alloc::{AllocError, Global};
 use sweep_compiler::{Compiled, Turns, compile};
 
 /// Returns the place in the site file and the `Ask` of the request of a number, if it is kept.
-pub(crate) fn request_asked(requests: &[Request], number: u64) -> Option<(usize, Ask)>
+pub(crate) fn request_asked(requests: &[KeptRequest], number: u64) -> Option<(usize, Ask)>
     ensures { result
         ≡ option_map (λ (kept : Kept). (kept.place, kept.ask)) (request_of number requests.now) }
 {
@@ -29,7 +29,7 @@ pub(crate) fn request_asked(requests: &[Request], number: u64) -> Option<(usize,
 }
 
 /// Returns the index of the request of a number.
-fn place_of(requests: &[Request], number: u64) -> Option<usize>
+fn place_of(requests: &[KeptRequest], number: u64) -> Option<usize>
     ensures { result ≡ position (λ (kept : Kept). kept.number == number) requests.now }
 {
     requests.iter().position(|request| request.number == number)
@@ -39,7 +39,7 @@ fn place_of(requests: &[Request], number: u64) -> Option<usize>
 /// `AlreadyAnswered`. If memory runs out, `OutOfMemory` is the request's answer.
 pub(crate) fn compile_request(
     alloc: Global,
-    requests: &mut Vec<Request>,
+    requests: &mut Vec<KeptRequest>,
     number: u64,
 ) -> Result<(), Refusal>
     ensures made { MatchResult result
@@ -65,7 +65,7 @@ pub(crate) fn compile_request(
 /// refusals are `UnknownRequest`, `AlreadyAnswered` and `StrangerInput`; then the brought answer
 /// comes back.
 pub(crate) fn post_answer(
-    requests: &mut Vec<Request>,
+    requests: &mut Vec<KeptRequest>,
     number: u64,
     brought: Compiled,
 ) -> Result<Result<Composite, Refusal>, (Refusal, Compiled)>
@@ -93,8 +93,8 @@ pub(crate) fn post_answer(
 /// Copies the requests, sharing the books.
 pub(crate) fn copy_of_requests(
     alloc: Global,
-    requests: &[Request],
-) -> Result<Vec<Request>, AllocError>
+    requests: &[KeptRequest],
+) -> Result<Vec<KeptRequest>, AllocError>
     ensures { IfOk result (λ copies. copies.items ≡ requests.now) }
 {
     let mut copies = Vec::with_capacity(alloc, requests.len())?;
@@ -106,7 +106,7 @@ pub(crate) fn copy_of_requests(
 
 /// Hands out the answer to the request of a number, and removes the request. Replies NotYet if it
 /// has no answer. The refusal is `UnknownRequest`.
-pub(crate) fn hand_out(requests: &mut Vec<Request>, number: u64) -> Result<Reply, Refusal>
+pub(crate) fn hand_out(requests: &mut Vec<KeptRequest>, number: u64) -> Result<Reply, Refusal>
     ensures made { MatchResult result
         (λ reply. handed_out number requests.old.items ≡ Ok (reply, requests.new.items))
         (λ refusal.
@@ -125,14 +125,14 @@ pub(crate) fn hand_out(requests: &mut Vec<Request>, number: u64) -> Result<Reply
     Ok(reply_of(request))
 }
 
-fn is_answered(request: &Request) -> bool
+fn is_answered(request: &KeptRequest) -> bool
     ensures { result ≡ is_some request.now.answer }
 {
     request.answer.is_some()
 }
 
 /// Makes the reply of a request that has an answer, with its book and `Ask`.
-fn reply_of(request: Request) -> Reply
+fn reply_of(request: KeptRequest) -> Reply
     requires { is_some request.answer ≡ true }
     ensures reply { Some result
         ≡ option_map (Reply.Answered request.book request.ask) request.answer }
@@ -146,7 +146,7 @@ fn reply_of(request: Request) -> Reply
 }
 
 /// Answers each request without an answer by `Stopped`.
-pub(crate) fn stop_all(requests: &mut Vec<Request>)
+pub(crate) fn stop_all(requests: &mut Vec<KeptRequest>)
     ensures { requests.new.items ≡ all_stopped requests.old.items }
 {
     for request in requests.iter_mut() {
@@ -154,7 +154,7 @@ pub(crate) fn stop_all(requests: &mut Vec<Request>)
     }
 }
 
-fn stop(request: &mut Request)
+fn stop(request: &mut KeptRequest)
     ensures { request.new ≡ stopped_request request.old }
 {
     if request.answer.is_none() {
@@ -163,7 +163,7 @@ fn stop(request: &mut Request)
 }
 
 /// Returns the outlook of compiling the request of a number: an event, or the refusal.
-pub(crate) fn compile_outlook(requests: &[Request], number: u64) -> Result<bool, Refusal>
+pub(crate) fn compile_outlook(requests: &[KeptRequest], number: u64) -> Result<bool, Refusal>
     ensures { result ≡ compile_outlook (request_of number requests.now) }
 {
     let Some(place) = place_of(requests, number) else {
@@ -177,7 +177,7 @@ pub(crate) fn compile_outlook(requests: &[Request], number: u64) -> Result<bool,
 
 /// Returns the outlook of handing out the answer to the request of a number: whether it has one, or
 /// the refusal.
-pub(crate) fn hand_out_outlook(requests: &[Request], number: u64) -> Result<bool, Refusal>
+pub(crate) fn hand_out_outlook(requests: &[KeptRequest], number: u64) -> Result<bool, Refusal>
     ensures { result ≡ hand_out_outlook (request_of number requests.now) }
 {
     let Some(place) = place_of(requests, number) else {

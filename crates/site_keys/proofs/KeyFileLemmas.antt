@@ -3,7 +3,7 @@ use Rattle.std.proofs.Common.{◌≡◌, ℕ, ◌+◌, Bool, true, false, cond, 
 use Rattle.std.specs.Prelude.{not, ◌⊎◌}
 use Rattle.std.specs.List.{AllZip}
 use Rattle.std.specs.Option.{option_to_list}
-use Rattle.site_keys.specs.declared.line_fault.LineFault.{LineFault}
+use Rattle.site_keys.specs.declared.line_fault.KeyLineFault.{KeyLineFault}
 use Rattle.site_keys.specs.declared.keys_fault.KeysFault.{KeysFault}
 use Rattle.site_keys.specs.declared.keys_fault.KeysFault.TheVariants.{Line, OutOfMemory}
 use Rattle.site_keys.specs.Bytes.{without_return}
@@ -20,7 +20,7 @@ later_keys number lines key = keys_from number lines >>= λ (keys : List KeyStat
 -- ---- the keys read
 
 -- of a line that isn't left out
-abbrev read_or : ℕ → List (List ℕ) → Result KeyState LineFault → Result (List KeyState) KeysFault
+abbrev read_or : ℕ → List (List ℕ) → Result KeyState KeyLineFault → Result (List KeyState) KeysFault
 read_or number lines said =
     at_line number (said >>= λ (key : KeyState). Ok (Some key)) >>= later_keys (number + 1) lines
 
@@ -32,7 +32,7 @@ keys_made number [] keys is =
 keys_made number (line ∷ lines) keys is =
     go (is_left_out (without_return line)) refl (λ more same. keys_made (number + 1) lines more same) is
   where
-    kept : (said : Result KeyState LineFault) → key_in (without_return line) ≡ said
+    kept : (said : Result KeyState KeyLineFault) → key_in (without_return line) ≡ said
         → ((more : List KeyState) → keys_from (number + 1) lines ≡ Ok more → AllZip IsKeyLine (with_keys lines) more)
         → read_or number lines said ≡ Ok keys → AllZip IsKeyLine (without_return line ∷ with_keys lines) keys
     kept (Err fault) says later is = absurd (cc is)
@@ -79,7 +79,7 @@ keys_read number (line ∷ lines) keys are =
 -- of lines, the first of which has this number
 record FaultFrom (first : ℕ) (lines : List (List ℕ)) (e : KeysFault) : Type 0 where
   number : ℕ
-  fault : LineFault
+  fault : KeyLineFault
   is : e ≡ Line number fault
   earlier : List (List ℕ)
   line : List ℕ
@@ -145,7 +145,7 @@ key_before first line lines e key out says later =
       why = later.why;
     }
 
-fault_here : (first : ℕ) (line : List ℕ) (lines : List (List ℕ)) (e : KeysFault) (fault : LineFault)
+fault_here : (first : ℕ) (line : List ℕ) (lines : List (List ℕ)) (e : KeysFault) (fault : KeyLineFault)
     → is_left_out (without_return line) ≡ false → key_in (without_return line) ≡ Err fault
     → e ≡ Line first fault → FaultFrom first (line ∷ lines) e
 fault_here first line lines e fault out says is = record {
@@ -169,7 +169,7 @@ fault_from first [] e is = absurd (cc is)
 fault_from first (line ∷ lines) e is =
     go (is_left_out (without_return line)) refl (λ same. fault_from (first + 1) lines e same) is
   where
-    kept : (said : Result KeyState LineFault) → is_left_out (without_return line) ≡ false
+    kept : (said : Result KeyState KeyLineFault) → is_left_out (without_return line) ≡ false
         → key_in (without_return line) ≡ said
         → (keys_from (first + 1) lines ≡ Err e → FaultFrom (first + 1) lines e)
         → read_or first lines said ≡ Err e → FaultFrom first (line ∷ lines) e

@@ -13,8 +13,8 @@ use Rattle.hex.specs.declared.error.FromHexError.{FromHexError}
 use Rattle.hex.proofs.HexLemmas.{decode_sized-ok, decode_sized-twice, decode_of-ok}
 use Rattle.site_keys.specs.declared.role.Role.{Role}
 use Rattle.site_keys.specs.declared.role.Role.TheVariants.{Point, Operator}
-use Rattle.site_keys.specs.declared.line_fault.LineFault.{LineFault}
-use Rattle.site_keys.specs.declared.line_fault.LineFault.TheVariants as faults
+use Rattle.site_keys.specs.declared.line_fault.KeyLineFault.{KeyLineFault}
+use Rattle.site_keys.specs.declared.line_fault.KeyLineFault.TheVariants as faults
 use Rattle.site_keys.specs.Bytes.{cut}
 use Rattle.site_keys.specs.ResultSteps.{◌>>=◌}
 use Rattle.site_keys.specs.Key.{KeyState}
@@ -114,7 +114,7 @@ role_is word role is = go (bytes_eq word (codes "point")) (bytes_eq word (codes 
   where
     go : (point operator : Bool) → bytes_eq word (codes "point") ≡ point
         → bytes_eq word (codes "operator") ≡ operator
-        → cond {A = Result Role LineFault} point (Ok Point) (cond operator (Ok Operator) (Err faults.Role)) ≡ Ok role
+        → cond {A = Result Role KeyLineFault} point (Ok Point) (cond operator (Ok Operator) (Err faults.Role)) ≡ Ok role
         → word ≡ role_word role
     go true operator first second is =
         let one : Point ≡ role = cc is in
@@ -134,7 +134,7 @@ name_is word name is = go (is_name word) refl is
         (same, ap is_name (sym same) ∙ can)
     go false can is = absurd (cc is)
 
-bytes_are : (fault : LineFault) (decoded : Result (List ℕ) FromHexError) (bytes : List ℕ)
+bytes_are : (fault : KeyLineFault) (decoded : Result (List ℕ) FromHexError) (bytes : List ℕ)
     → bytes_or fault decoded ≡ Ok bytes → decoded ≡ Ok bytes
 bytes_are fault (Ok found) bytes is =
     let same : found ≡ bytes = cc is in

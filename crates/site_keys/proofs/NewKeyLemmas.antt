@@ -20,7 +20,7 @@ use Rattle.site_keys.specs.Bytes.{is_byte, without_return}
 use Rattle.site_keys.specs.Key.{key_bytes, HasRightKey}
 use Rattle.site_keys.specs.KeyFile.{role_word, is_name, is_name_byte, IsKeyLine, is_left_out, AreKeysOf}
 use Rattle.site_keys.specs.Credentials.{IsBasic, base64_text}
-use Rattle.site_keys.specs.Admission.{MayCome, IsOwn}
+use Rattle.site_keys.specs.Admission.{IsAdmitted, IsOwn}
 use Rattle.site_keys.specs.NewKey.{new_key, key_line, CanBeWritten, SendsKey, CanBeSent, basic_header}
 use Rattle.site_keys.proofs.CutLemmas.{other_byte}
 use Rattle.site_keys.proofs.LineLemmas.{name_bytes}
@@ -184,14 +184,14 @@ own_name Point name = refl
 own_name Operator name = tt
 
 comes : (role : Role) (name salt key header password : List ℕ) → key_bytes password ≡ key
-    → IsBasic header name password → MayCome (new_key role name salt key ∷ []) role name (Some header) name
+    → IsBasic header name password → IsAdmitted (new_key role name salt key ∷ []) role name (Some header) name
 comes role name salt key header password worth sent = record {
   right = record { password = password; sent = sent; opens = its_key role name salt key password worth };
   own = own_name role name;
 }
 
 pub written_opens : (role : Role) (name salt key header : List ℕ) → CanBeWritten name salt key
-    → SendsKey header name key → MayCome (new_key role name salt key ∷ []) role name (Some header) name
+    → SendsKey header name key → IsAdmitted (new_key role name salt key ∷ []) role name (Some header) name
 written_opens role name salt key header can sends = elim sends [
   | inl digits ↦ comes role name salt key header (encode_lower key) (digits_worth key can.has_key_size can.key_bytes) digits
   | inr raw ↦ comes role name salt key header key (raw_worth key can.has_key_size) raw

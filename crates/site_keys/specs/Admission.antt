@@ -22,7 +22,7 @@ IsOwn Point identity user = user ≡ identity
 IsOwn Operator identity user = Unit {0}
 
 -- a client is admitted as this user
-pub record MayCome (keys : List KeyState) (role : Role) (identity : List ℕ)
+pub record IsAdmitted (keys : List KeyState) (role : Role) (identity : List ℕ)
     (header : Option (List ℕ)) (user : List ℕ) : Type 0 where
   pub right : IsRight keys role header user
   pub own : IsOwn role identity user
@@ -48,6 +48,6 @@ IsAdmittedAs Forbidden user = ⊥
 pub record Decides (admission : Admission) (keys : List KeyState) (role : Role) (identity : List ℕ)
     (header : Option (List ℕ)) : Type 0 where
   pub admitted : (user : List ℕ)
-      → IsAdmittedAs admission user ↔ MayCome keys role identity header user
+      → IsAdmittedAs admission user ↔ IsAdmitted keys role identity header user
   pub forbidden : (admission ≡ Forbidden) ↔ IsForbidden keys role identity header
   pub unauthorized : (admission ≡ Unauthorized) ↔ IsUnauthorized keys role header

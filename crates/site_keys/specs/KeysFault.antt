@@ -1,7 +1,7 @@
 -- The meaning of a fault, and the keys that are read unless memory runs out.
 use Rattle.std.specs.Prelude.{ℕ, ◌≡◌, ◌+◌, false, List, ◌∷◌, ◌++◌, length, Result, Ok, Err}
 use Rattle.std.specs.List.{AllZip}
-use Rattle.site_keys.specs.declared.line_fault.LineFault.{LineFault}
+use Rattle.site_keys.specs.declared.line_fault.KeyLineFault.{KeyLineFault}
 use Rattle.site_keys.specs.declared.keys_fault.KeysFault.{KeysFault}
 use Rattle.site_keys.specs.declared.keys_fault.KeysFault.TheVariants.{Line, OutOfMemory}
 use Rattle.site_keys.specs.Bytes.{without_return}
@@ -11,7 +11,7 @@ use Rattle.site_keys.specs.ByCases.KeyFile.{key_in}
 
 -- The line of this number, from 1, is the first that is neither left out nor a key. Of several
 -- faults of a line, the first is reported.
-pub record IsFirstFault (bytes : List ℕ) (number : ℕ) (fault : LineFault) : Type 0 where
+pub record IsFirstFault (bytes : List ℕ) (number : ℕ) (fault : KeyLineFault) : Type 0 where
   pub earlier : List (List ℕ)
   pub line : List ℕ
   pub later : List (List ℕ)

@@ -6,7 +6,7 @@ use Rattle.site_keys.specs.declared.role.Role.{Role}
 use Rattle.site_keys.specs.Limits.{key_size, salt_size}
 use Rattle.site_keys.specs.Key.{KeyState}
 use Rattle.site_keys.specs.KeyFile.{role_word, is_name}
-use Rattle.site_keys.specs.Admission.{MayCome}
+use Rattle.site_keys.specs.Admission.{IsAdmitted}
 use Rattle.site_keys.specs.Credentials.{IsBasic, base64_text}
 
 -- the key of a user with these key bytes
@@ -40,7 +40,7 @@ SendsKey header name key = IsBasic header name (encode_lower key) ⊎ IsBasic he
 abbrev pub OpensAlone : Role → List ℕ → List ℕ → List ℕ → Type 0
 OpensAlone role name salt key =
     (other : Role) (identity : List ℕ) (header : Option (List ℕ)) (user : List ℕ)
-    → MayCome (new_key role name salt key ∷ []) other identity header user
+    → IsAdmitted (new_key role name salt key ∷ []) other identity header user
     → (role ≡ other) × (name ≡ user)
 
 -- a name, and a password of any bytes

@@ -33,13 +33,13 @@ pub(crate) fn decide(
         Decides admission keys.now role identity.now (Some header.now)) }
 {
     match sent_bytes(alloc, header)? {
-        Some(bytes) => decide_by(alloc, keys, role, identity, bytes.as_slice()),
+        Some(bytes) => decide_decoded(alloc, keys, role, identity, bytes.as_slice()),
         None => Ok(Admission::Unauthorized),
     }
 }
 
 /// Decides on the user and the password in the decoded bytes of a header.
-fn decide_by(
+fn decide_decoded(
     alloc: Global,
     keys: &[Key],
     role: Role,
@@ -53,14 +53,14 @@ fn decide_by(
         return Ok(Admission::Unauthorized);
     };
     if has_right_key(keys, role, sent.user, sent.password) {
-        decide_of_user(alloc, role, identity, sent.user)
+        decide_identity(alloc, role, identity, sent.user)
     } else {
         Ok(Admission::Unauthorized)
     }
 }
 
 /// Decides on a user with right credentials.
-fn decide_of_user(
+fn decide_identity(
     alloc: Global,
     role: Role,
     identity: &str,

@@ -6,7 +6,7 @@ ghost use Rattle.site_keys.specs.ByCases.KeyFile.{digest_in, key_in, line_in, na
 ghost use Rattle.site_keys.specs.KeyFile.{is_left_out};
 
 use crate::bytes::cut;
-use crate::line_fault::LineFault;
+use crate::line_fault::KeyLineFault;
 use crate::name::{is_name, text_in};
 use crate::role::Role;
 use hex::FromHex;
@@ -45,7 +45,7 @@ struct Words<'a> {
 }
 
 /// Reads a line, given without its line end. Returns `None` for an empty line or a comment.
-pub(crate) fn read_line(line: &[u8]) -> Result<Option<KeyLine<'_>>, LineFault>
+pub(crate) fn read_line(line: &[u8]) -> Result<Option<KeyLine<'_>>, KeyLineFault>
     ensures { result ≡ line_in line.entry.now }
 {
     if is_left_out(line) {
@@ -66,7 +66,7 @@ fn is_left_out(line: &[u8]) -> bool
 
 /// Reads a line with a key.
 #[tactic(auto, unfolding(crate::specs::ByCases::KeyFile::key_in))]
-fn read_key(line: &[u8]) -> Result<KeyLine<'_>, LineFault>
+fn read_key(line: &[u8]) -> Result<KeyLine<'_>, KeyLineFault>
     ensures { result ≡ key_in line.entry.now }
 {
     let words = split_words(line)?;
@@ -83,7 +83,7 @@ fn read_key(line: &[u8]) -> Result<KeyLine<'_>, LineFault>
 }
 
 /// Splits a line into its words.
-fn split_words(line: &[u8]) -> Result<Words<'_>, LineFault>
+fn split_words(line: &[u8]) -> Result<Words<'_>, KeyLineFault>
     ensures { result_map_both words_view (λ fault. fault) result ≡ words_of line.entry.now }
 {
     let (role, rest) = split_word(line)?;
@@ -98,18 +98,18 @@ fn split_words(line: &[u8]) -> Result<Words<'_>, LineFault>
 }
 
 /// Splits a text into the word before the first space and the rest after it.
-fn split_word(text: &[u8]) -> Result<(&[u8], &[u8]), LineFault>
+fn split_word(text: &[u8]) -> Result<(&[u8], &[u8]), KeyLineFault>
     ensures { result_map_both (λ parts. (parts.0.now, parts.1.now)) (λ fault. fault) result
         ≡ word_at text.entry.now }
 {
     match cut(text, b' ') {
         Some(parts) => Ok(parts),
-        None => Err(LineFault::Words),
+        None => Err(KeyLineFault::Words),
     }
 }
 
 /// Returns the role that a word names.
-fn role_named(word: &[u8]) -> Result<Role, LineFault>
+fn role_named(word: &[u8]) -> Result<Role, KeyLineFault>
     ensures { result ≡ role_named word.now }
 {
     if word == b"point".as_slice() {
@@ -117,40 +117,40 @@ fn role_named(word: &[u8]) -> Result<Role, LineFault>
     } else if word == b"operator".as_slice() {
         Ok(Role::Operator)
     } else {
-        Err(LineFault::Role)
+        Err(KeyLineFault::Role)
     }
 }
 
 /// Reads bytes as a user's name.
-fn read_name(bytes: &[u8]) -> Result<&str, LineFault>
+fn read_name(bytes: &[u8]) -> Result<&str, KeyLineFault>
     ensures { result_map_both (λ name. name.now) (λ fault. fault) result ≡ name_in bytes.entry.now }
 {
     let Some(name) = text_in(bytes) else {
-        return Err(LineFault::Name);
+        return Err(KeyLineFault::Name);
     };
     if is_name(name) {
         Ok(name)
     } else {
-        Err(LineFault::Name)
+        Err(KeyLineFault::Name)
     }
 }
 
 /// Decodes a salt from its 32 hex digits.
-fn read_salt(digits: &[u8]) -> Result<[u8; 16], LineFault>
+fn read_salt(digits: &[u8]) -> Result<[u8; 16], KeyLineFault>
     ensures { result ≡ salt_in digits.now }
 {
     match <[u8; 16] as FromHex>::from_hex(digits) {
         Ok(salt) => Ok(salt),
-        Err(_) => Err(LineFault::Salt),
+        Err(_) => Err(KeyLineFault::Salt),
     }
 }
 
 /// Decodes a digest from its 64 hex digits.
-fn read_digest(digits: &[u8]) -> Result<[u8; 32], LineFault>
+fn read_digest(digits: &[u8]) -> Result<[u8; 32], KeyLineFault>
     ensures { result ≡ digest_in digits.now }
 {
     match <[u8; 32] as FromHex>::from_hex(digits) {
         Ok(digest) => Ok(digest),
-        Err(_) => Err(LineFault::Digest),
+        Err(_) => Err(KeyLineFault::Digest),
     }
 }

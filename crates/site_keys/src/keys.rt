@@ -3,7 +3,7 @@
 ghost use Rattle.std.specs.Prelude.{ℕ, ◌≡◌, ◌↔◌, List, Ok, IfOk, IfErr};
 ghost use Rattle.std.specs.Option.{option_copied};
 ghost use Rattle.site_keys.specs.declared.admission.Admission.TheVariants.{Forbidden, Unauthorized};
-ghost use Rattle.site_keys.specs.Admission.{IsAdmittedAs, IsForbidden, IsUnauthorized, MayCome};
+ghost use Rattle.site_keys.specs.Admission.{IsAdmittedAs, IsForbidden, IsUnauthorized, IsAdmitted};
 ghost use Rattle.site_keys.specs.Key.{KeyState};
 ghost use Rattle.site_keys.specs.KeyFile.{AreKeysOf};
 ghost use Rattle.site_keys.specs.KeysFault.{Gives, IsFaultOf};
@@ -58,7 +58,7 @@ impl Keys {
         authorization: Option<&[u8]>,
     ) -> Result<Admission, AllocError>
         ensures admitted { IfOk result (λ admission. (user : List ℕ) → IsAdmittedAs admission user
-            ↔ MayCome self.now role identity.now (option_copied authorization.entry) user) }
+            ↔ IsAdmitted self.now role identity.now (option_copied authorization.entry) user) }
         ensures forbidden { IfOk result (λ admission. (admission ≡ Forbidden)
             ↔ IsForbidden self.now role identity.now (option_copied authorization.entry)) }
         ensures unauthorized { IfOk result (λ admission. (admission ≡ Unauthorized)

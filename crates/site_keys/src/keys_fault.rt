@@ -3,7 +3,7 @@
 ghost use Rattle.std.specs.Prelude.{◌≡◌};
 ghost use Rattle.site_keys.specs.declared.keys_fault.KeysFault.TheVariants.{OutOfMemory};
 
-use crate::line_fault::LineFault;
+use crate::line_fault::KeyLineFault;
 use std::alloc::{AllocError, AllocFailed};
 use thiserror::Error;
 
@@ -12,7 +12,7 @@ use thiserror::Error;
 pub enum KeysFault {
     /// The number, from 1, of the first line that isn't a key, a comment or empty.
     #[error("line {number}: {fault}")]
-    Line { number: usize, fault: LineFault },
+    Line { number: usize, fault: KeyLineFault },
     /// Memory ran out.
     #[error("OutOfMemory")]
     OutOfMemory,

@@ -20,7 +20,7 @@ pub use admission::Admission;
 pub use credentials::user_in;
 pub use keys::Keys;
 pub use keys_fault::KeysFault;
-pub use line_fault::LineFault;
+pub use line_fault::KeyLineFault;
 pub use new_key::{KeyText, NewKeyFault, write_key};
 pub use role::Role;
 pub use written_keys::written_keys_open;

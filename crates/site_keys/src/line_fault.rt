@@ -4,7 +4,7 @@ use thiserror::Error;
 
 /// The reason why a line of a file of keys has no key. The variants are checked in this order.
 #[derive(Clone, Copy, Debug, PartialEq, Eq, Error)]
-pub enum LineFault {
+pub enum KeyLineFault {
     /// It has fewer than four words, with one space between them.
     #[error("not ROLE NAME SALT DIGEST")]
     Words,

@@ -3,7 +3,7 @@
 use Rattle.std.specs.Prelude.{ℕ, ◌-◌, Bool, true, false, Option, None, Some, length, if◌then◌else◌}
 use Rattle.ocpp_scalars.specs.declared.instant.Instant.{Instant}
 use Rattle.site_core.specs.Outbox.{OutboxState, is_number_in_flight}
-use Rattle.site_status.specs.declared.point_news.SentMoment.{SentMoment}
+use Rattle.site_status.specs.declared.point_activity.SentMoment.{SentMoment}
 
 abbrev pub in_flight : OutboxState → ℕ
 in_flight outbox = if outbox.is_in_flight then 1 else 0

@@ -6,12 +6,12 @@ use Rattle.std.specs.declared.string.String.{String}
 use Rattle.ocpp_scalars.specs.declared.instant.Instant.{Instant}
 use Rattle.messages.specs.declared.action_kind.ActionKind.{ActionKind}
 use Rattle.messages.specs.declared.action_kind.ActionKind.TheVariants.{SetChargingProfile}
-use Rattle.site_status.specs.declared.point_news.Connection.{Connection}
-use Rattle.site_status.specs.declared.point_news.PointNews.{PointNews}
-use Rattle.site_status.specs.declared.point_news.RejectedCalls.{RejectedCalls}
-use Rattle.site_status.specs.declared.point_news.SentMoment.{SentMoment}
-use Rattle.site_status.specs.declared.point_news.Sighting.{Sighting}
-use Rattle.site_status.specs.declared.point_news.Sighting.TheVariants.{Connected, Heard, Booted, Sent}
+use Rattle.site_status.specs.declared.point_activity.Connection.{Connection}
+use Rattle.site_status.specs.declared.point_activity.PointActivity.{PointActivity}
+use Rattle.site_status.specs.declared.point_activity.RejectedCalls.{RejectedCalls}
+use Rattle.site_status.specs.declared.point_activity.SentMoment.{SentMoment}
+use Rattle.site_status.specs.declared.point_activity.Observation.{Observation}
+use Rattle.site_status.specs.declared.point_activity.Observation.TheVariants.{Connected, Heard, Booted, Sent}
 
 -- ---- connections
 
@@ -26,7 +26,7 @@ left newest link = if newest.link == link then record newest { since = None } el
 
 -- ---- observations
 
-abbrev pub unseen : PointNews
+abbrev pub unseen : PointActivity
 unseen = record {
   connection = record { link = 0; since = None };
   heard = None;
@@ -38,7 +38,7 @@ unseen = record {
 }
 
 -- each changes its own subject, and nothing else
-abbrev pub seen : PointNews → Sighting → PointNews
+abbrev pub seen : PointActivity → Observation → PointActivity
 seen old (Connected link moment) =
     record old { connection = connected old.connection link moment }
 seen old (Heard moment) = record old { heard = Some moment }
@@ -62,7 +62,7 @@ abbrev pub one_more : ℕ → ℕ
 one_more count = min (count + 1) (2 ^ 64 - 1)
 
 -- after a reply to a call, which rejects it if there is a reason
-abbrev pub replied : PointNews → ℕ → Option (String Global) → Instant → PointNews
+abbrev pub replied : PointActivity → ℕ → Option (String Global) → Instant → PointActivity
 replied old call None moment =
     record old { installed = installed_by (action_of old.sent call) call old.installed }
 replied old call (Some reason) moment = record old {
@@ -76,6 +76,6 @@ replied old call (Some reason) moment = record old {
 }
 
 -- after the earlier rejections are known
-abbrev pub resumed : PointNews → RejectedCalls → PointNews
+abbrev pub resumed : PointActivity → RejectedCalls → PointActivity
 resumed old rejected =
     record old { rejections = rejected.count; rejection = rejected.last }

@@ -13,8 +13,8 @@ use Rattle.sweep_compiler.specs.declared.verdict.Verdict.{Verdict}
 use Rattle.sweep_compiler.specs.declared.verdict.Verdict.TheVariants.{Agrees, Differs, Rejected, Unsettled}
 use Rattle.site_core.specs.Audit.{AuditState}
 use Rattle.site_core.specs.Outbox.{OutboxState}
-use Rattle.site_status.specs.declared.point_news.Boot.{Boot}
-use Rattle.site_status.specs.declared.point_news.PointNews.{PointNews}
+use Rattle.site_status.specs.declared.point_activity.Boot.{Boot}
+use Rattle.site_status.specs.declared.point_activity.PointActivity.{PointActivity}
 use Rattle.site_status.specs.declared.reboot.Reboot.{Reboot}
 
 -- no such call, or one that the point had confirmed before it booted
@@ -70,7 +70,7 @@ abbrev pub waiting_bodies : OutboxState → List CallBody
 waiting_bodies outbox = map (λ (call : Call). call.body) outbox.calls
 
 -- the facts about a point with these observations, this book, these calls and this last audit
-abbrev pub reboot_of : PointNews → BookState → OutboxState → Option AuditState → Reboot
+abbrev pub reboot_of : PointActivity → BookState → OutboxState → Option AuditState → Reboot
 reboot_of news book outbox audit = record {
   first_call = first_call_at news.boot;
   installed = news.installed;

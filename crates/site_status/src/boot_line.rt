@@ -1,6 +1,6 @@
 //! The lines of the file of boots: their format, how they are written and read.
 
-use crate::point_news::Boot;
+use crate::point_activity::Boot;
 use ocpp_scalars::{push_instant, push_integer, read_instant};
 use std::alloc::AllocError;
 

@@ -21,12 +21,12 @@ pub struct CallNumbers {
 #[derive(Drop)]
 pub struct CallMoments {
     /// In the order of the calls' numbers.
-    added: Vec<AddedCalls>,
+    added: Vec<SeenCalls>,
 }
 
 /// Calls that were first seen at the same moment.
 #[derive(Clone, Copy)]
-struct AddedCalls {
+struct SeenCalls {
     /// The number after that of the last one.
     next: u64,
     moment: Instant,
@@ -60,7 +60,7 @@ impl CallMoments {
             None => first,
         };
         if seen < next {
-            self.added.push(AddedCalls { next, moment })?;
+            self.added.push(SeenCalls { next, moment })?;
         }
         Ok(())
     }

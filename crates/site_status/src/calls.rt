@@ -3,7 +3,7 @@
 ghost use Rattle.std.specs.Prelude.{◌≡◌};
 ghost use Rattle.site_status.specs.Calls.{in_flight, in_flight_since, waiting};
 
-use crate::point_news::SentMoment;
+use crate::point_activity::SentMoment;
 use ocpp_scalars::Instant;
 use site_core::Outbox;
 

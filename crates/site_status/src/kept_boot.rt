@@ -3,7 +3,7 @@
 ghost use Rattle.std.specs.Prelude.{◌≡◌};
 ghost use Rattle.site_status.specs.KeptBoot.{boot_to_keep};
 
-use crate::point_news::{Boot, PointNews, Sighting};
+use crate::point_activity::{Boot, Observation, PointActivity};
 use crate::reboot::{Reboot, is_before, may_have_forgotten};
 use point_book::PointBook;
 use site_core::{Outbox, PointAudit};
@@ -12,7 +12,7 @@ use std::alloc::{AllocError, Global};
 /// Returns the last boot of a point, unless it has confirmed an install since. Only such a point
 /// may have forgotten its profiles. The journal has the profiles that it should have, and the audit
 /// in which it agreed.
-pub fn boot_to_keep(news: &PointNews) -> Option<Boot>
+pub fn boot_to_keep(news: &PointActivity) -> Option<Boot>
     ensures { result ≡ boot_to_keep news.now }
 {
     let boot = news.boot?;
@@ -43,8 +43,8 @@ pub fn may_forget_since(
     audit: Option<&PointAudit>,
 ) -> Result<bool, AllocError> {
     // A boot is kept only until an install is confirmed, so there is none to record.
-    let mut news = PointNews::new();
-    news.see(Sighting::Booted(resumed_boot(boot, outbox)));
+    let mut news = PointActivity::new();
+    news.see(Observation::Booted(resumed_boot(boot, outbox)));
     let reboot = Reboot::of(alloc, &news, book, outbox, audit)?;
     Ok(may_have_forgotten(reboot))
 }

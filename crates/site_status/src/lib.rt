@@ -16,7 +16,7 @@ mod next_day;
 mod one_line;
 mod page;
 mod page_style;
-mod point_news;
+mod point_activity;
 mod point_summary;
 mod reboot;
 mod site_report;
@@ -34,11 +34,13 @@ pub use journal_report::{JournalReport, JournalState};
 pub use kept_boot::{boot_to_keep, may_forget_since, resumed_boot};
 pub use metrics::metrics_text;
 pub use next_day::connector_picture;
-pub use one_line::push_on_one_line;
+pub use one_line::push_without_controls;
 pub use page::{POINTS_OF_PAGE, site_page};
-pub use point_news::{Boot, Connection, PointNews, RejectedCalls, Rejection, SentMoment, Sighting};
+pub use point_activity::{
+    Boot, Connection, Observation, PointActivity, RejectedCalls, Rejection, SentMoment,
+};
 pub use reboot::{Reboot, may_have_forgotten};
 pub use site_report::{SiteCounts, SiteReport};
 pub use state_page::state_json;
-pub use status_answer::{ContentKind, StatusAnswer, answer_of, health_answer, nothing_there};
+pub use status_answer::{ContentKind, StatusAnswer, answer_of, health_answer, not_found};
 pub use watched_journal::WatchedJournal;

@@ -1,7 +1,7 @@
 //! The metrics of a site for Prometheus (text format 0.0.4).
 
 use crate::health::Health;
-use crate::point_summary::{PointCalls, PointSummary, calls_of_points, summary_at};
+use crate::point_summary::{CallSummary, PointSummary, calls_of_points, summary_at};
 use crate::site_report::SiteReport;
 use messages::AuditOutcome;
 use ocpp_scalars::Instant;
@@ -35,7 +35,7 @@ fn push_of_point(
     figure: PointFigure,
     report: &SiteReport<'_>,
     place: usize,
-    calls: PointCalls,
+    calls: CallSummary,
 ) -> Result<(), AllocError> {
     let Some(point) = summary_at(report, place, calls) else {
         return Ok(());

@@ -6,7 +6,7 @@ ghost use Rattle.site_status.specs.Found.{asked_day, day, has_picture};
 ghost use Rattle.sweep_compiler.specs.Explained.{IsExplanation};
 
 use crate::site_report::SiteReport;
-use explain_pages::{ExplainedAsk, not_counted, write_picture};
+use explain_pages::{ExplainedRequest, not_counted, write_picture};
 use meaning::Ask;
 use ocpp_scalars::Instant;
 use point_book::PointBook;
@@ -67,7 +67,7 @@ pub fn connector_picture(
     let explanation = explain(alloc, book, &ask, &mut Turns::new())?;
     let view = book.view();
     let rest = not_counted(alloc, &view, &ask, explanation.intervals())?;
-    let explained = ExplainedAsk {
+    let explained = ExplainedRequest {
         point,
         unit: report.machine.site().unit(),
         ask,

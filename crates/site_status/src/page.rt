@@ -7,7 +7,7 @@ ghost use Rattle.site_status.specs.Found.{is_page};
 use crate::health::Health;
 use crate::next_day::explained_day;
 use crate::page_style::STYLE;
-use crate::point_news::Rejection;
+use crate::point_activity::Rejection;
 use crate::point_summary::{PointSummary, calls_of_points, summary_at};
 use crate::site_report::SiteReport;
 use crate::strip::{Shown, push_strip};

@@ -1,7 +1,7 @@
 //! The summary of a charge point that all texts are made of.
 
 use crate::calls::{in_flight_calls, in_flight_since, waiting_calls};
-use crate::point_news::PointNews;
+use crate::point_activity::PointActivity;
 use crate::reboot::{Reboot, may_have_forgotten};
 use crate::site_report::SiteReport;
 use messages::AuditOutcome;
@@ -13,14 +13,14 @@ use std::alloc::{AllocError, Global};
 #[derive(Clone, Copy)]
 pub(crate) struct PointSummary<'a> {
     pub(crate) id: &'a str,
-    pub(crate) news: &'a PointNews,
+    pub(crate) news: &'a PointActivity,
     pub(crate) book: &'a PointBook,
-    pub(crate) calls: PointCalls,
+    pub(crate) calls: CallSummary,
 }
 
 /// The summary of the calls to a charge point.
 #[derive(Clone, Copy)]
-pub(crate) struct PointCalls {
+pub(crate) struct CallSummary {
     /// The number of calls that it confirmed.
     pub(crate) confirmed: u64,
     pub(crate) waiting: usize,
@@ -36,7 +36,7 @@ pub(crate) struct PointCalls {
 pub(crate) fn calls_of_points(
     alloc: Global,
     report: &SiteReport<'_>,
-) -> Result<Vec<PointCalls>, AllocError> {
+) -> Result<Vec<CallSummary>, AllocError> {
     let mut all = Vec::new(alloc);
     for place in 0..report.points.len() {
         let calls = calls_at(alloc, report, place)?;
@@ -50,7 +50,7 @@ fn calls_at(
     alloc: Global,
     report: &SiteReport<'_>,
     place: usize,
-) -> Result<PointCalls, AllocError> {
+) -> Result<CallSummary, AllocError> {
     let machine = report.machine;
     let (Some(news), Some(point)) = (report.points.get(place), machine.site().point(place)) else {
         return Ok(no_calls());
@@ -60,7 +60,7 @@ fn calls_at(
     };
     let audit = machine.audit_of(point.id);
     let reboot = Reboot::of(alloc, news, book, outbox, audit)?;
-    Ok(PointCalls {
+    Ok(CallSummary {
         confirmed: outbox.first_number(),
         waiting: waiting_calls(outbox),
         waiting_since: waiting_since_at(report, place),
@@ -82,8 +82,8 @@ fn waiting_since_at(report: &SiteReport<'_>, place: usize) -> Option<Instant> {
     }
 }
 
-fn no_calls() -> PointCalls {
-    PointCalls {
+fn no_calls() -> CallSummary {
+    CallSummary {
         confirmed: 0,
         waiting: 0,
         waiting_since: None,
@@ -98,7 +98,7 @@ fn no_calls() -> PointCalls {
 pub(crate) fn summary_at<'a>(
     report: &SiteReport<'a>,
     place: usize,
-    calls: PointCalls,
+    calls: CallSummary,
 ) -> Option<PointSummary<'a>> {
     let machine = report.machine;
     let news = report.points.get(place)?;

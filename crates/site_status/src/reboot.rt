@@ -3,7 +3,7 @@
 ghost use Rattle.std.specs.Prelude.{◌≡◌, IfOk, option_map};
 ghost use Rattle.site_status.specs.Reboot.{agreed_in, first_call_at, has_installed, is_before, is_install_of, is_installed_by, may_have_forgotten, reboot_of, waiting_bodies};
 
-use crate::point_news::{Boot, PointNews};
+use crate::point_activity::{Boot, PointActivity};
 use messages::{AuditOutcome, CallBody};
 use point_book::PointBook;
 use profile::Row;
@@ -49,7 +49,7 @@ impl Reboot {
     /// Returns the facts about a point with this book and this outbox.
     pub fn of(
         alloc: Global,
-        news: &PointNews,
+        news: &PointActivity,
         book: &PointBook,
         outbox: &Outbox,
         audit: Option<&PointAudit>,

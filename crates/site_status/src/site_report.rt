@@ -1,7 +1,7 @@
 //! The report on a site that all texts are made of.
 
 use crate::journal_report::JournalReport;
-use crate::point_news::PointNews;
+use crate::point_activity::PointActivity;
 use ocpp_scalars::Instant;
 use site_core::Machine;
 
@@ -13,7 +13,7 @@ pub struct SiteReport<'a> {
     /// The state of the site at that moment.
     pub machine: &'a Machine,
     /// The observations of each point, in the order of the site file.
-    pub points: &'a [PointNews],
+    pub points: &'a [PointActivity],
     /// Since when the longest-waiting call of each point waits, if one does, in the same order.
     pub waiting_since: &'a [Option<Instant>],
     pub counts: SiteCounts,

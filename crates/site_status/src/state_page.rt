@@ -2,7 +2,7 @@
 
 use crate::health::Health;
 use crate::json_page::JsonPage;
-use crate::point_news::{PointNews, Rejection};
+use crate::point_activity::{PointActivity, Rejection};
 use crate::point_summary::{PointSummary, calls_of_points, summary_at};
 use crate::site_report::{SiteCounts, SiteReport};
 use messages::purpose_name;
@@ -75,7 +75,7 @@ fn push_point(page: &mut JsonPage, point: &PointSummary<'_>) -> Result<(), Alloc
 }
 
 /// Appends the observations of a point's connection.
-fn push_news(page: &mut JsonPage, news: &PointNews) -> Result<(), AllocError> {
+fn push_news(page: &mut JsonPage, news: &PointActivity) -> Result<(), AllocError> {
     page.instant("connectedSince", news.connection.since)?;
     page.instant("lastText", news.heard)?;
     let booted = match news.boot {
@@ -86,7 +86,7 @@ fn push_news(page: &mut JsonPage, news: &PointNews) -> Result<(), AllocError> {
 }
 
 /// Appends the number of calls that a point rejected, and the last of them.
-fn push_rejected(page: &mut JsonPage, news: &PointNews) -> Result<(), AllocError> {
+fn push_rejected(page: &mut JsonPage, news: &PointActivity) -> Result<(), AllocError> {
     page.number("rejections", news.rejections)?;
     page.out.key("rejected")?;
     match &news.rejection {

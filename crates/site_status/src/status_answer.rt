@@ -60,7 +60,7 @@ pub fn health_answer(alloc: Global, health: Health) -> Result<StatusAnswer, Allo
 }
 
 /// Returns the answer to a path that doesn't exist.
-pub fn nothing_there(alloc: Global) -> Result<StatusAnswer, AllocError>
+pub fn not_found(alloc: Global) -> Result<StatusAnswer, AllocError>
     ensures { IfOk result (λ answer. answer.status ≡ 404) }
 {
     let body = String::from_str(
@@ -112,7 +112,7 @@ fn found_if_any(
 {
     match body {
         Some(body) => Ok(found(kind, body)),
-        None => nothing_there(alloc),
+        None => not_found(alloc),
     }
 }
 

@@ -8,7 +8,7 @@ use Rattle.std.proofs.lemmas.Bool.Decides.{nat_tests}
 use Rattle.std.proofs.lemmas.List.Sorted.{IsPartitionedBy-ltb, IsNonDecreasingBy-from_all_adjacent}
 use Rattle.std.proofs.lemmas.Option.{get_or_from_slice_get}
 use Rattle.stacking.specs.InForce.{rate_of, IsHighest, IsSet}
-use Rattle.stacking.specs.ByCases.InForce.{AreRising, IsPlaceOf, stands_there}
+use Rattle.stacking.specs.ByCases.InForce.{AreRising, IsPlaceOf, has_level_at}
 
 abbrev AreBelow : ℕ → List (ℕ × ℕ) → Type 0
 AreBelow level rates = AllByRecursion (λ (entry : ℕ × ℕ). entry.0 < level) rates
@@ -70,7 +70,7 @@ is_place rates level place within before from = record {
 
 -- the index of an entry with the level is its place
 
-below_one : (place low level : ℕ) (rates : List (ℕ × ℕ)) → AreAbove low rates → stands_there rates level place ≡ true → low < level
+below_one : (place low level : ℕ) (rates : List (ℕ × ℕ)) → AreAbove low rates → has_level_at rates level place ≡ true → low < level
 below_one zero low level [] above there = absurd (grind (arith, there))
 below_one zero low level (entry ∷ rates) above there =
     let same : entry.0 ≡ level = grind (arith, nat_tests, there) in
@@ -83,7 +83,7 @@ not_below_it : (level : ℕ) (rates : List (ℕ × ℕ)) → AreAbove level rate
 not_below_it level [] above = tt
 not_below_it level (entry ∷ rates) above = let less : level < entry.0 = above.0 in (omega (arith, less), not_below_it level rates above.1)
 
-pub place_of_one : (place level : ℕ) (rates : List (ℕ × ℕ)) → AreRising rates → stands_there rates level place ≡ true → IsPlaceOf rates level place
+pub place_of_one : (place level : ℕ) (rates : List (ℕ × ℕ)) → AreRising rates → has_level_at rates level place ≡ true → IsPlaceOf rates level place
 place_of_one zero level [] rising there = absurd (grind (arith, there))
 place_of_one zero level (entry ∷ rates) rising there =
     let same : entry.0 ≡ level = grind (arith, nat_tests, there) in
@@ -103,7 +103,7 @@ place_of_one (suc place) level (entry ∷ rates) rising there =
     }
 
 -- if the entry at the place has another level, those from there on are above the level
-above_place : (place level : ℕ) (rates : List (ℕ × ℕ)) → AreRising rates → AreNotBelow level (drop place rates) → stands_there rates level place ≡ false → AreAbove level (drop place rates)
+above_place : (place level : ℕ) (rates : List (ℕ × ℕ)) → AreRising rates → AreNotBelow level (drop place rates) → has_level_at rates level place ≡ false → AreAbove level (drop place rates)
 above_place zero level [] rising from apart = tt
 above_place zero level (entry ∷ rates) rising from apart =
     let from_here : level ≤ entry.0 = from.0 in
@@ -152,7 +152,7 @@ put_between (suc place) level rate [] below other = refl
 put_between (suc place) level rate (entry ∷ rates) below other =
     set_behind entry level other (Some rate) (rate_of rates other) _ below.0 (put_between place level rate rates below.1 other)
 
-pub put_over : (place level rate : ℕ) (rates : List (ℕ × ℕ)) → AreBelow level (take place rates) → stands_there rates level place ≡ true
+pub put_over : (place level rate : ℕ) (rates : List (ℕ × ℕ)) → AreBelow level (take place rates) → has_level_at rates level place ≡ true
     → IsSet rates level (Some rate) (slice_set rates place (level, rate))
 put_over zero level rate [] below there other = absurd (false≢true there)
   where
@@ -171,7 +171,7 @@ put_over (suc place) level rate [] below there other = absurd (grind (arith, the
 put_over (suc place) level rate (entry ∷ rates) below there other =
     set_behind entry level other (Some rate) (rate_of rates other) _ below.0 (put_over place level rate rates below.1 there other)
 
-pub taken_out : (place level : ℕ) (rates : List (ℕ × ℕ)) → AreRising rates → AreBelow level (take place rates) → stands_there rates level place ≡ true
+pub taken_out : (place level : ℕ) (rates : List (ℕ × ℕ)) → AreRising rates → AreBelow level (take place rates) → has_level_at rates level place ≡ true
     → IsSet rates level None (remove rates place)
 taken_out zero level [] rising below there other = absurd (grind (arith, there))
 taken_out zero level (entry ∷ rates) rising below there other = go (other == level) (other == entry.0) refl refl
@@ -192,7 +192,7 @@ taken_out (suc place) level [] rising below there other = absurd (grind (arith, 
 taken_out (suc place) level (entry ∷ rates) rising below there other =
     set_behind entry level other None (rate_of rates other) _ below.0 (taken_out place level rates rising.1 below.1 there other)
 
-pub not_there : (place level : ℕ) (rates : List (ℕ × ℕ)) → AreRising rates → IsPlaceOf rates level place → stands_there rates level place ≡ false → IsSet rates level None rates
+pub not_there : (place level : ℕ) (rates : List (ℕ × ℕ)) → AreRising rates → IsPlaceOf rates level place → has_level_at rates level place ≡ false → IsSet rates level None rates
 not_there place level rates rising is apart other = go (other == level) refl
   where
     none : rate_of rates level ≡ None
@@ -215,11 +215,11 @@ inserted_rise (suc place) level rate [] rising below above = (tt, tt)
 inserted_rise (suc place) level rate (entry ∷ rates) rising below above =
     (above_inserted entry.0 place level rate rates below.0 rising.0, inserted_rise place level rate rates rising.1 below.1 above)
 
-pub put_between_rises : (place level rate : ℕ) (rates : List (ℕ × ℕ)) → AreRising rates → IsPlaceOf rates level place → stands_there rates level place ≡ false → AreRising (insert rates place (level, rate))
+pub put_between_rises : (place level rate : ℕ) (rates : List (ℕ × ℕ)) → AreRising rates → IsPlaceOf rates level place → has_level_at rates level place ≡ false → AreRising (insert rates place (level, rate))
 put_between_rises place level rate rates rising is apart =
     inserted_rise place level rate rates rising is.below (above_place place level rates rising is.not_below apart)
 
-above_over : (low place level rate : ℕ) (rates : List (ℕ × ℕ)) → stands_there rates level place ≡ true → AreAbove low rates → AreAbove low (slice_set rates place (level, rate))
+above_over : (low place level rate : ℕ) (rates : List (ℕ × ℕ)) → has_level_at rates level place ≡ true → AreAbove low rates → AreAbove low (slice_set rates place (level, rate))
 above_over low zero level rate [] there all = tt
 above_over low zero level rate (entry ∷ rates) there all =
     let here : low < entry.0 = all.0 in
@@ -228,7 +228,7 @@ above_over low zero level rate (entry ∷ rates) there all =
 above_over low (suc place) level rate [] there all = tt
 above_over low (suc place) level rate (entry ∷ rates) there all = (all.0, above_over low place level rate rates there all.1)
 
-pub put_over_rises : (place level rate : ℕ) (rates : List (ℕ × ℕ)) → AreRising rates → stands_there rates level place ≡ true → AreRising (slice_set rates place (level, rate))
+pub put_over_rises : (place level rate : ℕ) (rates : List (ℕ × ℕ)) → AreRising rates → has_level_at rates level place ≡ true → AreRising (slice_set rates place (level, rate))
 put_over_rises zero level rate [] rising there = tt
 put_over_rises zero level rate (entry ∷ rates) rising there =
     let same : entry.0 ≡ level = grind (arith, nat_tests, there) in

@@ -11,7 +11,7 @@ use Rattle.profile.specs.declared.purpose.Purpose.TheVariants.{ChargePointMaxPro
 use Rattle.profile.specs.declared.row.Row.{Row}
 use Rattle.profile.specs.Purpose.{is_tx_default}
 use Rattle.profile.specs.Candidates.{is_replaced_at}
-use Rattle.stacking.specs.ByCases.Candidates.{AreCandidatePlaces, candidate_at, candidates_below, first_at, of_level, own_connector, rows_below, shared_connector, stands_at}
+use Rattle.stacking.specs.ByCases.Candidates.{AreCandidatePlaces, candidate_at, candidates_below, first_at, of_level, own_connector, rows_below, shared_connector, is_row_at}
 use Rattle.stacking.proofs.CandidateLemmas.{all-of, none-passes}
 
 -- ---- the iterator
@@ -122,8 +122,8 @@ by_places purpose rows connector places (suc level) few each =
 
 -- ---- one more row
 
-more-of_level : (purpose : Purpose) (connector level : ℕ) (row : Row) (test : Bool) → stands_at purpose connector row ≡ test
-    → find (λ (r : Row). (r.profile.stack_level == level) && stands_at purpose connector r) (row ∷ []) ≡ cond test (of_level level row) None
+more-of_level : (purpose : Purpose) (connector level : ℕ) (row : Row) (test : Bool) → is_row_at purpose connector row ≡ test
+    → find (λ (r : Row). (r.profile.stack_level == level) && is_row_at purpose connector r) (row ∷ []) ≡ cond test (of_level level row) None
 more-of_level purpose connector level row test is = rw is (go (row.profile.stack_level == level) test)
   where
     go : (l t : Bool) → cond (l && t) (Some row) None ≡ cond t (cond l (Some row) None) None
@@ -140,15 +140,15 @@ or-none (Some x) = refl
 pub first_more : (purpose : Purpose) (connector level : ℕ) (rows : List Row) (place : ℕ) (row : Row) → place < length rows
     → row ≡ slice_index_or rows place row
     → first_at purpose connector level (take (place + 1) rows)
-    ≡ option_or (first_at purpose connector level (take place rows)) (cond (stands_at purpose connector row) (of_level level row) None)
+    ≡ option_or (first_at purpose connector level (take place rows)) (cond (is_row_at purpose connector row) (of_level level row) None)
 first_more purpose connector level rows place row inside is =
     ap (first_at purpose connector level) (take_more rows place row inside)
     ∙ find-append _ (take place rows) (slice_index_or rows place row ∷ [])
     ∙ ap (option_or (first_at purpose connector level (take place rows)))
-    (ap (λ (r : Row). first_at purpose connector level (r ∷ [])) (sym is) ∙ more-of_level purpose connector level row (stands_at purpose connector row) refl)
+    (ap (λ (r : Row). first_at purpose connector level (r ∷ [])) (sym is) ∙ more-of_level purpose connector level row (is_row_at purpose connector row) refl)
 
 pub passed : (purpose : Purpose) (connector level : ℕ) (rows : List Row) (place : ℕ) (row : Row) → place < length rows
-    → row ≡ slice_index_or rows place row → stands_at purpose connector row ≡ false
+    → row ≡ slice_index_or rows place row → is_row_at purpose connector row ≡ false
     → first_at purpose connector level (take (place + 1) rows) ≡ first_at purpose connector level (take place rows)
 passed purpose connector level rows place row inside is fails =
     first_more purpose connector level rows place row inside is
@@ -156,7 +156,7 @@ passed purpose connector level rows place row inside is fails =
     ∙ or-none _
 
 pub added : (purpose : Purpose) (connector level : ℕ) (rows : List Row) (place : ℕ) (row : Row) → place < length rows
-    → row ≡ slice_index_or rows place row → stands_at purpose connector row ≡ true
+    → row ≡ slice_index_or rows place row → is_row_at purpose connector row ≡ true
     → first_at purpose connector level (take (place + 1) rows)
     ≡ option_or (first_at purpose connector level (take place rows)) (option_and_then (of_level level) (slice_get rows place))
 added purpose connector level rows place row inside is passes =

@@ -3,7 +3,7 @@
 ghost use Rattle.std.specs.Prelude.{nat_le, IsTrue};
 ghost use Rattle.std.specs.Iterator.{YieldsFirstRef, item_count};
 
-use crate::levels::{Places, row_at};
+use crate::levels::{RowIndexes, row_at};
 use profile::Row;
 
 /// An iterator over the rows of a purpose that apply to a connector (chapter 3.13), by strictly
@@ -12,7 +12,7 @@ use profile::Row;
 pub struct Candidates<'a> {
     pub(crate) rows: &'a [Row],
     /// For each stack level, the index of the row that applies to the connector.
-    pub(crate) places: Places,
+    pub(crate) places: RowIndexes,
     /// The rows of this stack level and above have been yielded.
     pub(crate) below: u32,
     pub(crate) ghost inside: { IsTrue (nat_le below 100) },

@@ -2,7 +2,7 @@
 
 ghost use Rattle.std.specs.Prelude.{◌≡◌, [], None, Some, IsOk, IfErr, OnErr, OnOk};
 ghost use Rattle.stacking.specs.InForce.{IsSet, IsTop};
-ghost use Rattle.stacking.specs.ByCases.InForce.{AreRising, IsPlaceOf, stands_there};
+ghost use Rattle.stacking.specs.ByCases.InForce.{AreRising, IsPlaceOf, has_level_at};
 ghost use Rattle.ocpp_scalars.specs.declared.refusal.Refusal.TheVariants.{OutOfMemory};
 
 use ocpp_scalars::Refusal;
@@ -50,9 +50,9 @@ impl InForce {
         ensures certain { (rate ≡ None) → IsOk result }
     {
         match rate {
-            Some(rate) => put_in(&mut self.rates, level, rate),
+            Some(rate) => set_rate(&mut self.rates, level, rate),
             None => {
-                take_out(&mut self.rates, level);
+                remove_rate(&mut self.rates, level);
                 Ok(())
             }
         }
@@ -68,7 +68,7 @@ impl InForce {
 }
 
 /// Gives a level a rate.
-fn put_in(rates: &mut Vec<(u32, u32)>, level: u32, rate: u32) -> Result<(), Refusal>
+fn set_rate(rates: &mut Vec<(u32, u32)>, level: u32, rate: u32) -> Result<(), Refusal>
     requires rising { AreRising rates.old.items }
     ensures set { OnOk result (IsSet rates.old.items level (Some rate) rates.new.items) }
     ensures rising { AreRising rates.new.items }
@@ -76,7 +76,7 @@ fn put_in(rates: &mut Vec<(u32, u32)>, level: u32, rate: u32) -> Result<(), Refu
     ensures unchanged { OnErr result (rates.new.items ≡ rates.old.items) }
 {
     let place = place_of(rates.as_slice(), level);
-    if stands_there(rates.as_slice(), level, place) {
+    if has_level_at(rates.as_slice(), level, place) {
         rates[place] = (level, rate);
         return Ok(());
     }
@@ -87,13 +87,13 @@ fn put_in(rates: &mut Vec<(u32, u32)>, level: u32, rate: u32) -> Result<(), Refu
 }
 
 /// Removes the rate of a level, if it has one.
-fn take_out(rates: &mut Vec<(u32, u32)>, level: u32)
+fn remove_rate(rates: &mut Vec<(u32, u32)>, level: u32)
     requires rising { AreRising rates.old.items }
     ensures set { IsSet rates.old.items level None rates.new.items }
     ensures rising { AreRising rates.new.items }
 {
     let place = place_of(rates.as_slice(), level);
-    if stands_there(rates.as_slice(), level, place) {
+    if has_level_at(rates.as_slice(), level, place) {
         rates.remove(place);
     }
 }
@@ -104,7 +104,7 @@ fn place_of(rates: &[(u32, u32)], level: u32) -> usize
     ensures { IsPlaceOf rates.now level result }
 {
     let likely = likely_place(rates, level);
-    if stands_there(rates, level, likely) {
+    if has_level_at(rates, level, likely) {
         return likely;
     }
     rates.partition_point(|entry| entry.0 < level)
@@ -120,8 +120,8 @@ fn likely_place(rates: &[(u32, u32)], level: u32) -> usize {
 }
 
 /// Whether the entry at an index has this level.
-fn stands_there(rates: &[(u32, u32)], level: u32, place: usize) -> bool
-    ensures { result ≡ stands_there rates.now level place }
+fn has_level_at(rates: &[(u32, u32)], level: u32, place: usize) -> bool
+    ensures { result ≡ has_level_at rates.now level place }
 {
     match rates.get(place) {
         Some(entry) => entry.0 == level,

@@ -3,7 +3,7 @@
 ghost use Rattle.std.specs.Prelude.{◌≡◌, ◌≢◌, ◌<◌, ◌≤◌, ℕ, length, slice_get, slice_index};
 ghost use Rattle.std.specs.List.{All};
 ghost use Rattle.std.specs.Option.{option_copied};
-ghost use Rattle.stacking.specs.ByCases.Candidates.{AreCandidatePlaces, AreFirstAdded, AreFirstPlaces, IsPlaceAdded, own_connector, shared_connector, stands_at};
+ghost use Rattle.stacking.specs.ByCases.Candidates.{AreCandidatePlaces, AreFirstAdded, AreFirstPlaces, IsPlaceAdded, own_connector, shared_connector, is_row_at};
 
 use crate::changes::is_purpose;
 use profile::{MAX_STACK_LEVEL, Purpose, Row};
@@ -11,24 +11,24 @@ use profile::{MAX_STACK_LEVEL, Purpose, Row};
 /// The number of stack levels.
 const LEVELS: usize = MAX_STACK_LEVEL as usize + 1;
 
-/// For each stack level, an index among rows, of which there are fewer than 256. `NO_PLACE` is the
+/// For each stack level, an index among rows, of which there are fewer than 256. `NO_ROW` is the
 /// index of no row.
 // A table that one pass over the rows fills: searching all rows for each level took about half of a
 // short request's sweep.
-pub(crate) type Places = [u8; LEVELS];
+pub(crate) type RowIndexes = [u8; LEVELS];
 
 /// An index past the last row.
-const NO_PLACE: u8 = u8::MAX;
+const NO_ROW: u8 = u8::MAX;
 
 /// Returns, for each stack level, the index of the row that applies to a connector: one at the
 /// connector itself takes precedence over one that applies to all.
-pub(crate) fn candidate_places(rows: &[Row], purpose: Purpose, connector: u32) -> Places
+pub(crate) fn candidate_row_indexes(rows: &[Row], purpose: Purpose, connector: u32) -> RowIndexes
     requires few { length rows.now ≤ 255 }
     ensures { AreCandidatePlaces purpose rows.now connector result }
 {
     let own = own_connector(purpose, connector);
     let shared = shared_connector(purpose, connector);
-    let mut places = first_places(rows, purpose, own);
+    let mut places = first_row_indexes(rows, purpose, own);
     if shared != own {
         add_first_places(&mut places, rows, purpose, shared);
     }
@@ -36,7 +36,7 @@ pub(crate) fn candidate_places(rows: &[Row], purpose: Purpose, connector: u32) -
 }
 
 /// Returns, for each stack level, the index of the first row of a purpose at a connector.
-fn first_places(rows: &[Row], purpose: Purpose, connector: u32) -> Places
+fn first_row_indexes(rows: &[Row], purpose: Purpose, connector: u32) -> RowIndexes
     requires few { length rows.now ≤ 255 }
     ensures { AreFirstPlaces purpose rows.now connector result }
 {
@@ -46,19 +46,19 @@ fn first_places(rows: &[Row], purpose: Purpose, connector: u32) -> Places
 }
 
 /// For each stack level without an index, stores that of the first row of a purpose at a connector.
-fn add_first_places(places: &mut Places, rows: &[Row], purpose: Purpose, connector: u32)
+fn add_first_places(places: &mut RowIndexes, rows: &[Row], purpose: Purpose, connector: u32)
     requires few { length rows.now ≤ 255 }
     ensures { AreFirstAdded purpose rows.now connector rows.now places.old places.new }
 {
     for place in 0..rows.len() {
-        if stands_at(purpose, connector, &rows[place]) {
+        if is_row_at(purpose, connector, &rows[place]) {
             add_place(places, rows, place);
         }
     }
 }
 
 /// Stores the index of a row, unless its stack level has one.
-fn add_place(places: &mut Places, rows: &[Row], place: usize)
+fn add_place(places: &mut RowIndexes, rows: &[Row], place: usize)
     requires few { length rows.now ≤ 255 }
     requires inside { place < length rows.now }
     ensures { IsPlaceAdded rows.now place places.old places.new }
@@ -69,13 +69,13 @@ fn add_place(places: &mut Places, rows: &[Row], place: usize)
     }
 }
 
-fn no_places() -> Places
+fn no_places() -> RowIndexes
     ensures { (level : ℕ) → level < 100 → slice_index result level ≡ 255 }
 {
-    [NO_PLACE; LEVELS]
+    [NO_ROW; LEVELS]
 }
 
-fn set_place(places: &mut Places, level: usize, place: u8)
+fn set_place(places: &mut RowIndexes, level: usize, place: u8)
     requires level { level < 100 }
     ensures here { slice_index places.new level ≡ place }
     ensures others { (other : ℕ) → other ≢ level
@@ -85,14 +85,14 @@ fn set_place(places: &mut Places, level: usize, place: u8)
 }
 
 /// Whether a row is of a purpose and at a connector.
-fn stands_at(purpose: Purpose, connector: u32, row: &Row) -> bool
-    ensures { result ≡ stands_at purpose connector row.now }
+fn is_row_at(purpose: Purpose, connector: u32, row: &Row) -> bool
+    ensures { result ≡ is_row_at purpose connector row.now }
 {
     is_purpose(purpose, row.profile.purpose) && row.connector == connector
 }
 
 /// Returns the row that applies to a connector at a stack level.
-pub(crate) fn row_at<'a>(rows: &'a [Row], places: &Places, level: u32) -> Option<&'a Row>
+pub(crate) fn row_at<'a>(rows: &'a [Row], places: &RowIndexes, level: u32) -> Option<&'a Row>
     requires { level < 100 }
     ensures { option_copied result ≡ slice_get rows.now (slice_index places.now level) }
 {

@@ -11,7 +11,7 @@ ghost use Rattle.stacking.specs.Rows.{AreRows, IsRefused, rows_begun};
 
 use crate::candidates::Candidates;
 use crate::changes::{drop_cleared, drop_replaced, drop_transaction_profiles, has_match, staying};
-use crate::levels::{candidate_places, level_above};
+use crate::levels::{candidate_row_indexes, level_above};
 use ocpp_scalars::{Instant, Refusal};
 use profile::{Criteria, Profile, Purpose, Row};
 use std::alloc::{AllocError, Global};
@@ -163,7 +163,7 @@ impl Rows {
         let rows = self.items.as_slice();
         Candidates {
             rows,
-            places: candidate_places(rows, purpose, connector),
+            places: candidate_row_indexes(rows, purpose, connector),
             // From the highest level of a row: a walk from level 99 cost a point with few profiles
             // more than the rest of its sweep.
             below: level_above(rows),

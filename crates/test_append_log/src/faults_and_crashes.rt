@@ -1,7 +1,7 @@
 //! Faults at each call in turn; the bytes that a crash leaves behind the acknowledged ones, and
 //! those with which a log opened afterwards goes on.
 
-use append_log::{Answer, Log, LogFault, MemoryFile, whole_length};
+use append_log::{FileAnswer, Log, LogFault, MemoryFile, whole_length};
 use std::alloc::{AllocError, Global};
 use std::process::Abort;
 
@@ -86,17 +86,17 @@ fn log_in(rt: &impl Abort, alloc: Global, text: &str, letters: &str) -> Log<Memo
 }
 
 /// Returns the answers of the letters, the last one first, and then that of the cut.
-fn answers_of(alloc: Global, letters: &str) -> Result<Vec<Answer>, AllocError> {
+fn answers_of(alloc: Global, letters: &str) -> Result<Vec<FileAnswer>, AllocError> {
     let mut answers = Vec::new(alloc);
     for letter in letters.as_bytes().iter().rev() {
         answers.push(match *letter {
-            b'p' => Answer::Part(1),
-            b'f' => Answer::Full,
-            b'x' => Answer::Failed,
-            _ => Answer::Made,
+            b'p' => FileAnswer::Part(1),
+            b'f' => FileAnswer::Full,
+            b'x' => FileAnswer::Failed,
+            _ => FileAnswer::Made,
         })?;
     }
-    answers.push(Answer::Made)?;
+    answers.push(FileAnswer::Made)?;
     Ok(answers)
 }
 

@@ -3,8 +3,8 @@
 
 use crate::samples::{expect, explain, interval, point_with, profile, same};
 use explain_pages::{
-    ExplainedAsk, NoPart, NotCounted, is_named, not_counted, sentence, write_json, write_page,
-    write_table,
+    ExplainedRequest, NotCounted, NotCountedReason, is_named, not_counted, sentence, write_json,
+    write_page, write_table,
 };
 use meaning::{Cause, WhyNot};
 use profile::Purpose;
@@ -71,7 +71,7 @@ fn uncounted(
     ];
     let explained = explain(rt, point.view(), (connector, 86_400), &intervals, &[]);
     let rest = not_counted(alloc, &point.view(), &explained.ask, &intervals).expect(rt, rows);
-    let explained = ExplainedAsk {
+    let explained = ExplainedRequest {
         not_counted: rest.as_slice(),
         ..explained
     };
@@ -91,26 +91,28 @@ fn names_of(rt: &impl Abort, alloc: Global, json: &str) -> String {
     names
 }
 
-const REASONS: [NoPart; 13] = [
-    NoPart::NotPrevailing(WhyNot::OtherConnector),
-    NoPart::NotPrevailing(WhyNot::NoTransaction),
-    NoPart::NotPrevailing(WhyNot::Hidden),
-    NoPart::NotPrevailing(WhyNot::NotYetValid),
-    NoPart::NotPrevailing(WhyNot::NoLongerValid),
-    NoPart::NotPrevailing(WhyNot::BeforeAnchor),
-    NoPart::NotPrevailing(WhyNot::PastDuration),
-    NoPart::NotPrevailing(WhyNot::BeforeFirstPeriod),
-    NoPart::NotPrevailing(WhyNot::BelowHigherLevel),
-    NoPart::NotPrevailing(WhyNot::BehindTxProfile),
-    NoPart::NoLimit,
-    NoPart::BehindOthers,
-    NoPart::NoActiveConnector,
+const REASONS: [NotCountedReason; 13] = [
+    NotCountedReason::NotPrevailing(WhyNot::OtherConnector),
+    NotCountedReason::NotPrevailing(WhyNot::NoTransaction),
+    NotCountedReason::NotPrevailing(WhyNot::Hidden),
+    NotCountedReason::NotPrevailing(WhyNot::NotYetValid),
+    NotCountedReason::NotPrevailing(WhyNot::NoLongerValid),
+    NotCountedReason::NotPrevailing(WhyNot::BeforeAnchor),
+    NotCountedReason::NotPrevailing(WhyNot::PastDuration),
+    NotCountedReason::NotPrevailing(WhyNot::BeforeFirstPeriod),
+    NotCountedReason::NotPrevailing(WhyNot::BelowHigherLevel),
+    NotCountedReason::NotPrevailing(WhyNot::BehindTxProfile),
+    NotCountedReason::NoLimit,
+    NotCountedReason::BehindOthers,
+    NotCountedReason::NoActiveConnector,
 ];
 
 /// Checks that each reason has a sentence of its own, which is in the table, the JSON and the page.
 #[test]
 fn each_reason_has_its_sentence(rt: HostRuntime) {
-    let mut seen = String::from_str(rt.alloc(), sentence(NoPart::NotLeast)).expect(&rt, "error");
+    let mut seen = String::from_str(rt.alloc(), sentence(NotCountedReason::NotLeast)).expect(
+        &rt, "error",
+    );
     for reason in REASONS {
         let text = sentence(reason);
         assert!(rt; text.ends_with("."), "{text}");
@@ -121,7 +123,7 @@ fn each_reason_has_its_sentence(rt: HostRuntime) {
 }
 
 /// The same for a point whose name has characters that JSON and pages escape.
-fn expect_everywhere(rt: &impl Abort, alloc: Global, reason: NoPart) {
+fn expect_everywhere(rt: &impl Abort, alloc: Global, reason: NotCountedReason) {
     let never = profile(3, Purpose::TxProfile, 2);
     let named = profile(2, Purpose::TxProfile, 2);
     let intervals = [interval(alloc, (0, 60), 630, Cause::Profile(named))];
@@ -132,7 +134,7 @@ fn expect_everywhere(rt: &impl Abort, alloc: Global, reason: NoPart) {
         profile: never,
         reason,
     }];
-    let explained = ExplainedAsk {
+    let explained = ExplainedRequest {
         point: "\"\\<é&>",
         ..explain(rt, point.view(), (1, 60), &intervals, &not_counted)
     };

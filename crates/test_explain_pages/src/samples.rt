@@ -1,6 +1,6 @@
 //! Explained schedules made by hand.
 
-use explain_pages::{ExplainedAsk, NotCounted};
+use explain_pages::{ExplainedRequest, NotCounted};
 use meaning::{Ask, Cause, PrevailingProfile, Reason, Shares, View};
 use ocpp_scalars::Instant;
 use profile::{Purpose, Row, Unit};
@@ -64,9 +64,9 @@ pub(crate) fn explain<'a>(
     (connector, duration): (u32, u32),
     intervals: &'a [Interval],
     not_counted: &'a [NotCounted],
-) -> ExplainedAsk<'a> {
+) -> ExplainedRequest<'a> {
     let start = instant_at(0).expect(rt, "error");
-    ExplainedAsk {
+    ExplainedRequest {
         point: "CP1",
         unit: Unit::A,
         ask: Ask::try_new(connector, start, duration).expect(rt, "error"),

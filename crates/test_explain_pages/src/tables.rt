@@ -1,7 +1,7 @@
 //! Tables for people, against tables made by hand, at several widths.
 
 use crate::samples::{explain, interval, point_with, profile, same};
-use explain_pages::{NoPart, NotCounted, write_table};
+use explain_pages::{NotCounted, NotCountedReason, write_table};
 use meaning::{Cause, WhyNot};
 use profile::Purpose;
 
@@ -92,7 +92,7 @@ fn tables_fit_the_terminal(rt: HostRuntime) {
     ];
     let never = [NotCounted {
         profile: profile(7, Purpose::TxProfile, 2),
-        reason: NoPart::NotPrevailing(WhyNot::NoTransaction),
+        reason: NotCountedReason::NotPrevailing(WhyNot::NoTransaction),
     }];
     let point = point_with(&rt, alloc, "", "none");
     let explained = explain(&rt, point.view(), (1, 172_800), &intervals, &never);

@@ -4,11 +4,11 @@ ghost use Rattle.std.specs.Prelude.{◌≡◌};
 
 use crate::journal_texts::SITE;
 use crate::same::{holds, same_text};
+use journal::{Entry, Line, Noted, noted_by, number_drawn, restore};
 use messages::Side;
 use ocpp_scalars::Instant;
 use ocppj_frame::ReadingMemory;
 use site_core::{Machine, PointId, Step};
-use journal::{Entry, Line, Noted, noted_by, number_drawn, restore};
 use site_rules::read_site;
 use std::alloc::Global;
 use std::marker::Brand;

@@ -4,8 +4,8 @@ ghost use Rattle.std.specs.Prelude.{◌≡◌};
 
 use crate::journal_texts::{CHANGED, JOURNAL, SITE, STATES};
 use crate::same::{holds, same_text};
-use site_core::PointId;
 use journal::{Line, Noted, UNREAD_REPLY, lose_links, push_line, restore};
+use site_core::PointId;
 use site_rules::read_site;
 use std::alloc::Global;
 use std::marker::Brand;

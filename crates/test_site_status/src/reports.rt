@@ -5,7 +5,8 @@ use ocpp_scalars::Instant;
 use site_core::Machine;
 use site_rules::read_site;
 use site_status::{
-    Boot, JournalReport, JournalState, PointNews, SentMoment, Sighting, SiteCounts, SiteReport,
+    Boot, JournalReport, JournalState, Observation, PointActivity, SentMoment, SiteCounts,
+    SiteReport,
 };
 use std::alloc::Global;
 use std::process::Abort;
@@ -32,25 +33,25 @@ pub(crate) fn machine(rt: &impl Abort, alloc: Global) -> Machine {
 
 /// Returns the observations of the points: the first booted, was sent call 0, and rejected it;
 /// there are none of the second.
-pub(crate) fn news(rt: &impl Abort, alloc: Global) -> Vec<PointNews> {
+pub(crate) fn news(rt: &impl Abort, alloc: Global) -> Vec<PointActivity> {
     let mut points = Vec::new(alloc);
     points.push(first_news(rt, alloc)).expect(rt, "error");
-    points.push(PointNews::new()).expect(rt, "error");
+    points.push(PointActivity::new()).expect(rt, "error");
     points
 }
 
-fn first_news(rt: &impl Abort, alloc: Global) -> PointNews {
-    let mut news = PointNews::new();
-    news.see(Sighting::Connected {
+fn first_news(rt: &impl Abort, alloc: Global) -> PointActivity {
+    let mut news = PointActivity::new();
+    news.see(Observation::Connected {
         link: 1,
         moment: at(rt, 1),
     });
-    news.see(Sighting::Heard { moment: at(rt, 2) });
-    news.see(Sighting::Booted(Boot {
+    news.see(Observation::Heard { moment: at(rt, 2) });
+    news.see(Observation::Booted(Boot {
         moment: at(rt, 2),
         first_call: 0,
     }));
-    news.see(Sighting::Sent(SentMoment {
+    news.see(Observation::Sent(SentMoment {
         number: 0,
         action: ActionKind::ClearChargingProfile,
         moment: at(rt, 3),
@@ -69,7 +70,7 @@ pub(crate) fn waits(rt: &impl Abort) -> [Option<Instant>; 2] {
 pub(crate) fn report<'a>(
     rt: &impl Abort,
     machine: &'a Machine,
-    points: &'a [PointNews],
+    points: &'a [PointActivity],
     waiting_since: &'a [Option<Instant>],
 ) -> SiteReport<'a> {
     SiteReport {

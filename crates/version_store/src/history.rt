@@ -150,7 +150,7 @@ impl History {
         ensures back { IfErr result (λ refused. refused.step ≡ step) }
     {
         if self.events.len() < FOLD_FROM {
-            return self.make_in_room(step);
+            return self.make_without_fold(step);
         }
         // Only an event folds: a refused step must change nothing, and an answer alone takes no
         // memory.
@@ -159,7 +159,7 @@ impl History {
                 self.gather_calls();
                 self.make_folded(step)
             }
-            Ok(false) => Ok(self.reply_alone(step)),
+            Ok(false) => Ok(self.make_non_event(step)),
             Err(refusal) => Err(Refused { refusal, step }),
         }
     }
@@ -173,7 +173,7 @@ impl History {
     }
 
     /// Makes a step and adds its event, for which there is room.
-    fn make_in_room(&mut self, step: Step) -> Result<Reply, Refused>
+    fn make_without_fold(&mut self, step: Step) -> Result<Reply, Refused>
         requires can_fold { may_fold step ≡ true }
         requires few { length self.old.events < fold_from }
         ensures makes { IfOk result (λ reply. Makes self.old step reply self.new) }
@@ -201,7 +201,7 @@ impl History {
     }
 
     /// Makes a step that isn't an event.
-    fn reply_alone(&mut self, step: Step) -> Reply
+    fn make_non_event(&mut self, step: Step) -> Reply
         requires can_fold { may_fold step ≡ true }
         requires no_event { outlook self.old.present step ≡ Ok false }
         ensures replies { RepliesAlone self.old step result self.new }

@@ -145,7 +145,7 @@ impl<C: Ledger, A: Ledger, N: ListName> Shared<C, A, N> {
     pub fn lock<R: Wait>(&self, rt: &R) -> MutexGuard<'_, Book<C, A, N>>
         ensures { IsStore (mutex_guard_value result) }
     {
-        let book = self.lock_unfolded(rt);
+        let book = self.lock_after_dropping_fold(rt);
         // Only for its clause, which is the book's invariant.
         book.stored();
         book
@@ -153,7 +153,7 @@ impl<C: Ledger, A: Ledger, N: ListName> Shared<C, A, N> {
 
     /// Locks the book. Drops the remains of a fold while it is unlocked, so that no thread waits
     /// for that.
-    fn lock_unfolded<R: Wait>(&self, rt: &R) -> MutexGuard<'_, Book<C, A, N>> {
+    fn lock_after_dropping_fold<R: Wait>(&self, rt: &R) -> MutexGuard<'_, Book<C, A, N>> {
         let mut book = self.book.lock(rt);
         let Some(folded) = book.take_folded() else {
             return book;

@@ -3,10 +3,10 @@ use Rattle.std.specs.Prelude.{◌≡◌, ℕ, ◌+◌, ◌<◌, ◌≤◌, true,
 use Rattle.meaning.specs.View.{point_state}
 use Rattle.meaning.specs.Cause.{RowLimit, level_of}
 use Rattle.meaning.specs.declared.cause.WhyNot.{WhyNot}
-use Rattle.explain_pages.specs.declared.explained_ask.NoPart.{NoPart}
-use Rattle.explain_pages.specs.declared.explained_ask.NoPart.TheVariants.{NotLeast, BehindOthers}
-use Rattle.explain_pages.specs.declared.looked.RowAsked.{RowAsked}
-use Rattle.explain_pages.specs.declared.looked.Looked.{Looked}
+use Rattle.explain_pages.specs.declared.explained_request.NotCountedReason.{NotCountedReason}
+use Rattle.explain_pages.specs.declared.explained_request.NotCountedReason.TheVariants.{NotLeast, BehindOthers}
+use Rattle.explain_pages.specs.declared.row_at_connector.RowInRequest.{RowInRequest}
+use Rattle.explain_pages.specs.declared.row_at_connector.RowAtConnector.{RowAtConnector}
 use Rattle.explain_pages.specs.NotCounted.{holds_for, SaysAt, LooksAt, PrevailsOnce}
 
 -- a fact about each number from one up to another, which is excluded
@@ -15,9 +15,9 @@ pub record IsSoUntil (fact : ℕ → Type 0) (from until : ℕ) : Type 0 where
   pub each : (k : ℕ) → from ≤ k → k < until → fact k
 
 -- a reason why a row doesn't prevail holds
-abbrev pub Holds : WhyNot → Looked → ℕ → Type 0
-Holds why looked second =
-    holds_for why (point_state looked.view) looked.at looked.ask.start second looked.row.now ≡ true
+abbrev pub Holds : WhyNot → RowAtConnector → ℕ → Type 0
+Holds why row_at_connector second =
+    holds_for why (point_state row_at_connector.view) row_at_connector.at row_at_connector.ask.start second row_at_connector.row.now ≡ true
 
 -- a row of a purpose prevails, and has at least this stack level
 pub record Reaches (least : ℕ) (given : Option RowLimit) : Type 0 where
@@ -26,71 +26,71 @@ pub record Reaches (least : ℕ) (given : Option RowLimit) : Type 0 where
   pub high : least ≤ level_of best
 
 -- a reason holds for a row at the connector for which it is checked
-abbrev pub Says : NoPart → Looked → ℕ → Type 0
-Says reason looked second =
-    SaysAt reason (point_state looked.view) looked.connector looked.ask.start second looked.row.now
+abbrev pub Says : NotCountedReason → RowAtConnector → ℕ → Type 0
+Says reason row_at_connector second =
+    SaysAt reason (point_state row_at_connector.view) row_at_connector.connector row_at_connector.ask.start second row_at_connector.row.now
 
 -- a reason may fail at an instant: if it is BehindOthers, the row prevails then; nothing is claimed
 -- of other reasons
-abbrev pub Fails : NoPart → Looked → ℕ → Type 0
-Fails reason looked second = reason ≡ BehindOthers → Says NotLeast looked second
+abbrev pub Fails : NotCountedReason → RowAtConnector → ℕ → Type 0
+Fails reason row_at_connector second = reason ≡ BehindOthers → Says NotLeast row_at_connector second
 
 -- a second of a request at which a reason may fail, or the fact that it holds at each
-pub record IsFailing (reason : NoPart) (looked : Looked) (second : ℕ) : Type 0 where
-  pub from : looked.ask.start ≤ second
-  pub before : second < looked.ask.start + looked.ask.duration
-  pub fails : Fails reason looked second
+pub record IsFailing (reason : NotCountedReason) (row_at_connector : RowAtConnector) (second : ℕ) : Type 0 where
+  pub from : row_at_connector.ask.start ≤ second
+  pub before : second < row_at_connector.ask.start + row_at_connector.ask.duration
+  pub fails : Fails reason row_at_connector second
 
-abbrev pub FirstFailing : NoPart → Looked → Option ℕ → Type 0
-FirstFailing reason looked None =
-    (second : ℕ) → looked.ask.start ≤ second → second < looked.ask.start + looked.ask.duration
-    → Says reason looked second
-FirstFailing reason looked (Some second) = IsFailing reason looked second
+abbrev pub FirstFailing : NotCountedReason → RowAtConnector → Option ℕ → Type 0
+FirstFailing reason row_at_connector None =
+    (second : ℕ) → row_at_connector.ask.start ≤ second → second < row_at_connector.ask.start + row_at_connector.ask.duration
+    → Says reason row_at_connector second
+FirstFailing reason row_at_connector (Some second) = IsFailing reason row_at_connector second
 
 -- ---- over the connectors for which a row is checked
 
 -- a reason holds for a row at a connector
-abbrev pub SaysOf : NoPart → RowAsked → ℕ → ℕ → Type 0
+abbrev pub SaysOf : NotCountedReason → RowInRequest → ℕ → ℕ → Type 0
 SaysOf reason row connector second =
     SaysAt reason (point_state row.view) connector row.ask.start second row.row.now
 
 -- the row as it is checked for a connector: a reason that holds for it holds at that connector
-pub record IsOf (asked : RowAsked) (number : ℕ) (looked : Looked) : Type 0 where
-  pub ask : looked.ask ≡ asked.ask
+pub record IsOf (asked : RowInRequest) (number : ℕ) (row_at_connector : RowAtConnector) : Type 0 where
+  pub ask : row_at_connector.ask ≡ asked.ask
   pub says :
-      (reason : NoPart) (second : ℕ) → Says reason looked second
+      (reason : NotCountedReason) (second : ℕ) → Says reason row_at_connector second
       → SaysOf reason asked number second
 
 -- a connector for which a row is checked
-abbrev pub IsLookedAt : RowAsked → ℕ → Type 0
+abbrev pub IsLookedAt : RowInRequest → ℕ → Type 0
 IsLookedAt row connector = LooksAt (point_state row.view) row.ask.connector row.row.now connector
 
 -- one of them, or the fact that there is none
-abbrev pub FoundConnector : RowAsked → Option ℕ → Type 0
+abbrev pub FoundConnector : RowInRequest → Option ℕ → Type 0
 FoundConnector row None = (connector : ℕ) → ¬ (IsLookedAt row connector)
 FoundConnector row (Some connector) = IsLookedAt row connector
 
 -- a connector for which a reason may fail at a second
-pub record FailsOnce (reason : NoPart) (row : RowAsked) (second : ℕ) : Type 0 where
+pub record FailsOnce (reason : NotCountedReason) (row : RowInRequest) (second : ℕ) : Type 0 where
   pub connector : ℕ
-  pub looked : IsLookedAt row connector
+  pub row_at_connector : IsLookedAt row connector
   pub from : row.ask.start ≤ second
   pub before : second < row.ask.start + row.ask.duration
   pub fails : reason ≡ BehindOthers → SaysOf NotLeast row connector second
 
 -- a reason holds at each second for each connector for which the row is checked
-abbrev pub IsThroughout : NoPart → RowAsked → Type 0
+abbrev pub IsThroughout : NotCountedReason → RowInRequest → Type 0
 IsThroughout reason row =
     (connector second : ℕ) → IsLookedAt row connector
     → row.ask.start ≤ second → second < row.ask.start + row.ask.duration
     → SaysOf reason row connector second
 
 -- a reason may fail at some second: if it is BehindOthers, the row prevails there
-abbrev pub FailsSomewhere : NoPart → RowAsked → Type 0
+abbrev pub FailsSomewhere : NotCountedReason → RowInRequest → Type 0
 FailsSomewhere reason row =
     reason ≡ BehindOthers → PrevailsOnce (point_state row.view) row.ask row.row.now
 
 -- a connector and a second at which a reason may fail, or the fact that it holds throughout
-abbrev pub FoundFailing : NoPart → RowAsked → Option ℕ → Type 0
+abbrev pub FoundFailing : NotCountedReason → RowInRequest → Option ℕ → Type 0
 FoundFailing reason row None = IsThroughout reason row
 FoundFailing reason row (Some second) = FailsOnce reason row second

@@ -4,10 +4,10 @@ use Rattle.std.specs.List.{position_or_len, before_first, after_first}
 use Rattle.std.specs.Str.{bytes_eq}
 use Rattle.ocpp_scalars.specs.Ascii.{space}
 use Rattle.ocpp_scalars.specs.OptionSteps.{◌>>=◌}
-use Rattle.replay.specs.declared.script.form.LineWord.{LineWord}
-use Rattle.replay.specs.declared.script.form.LineWord.TheVariants.{Operator, Point, Hold}
-use Rattle.replay.specs.declared.script.form.Words.{Words}
-use Rattle.replay.specs.declared.script.form.Words.TheVariants.{Text, Release}
+use Rattle.replay.specs.declared.script.form.ScriptWord.{ScriptWord}
+use Rattle.replay.specs.declared.script.form.ScriptWord.TheVariants.{Operator, Point, Hold}
+use Rattle.replay.specs.declared.script.form.ScriptLineWords.{ScriptLineWords}
+use Rattle.replay.specs.declared.script.form.ScriptLineWords.TheVariants.{Text, Release}
 use Rattle.replay.specs.Form.{Form, text_line, release_line}
 use Rattle.texts.specs.ByCases.Number.{number_of}
 
@@ -23,7 +23,7 @@ word_at text =
     else None
 
 -- the kind of a line with a message that has this second word
-abbrev pub word_named : List ℕ → Option LineWord
+abbrev pub word_named : List ℕ → Option ScriptWord
 word_named word =
     if bytes_eq word (codes "operator") then Some Operator
     else if bytes_eq word (codes "point") then Some Point
@@ -54,6 +54,6 @@ form_of line = do
   second_form instant.0 second.0 second.1
 
 -- the words of the code, as a form
-abbrev pub words_view : Words → Form
+abbrev pub words_view : ScriptLineWords → Form
 words_view (Text instant word point frame) = text_line instant.now word point.now frame.now
 words_view (Release instant number) = release_line instant.now number

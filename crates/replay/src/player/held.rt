@@ -2,7 +2,7 @@
 
 ghost use Rattle.std.specs.Prelude.{◌≡◌, None};
 ghost use Rattle.std.specs.List.{position};
-ghost use Rattle.replay.specs.Held.{id_held, let_go};
+ghost use Rattle.replay.specs.Held.{id_held, remove_held};
 ghost use Rattle.replay.specs.ByCases.Held.{has_number};
 
 use ocppj_frame::MessageId;
@@ -17,9 +17,9 @@ pub struct Held {
 }
 
 /// Removes the held request of a number, if there is one. Returns the id of its CALL.
-pub fn let_go(held: &mut Vec<Held>, number: u64) -> Option<MessageId>
+pub fn remove_held(held: &mut Vec<Held>, number: u64) -> Option<MessageId>
     ensures id { result ≡ id_held number held.old.items }
-    ensures left { held.new.items ≡ let_go number held.old.items }
+    ensures left { held.new.items ≡ remove_held number held.old.items }
     ensures kept { result ≡ None → held.new.items ≡ held.old.items }
 {
     let place = place_of(held, number)?;

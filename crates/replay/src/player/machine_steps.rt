@@ -6,7 +6,7 @@ ghost use Rattle.site_core.specs.declared.step.Step.TheVariants as steps;
 ghost use Rattle.replay.specs.ByCases.MachineSteps.{ComesOf, IsAsked, is_memory, LeadsTo, MayBeSkimmed};
 
 use crate::player::most_periods::most_periods;
-use crate::player::wanted::Wanted;
+use crate::player::wanted::NeededResult;
 use meaning::{Ask, MAX_COMPOSITE_PERIODS, Said, exact_schedules};
 use messages::Call;
 use ocpp_scalars::Refusal;
@@ -42,7 +42,7 @@ pub fn step_at_once(machine: &mut Machine, step: Step) -> Result<StepOutcome, Al
 pub fn skim_take(
     machine: &mut Machine,
     take: Take,
-    wanted: Wanted,
+    wanted: NeededResult,
 ) -> Result<StepOutcome, AllocError>
     ensures { IfOk result (λ outcome.
         LeadsTo (stepped_at_once machine.old (steps.Take take)) outcome machine.new) }
@@ -59,7 +59,7 @@ pub fn skim_take(
 
 /// Returns whether no other request is kept and nothing of the answer to this one is wanted, so
 /// that the answer makes no difference.
-fn makes_no_difference(machine: &Machine, take: &Take, wanted: Wanted) -> bool
+fn makes_no_difference(machine: &Machine, take: &Take, wanted: NeededResult) -> bool
     ensures { IsTrue result → MayBeSkimmed machine.now take.now }
 {
     if machine.open_requests() > 0 {
@@ -76,13 +76,13 @@ fn makes_no_difference(machine: &Machine, take: &Take, wanted: Wanted) -> bool
 
 /// Returns whether nothing of the answer to a request is wanted. Its refusal is known without it if
 /// the schedule can't exceed the limit of periods.
-fn is_unwanted(machine: &Machine, point: &str, ask: &Ask, wanted: Wanted) -> bool {
+fn is_unwanted(machine: &Machine, point: &str, ask: &Ask, wanted: NeededResult) -> bool {
     match (wanted, machine.book_of(point)) {
-        (Wanted::State, _) => true,
-        (Wanted::Refusal, Some(book)) => {
+        (NeededResult::State, _) => true,
+        (NeededResult::Refusal, Some(book)) => {
             most_periods(&book.view(), ask) <= MAX_COMPOSITE_PERIODS as u64
         }
-        (Wanted::Refusal, None) => false,
+        (NeededResult::Refusal, None) => false,
     }
 }
 

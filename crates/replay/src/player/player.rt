@@ -5,16 +5,16 @@ ghost use Rattle.std.specs.Prelude.{◌≡◌, ◌∷◌, [], ◌++◌, None, If
 ghost use Rattle.site_core.specs.declared.step.Step.TheVariants as steps;
 ghost use Rattle.texts.specs.Asked.{hold_of, asked_of};
 ghost use Rattle.texts.specs.Said.{said_of};
-ghost use Rattle.replay.specs.Held.{id_held, let_go};
+ghost use Rattle.replay.specs.Held.{id_held, remove_held};
 ghost use Rattle.replay.specs.MachineSteps.{stepped_exactly, handed_out, stepped_at_once, attached_once, sent_first, replied_by, verdict_kept, judged_exactly};
 ghost use Rattle.replay.specs.ByCases.MachineSteps.{IsAsked};
 
-use crate::player::held::{Held, let_go};
+use crate::player::held::{Held, remove_held};
 use crate::player::machine_steps::{
     StepOutcome, attach_once, confirm_call, hand_out, judge_exactly, keep_verdict, send_first,
     skim_take, step_at_once, step_exactly,
 };
-use crate::player::wanted::Wanted;
+use crate::player::wanted::NeededResult;
 use messages::Call;
 use ocppj_frame::{MessageId, ReadingMemory};
 use site_core::{Machine, PointId, Step, Take};
@@ -131,7 +131,7 @@ impl Player {
 
     /// Makes a Take and answers its request at once, as far as its answer is wanted. If the answer
     /// makes no difference, compiles only the schedule of the first second.
-    pub fn skim_take(&mut self, take: Take, wanted: Wanted) -> Result<StepOutcome, AllocError>
+    pub fn skim_take(&mut self, take: Take, wanted: NeededResult) -> Result<StepOutcome, AllocError>
         ensures { IfOk result (λ outcome. Skims self.old
             (stepped_at_once self.old.machine (steps.Take take)) outcome self.new) }
     {
@@ -217,11 +217,11 @@ impl Player {
     }
 
     /// Releases the held request of a number, if there is one. Returns the id of its CALL.
-    pub fn let_go(&mut self, number: u64) -> Option<MessageId>
+    pub fn remove_held(&mut self, number: u64) -> Option<MessageId>
         ensures id { result ≡ id_held number self.old.held }
-        ensures after { self.new ≡ record self.old { held = let_go number self.old.held } }
+        ensures after { self.new ≡ record self.old { held = remove_held number self.old.held } }
         ensures kept { result ≡ None → self.new ≡ self.old }
     {
-        let_go(&mut self.held, number)
+        remove_held(&mut self.held, number)
     }
 }

@@ -2,7 +2,7 @@
 
 /// The result that is wanted of a request that is answered at once.
 #[derive(Clone, Copy, PartialEq, Eq)]
-pub enum Wanted {
+pub enum NeededResult {
     /// Whether it is refused, even for a schedule that is too long. The schedule is compiled if it
     /// may be too long.
     Refusal,

@@ -7,7 +7,7 @@ use texts::number_of;
 
 /// The kind of a line with a message, by its second word.
 #[derive(Clone, Copy, PartialEq, Eq)]
-pub enum LineWord {
+pub enum ScriptWord {
     /// `operator`: an operator's message for a point.
     Operator,
     /// `point`: a point's own message.
@@ -18,11 +18,11 @@ pub enum LineWord {
 
 /// The words of a line, by its form.
 #[derive(Drop)]
-pub enum Words<'a> {
+pub enum ScriptLineWords<'a> {
     /// `INSTANT operator ID FRAME`, `INSTANT point ID FRAME` or `INSTANT hold ID FRAME`.
     Text {
         instant: &'a str,
-        word: LineWord,
+        word: ScriptWord,
         point: &'a str,
         frame: &'a str,
     },
@@ -35,18 +35,18 @@ pub enum Words<'a> {
 
 /// Splits a line into its words, if it has one of the forms.
 #[tactic(auto, unfolding(crate::specs::ByCases::Form::form_of))]
-pub fn split_words(text: &str) -> Option<Words<'_>>
+pub fn split_words(text: &str) -> Option<ScriptLineWords<'_>>
     ensures { option_map words_view result ≡ form_of text.now }
 {
     let (instant, text) = split_word(text)?;
     let (word, text) = split_word(text)?;
     if word == "release" {
         let number = number_of(text)?;
-        return Some(Words::Release { instant, number });
+        return Some(ScriptLineWords::Release { instant, number });
     }
     let word = word_named(word)?;
     let (point, frame) = split_word(text)?;
-    Some(Words::Text {
+    Some(ScriptLineWords::Text {
         instant,
         word,
         point,
@@ -55,15 +55,15 @@ pub fn split_words(text: &str) -> Option<Words<'_>>
 }
 
 /// Returns the kind of a line with a message that has this second word.
-fn word_named(word: &str) -> Option<LineWord>
+fn word_named(word: &str) -> Option<ScriptWord>
     ensures { result ≡ word_named word.now }
 {
     if word == "operator" {
-        Some(LineWord::Operator)
+        Some(ScriptWord::Operator)
     } else if word == "point" {
-        Some(LineWord::Point)
+        Some(ScriptWord::Point)
     } else if word == "hold" {
-        Some(LineWord::Hold)
+        Some(ScriptWord::Hold)
     } else {
         None
     }

@@ -5,7 +5,7 @@ ghost use Rattle.replay.specs.Form.{Form, IsOfForm};
 ghost use Rattle.replay.specs.ByCases.Form.{form_of, words_view};
 ghost use Rattle.replay.specs.Line.{instant_in, is_stranger, text_of, said_at, line_of_form, line_of, fault_name};
 
-use crate::script::form::{LineWord, Words, split_words};
+use crate::script::form::{ScriptLineWords, ScriptWord, split_words};
 use messages::Side;
 use ocpp_scalars::{Instant, read_instant};
 use site_rules::Site;
@@ -21,7 +21,7 @@ pub const LONGEST_FRAME: usize = MAX_LINE_BYTES - 128;
 
 /// The reason for which a line of a script can't be played, in the order of the checks.
 #[derive(Clone, Copy, PartialEq, Eq)]
-pub enum LineFault {
+pub enum ScriptLineFault {
     /// The line has more than 1,048,576 bytes.
     TooLong,
     /// The line isn't UTF-8.
@@ -38,24 +38,24 @@ pub enum LineFault {
     UnknownRequest,
 }
 
-impl LineFault {
+impl ScriptLineFault {
     /// Returns the fault's name, as the output prints it.
     pub fn name(self) -> &'static str
         ensures { result.now ≡ fault_name self }
     {
         match self {
-            LineFault::TooLong => "TooLong",
-            LineFault::BadText => "BadText",
-            LineFault::BadLine => "BadLine",
-            LineFault::BadInstant => "BadInstant",
-            LineFault::UnknownPoint => "UnknownPoint",
-            LineFault::NotComposite => "NotComposite",
-            LineFault::UnknownRequest => "UnknownRequest",
+            ScriptLineFault::TooLong => "TooLong",
+            ScriptLineFault::BadText => "BadText",
+            ScriptLineFault::BadLine => "BadLine",
+            ScriptLineFault::BadInstant => "BadInstant",
+            ScriptLineFault::UnknownPoint => "UnknownPoint",
+            ScriptLineFault::NotComposite => "NotComposite",
+            ScriptLineFault::UnknownRequest => "UnknownRequest",
         }
     }
 }
 
-impl fmt::Display for LineFault {
+impl fmt::Display for ScriptLineFault {
     ghost output = { λ fault. Some (fault_name fault) };
 
     fn fmt<W: fmt::Write>(&self, f: &mut fmt::Formatter<W>) -> fmt::Result {
@@ -76,86 +76,91 @@ pub enum ScriptLine<'a> {
 
 /// Reads a line of a script on a site.
 #[tactic(auto, unfolding(crate::specs::Line::line_of))]
-pub fn read_line<'a>(line: &'a [u8], site: &Site) -> Result<ScriptLine<'a>, LineFault>
+pub fn read_line<'a>(line: &'a [u8], site: &Site) -> Result<ScriptLine<'a>, ScriptLineFault>
     ensures value { result ≡ line_of site.now line.entry.now }
     ensures form { (form : Form)
         → ((form_of line.entry.now ≡ Some form) ↔ IsOfForm line.entry.now form) }
 {
     if line.len() > MAX_LINE_BYTES {
-        return Err(LineFault::TooLong);
+        return Err(ScriptLineFault::TooLong);
     }
     match std::str::from_utf8(line) {
         Ok(text) => read_text(text, site),
-        Err(_) => Err(LineFault::BadText),
+        Err(_) => Err(ScriptLineFault::BadText),
     }
 }
 
 /// Reads a line that is UTF-8 and not too long.
-fn read_text<'a>(text: &'a str, site: &Site) -> Result<ScriptLine<'a>, LineFault>
+fn read_text<'a>(text: &'a str, site: &Site) -> Result<ScriptLine<'a>, ScriptLineFault>
     ensures { result ≡ line_of_form site.now (form_of text.entry.now) }
 {
     let Some(words) = split_words(text) else {
-        return Err(LineFault::BadLine);
+        return Err(ScriptLineFault::BadLine);
     };
     match read_instant(instant_of(&words)) {
         Ok(moment) => read_words(words, moment, site),
-        Err(_) => Err(LineFault::BadInstant),
+        Err(_) => Err(ScriptLineFault::BadInstant),
     }
 }
 
 /// Returns the first word.
-fn instant_of<'a>(words: &Words<'a>) -> &'a str
+fn instant_of<'a>(words: &ScriptLineWords<'a>) -> &'a str
     ensures { result.now ≡ instant_in (words_view words.now) }
 {
     match words {
-        Words::Text { instant, .. } | Words::Release { instant, .. } => instant,
+        ScriptLineWords::Text { instant, .. } | ScriptLineWords::Release { instant, .. } => instant,
     }
 }
 
 /// Returns the contents of a line whose instant is read.
 fn read_words<'a>(
-    words: Words<'a>,
+    words: ScriptLineWords<'a>,
     moment: Instant,
     site: &Site,
-) -> Result<ScriptLine<'a>, LineFault>
+) -> Result<ScriptLine<'a>, ScriptLineFault>
     ensures { result ≡ said_at site.now moment (words_view words.entry) }
 {
     match words {
-        Words::Text {
+        ScriptLineWords::Text {
             word,
             point,
             frame,
             ..
         } => {
             if is_stranger(site, word, point) {
-                return Err(LineFault::UnknownPoint);
+                return Err(ScriptLineFault::UnknownPoint);
             }
             Ok(text_line(moment, word, point, frame))
         }
-        Words::Release { number, .. } => Ok(ScriptLine::Release(number)),
+        ScriptLineWords::Release { number, .. } => Ok(ScriptLine::Release(number)),
     }
 }
 
 /// Returns whether a point's own message names a point that the site lacks.
-fn is_stranger(site: &Site, word: LineWord, point: &str) -> bool
+fn is_stranger(site: &Site, word: ScriptWord, point: &str) -> bool
     ensures { result ≡ is_stranger site.now word point.now }
 {
     match word {
-        LineWord::Point => site.place_of(point).is_none(),
+        ScriptWord::Point => site.place_of(point).is_none(),
         // The machine answers an operator who names an unknown point.
-        LineWord::Operator | LineWord::Hold => false,
+        ScriptWord::Operator | ScriptWord::Hold => false,
     }
 }
 
 /// Returns the line of a message with this second word.
-fn text_line<'a>(moment: Instant, word: LineWord, point: &'a str, frame: &'a str) -> ScriptLine<'a>
+fn text_line<'a>(
+    moment: Instant,
+    word: ScriptWord,
+    point: &'a str,
+    frame: &'a str,
+) -> ScriptLine<'a>
     ensures { result ≡ text_of moment word point.entry.now frame.entry.now }
 {
     match word {
-        LineWord::Operator => {
+        ScriptWord::Operator => {
             ScriptLine::Text(SentText::new(moment, Side::Operator, point, frame))
         }
-        LineWord::Point => ScriptLine::Text(SentText::new(moment, Side::Point, point, frame)),
-        LineWord::Hold => ScriptLine::Hold(SentText::new(moment, Side::Operator, point, frame)),
+        ScriptWord::Point => ScriptLine::Text(SentText::new(moment, Side::Point, point, frame)),
+        ScriptWord::Hold => ScriptLine::Hold(SentText::new(moment, Side::Operator, point, frame)),
     }
 }

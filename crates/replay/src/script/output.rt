@@ -8,13 +8,13 @@ use std::io::{ErrorKind, Write};
 
 /// A write failed; a prefix of the text may have been written.
 #[derive(Clone, Copy, PartialEq, Eq)]
-pub struct WriteFault;
+pub struct OutputFault;
 
 /// Writes a whole text. If a write fails, only a proper prefix of the text was written. So an empty
 /// text doesn't fail.
 // `Write::write_all` doesn't state what was written before it failed, so this loop replaces it. The
 // writes are counted, since a writer may be interrupted forever.
-pub fn write_text<W: Write>(writer: &mut W, text: &str) -> Result<(), WriteFault>
+pub fn write_text<W: Write>(writer: &mut W, text: &str) -> Result<(), OutputFault>
     ensures whole { OnOk result (Appends (W.contents writer.old) (W.contents writer.new) text.now) }
     ensures prefix { AppendsPrefix (W.contents writer.old) (W.contents writer.new) text.now }
     ensures part { OnErr result
@@ -27,20 +27,20 @@ pub fn write_text<W: Write>(writer: &mut W, text: &str) -> Result<(), WriteFault
             break;
         }
         match writer.write(bytes.split_at(done).1) {
-            Ok(0) => return Err(WriteFault),
+            Ok(0) => return Err(OutputFault),
             Ok(count) => done += count,
             Err(error) if error.kind() == ErrorKind::Interrupted => {}
-            Err(_) => return Err(WriteFault),
+            Err(_) => return Err(OutputFault),
         }
     }
     if done < bytes.len() {
-        return Err(WriteFault);
+        return Err(OutputFault);
     }
     Ok(())
 }
 
 /// Flushes a writer, even if it is interrupted.
-pub fn flush_all<W: Write>(writer: &mut W) -> Result<(), WriteFault>
+pub fn flush_all<W: Write>(writer: &mut W) -> Result<(), OutputFault>
     ensures { Keeps (W.contents writer.old) (W.contents writer.new) }
 {
     // `Write::flush` gives up if it is interrupted.
@@ -48,8 +48,8 @@ pub fn flush_all<W: Write>(writer: &mut W) -> Result<(), WriteFault>
         match writer.flush() {
             Ok(()) => return Ok(()),
             Err(error) if error.kind() == ErrorKind::Interrupted => {}
-            Err(_) => return Err(WriteFault),
+            Err(_) => return Err(OutputFault),
         }
     }
-    Err(WriteFault)
+    Err(OutputFault)
 }

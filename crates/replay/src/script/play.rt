@@ -14,7 +14,7 @@ ghost use Rattle.replay.specs.Held.{id_held};
 use crate::player::held::Held;
 use crate::player::machine_steps::StepOutcome;
 use crate::player::player::Player;
-use crate::script::line::{LineFault, ScriptLine, read_line};
+use crate::script::line::{ScriptLine, ScriptLineFault, read_line};
 use crate::script::played_line::{LineOutcome, PlayedLine};
 use crate::script::point_change::{PointChange, change_of};
 use crate::script::printed_line::PrintedLine;
@@ -50,7 +50,7 @@ pub fn play_line<'a>(
 }
 
 /// Reads a line on a site. Returns its contents or its fault, or `None` if it is empty.
-pub fn said_on<'a>(site: &Site, line: &'a [u8]) -> Option<Result<ScriptLine<'a>, LineFault>>
+pub fn said_on<'a>(site: &Site, line: &'a [u8]) -> Option<Result<ScriptLine<'a>, ScriptLineFault>>
     ensures { result ≡ said_on site.now line.entry.now }
 {
     if line.is_empty() {
@@ -63,7 +63,7 @@ pub fn said_on<'a>(site: &Site, line: &'a [u8]) -> Option<Result<ScriptLine<'a>,
 pub fn read_outcome(
     player: &mut Player,
     number: u64,
-    said: &Option<Result<ScriptLine<'_>, LineFault>>,
+    said: &Option<Result<ScriptLine<'_>, ScriptLineFault>>,
 ) -> Result<LineOutcome, AllocError>
     ensures { IfOk result
         (λ outcome. IsPlayed (played_as player.old number said.now) outcome player.new) }
@@ -88,7 +88,7 @@ fn said_outcome(
         ScriptLine::Text(text) => text_outcome(player, text),
         ScriptLine::Hold(text) => match player.hold_of(text)? {
             Some(asked) => hold_outcome(player, text, asked),
-            None => fault_outcome(player.alloc(), number, LineFault::NotComposite),
+            None => fault_outcome(player.alloc(), number, ScriptLineFault::NotComposite),
         },
         ScriptLine::Release(request) => release_outcome(player, number, *request),
     }
@@ -104,8 +104,8 @@ fn release_outcome(
         (release_played player.old number request (id_held request player.old.held))
         outcome player.new) }
 {
-    let Some(id) = player.let_go(request) else {
-        return fault_outcome(player.alloc(), number, LineFault::UnknownRequest);
+    let Some(id) = player.remove_held(request) else {
+        return fault_outcome(player.alloc(), number, ScriptLineFault::UnknownRequest);
     };
     let unit = player.site().unit();
     let outcome = player.hand_out(request)?;
@@ -144,7 +144,11 @@ fn with_line(
 }
 
 /// Returns the outcome of the script's line of this number, which has a fault.
-fn fault_outcome(alloc: Global, number: u64, fault: LineFault) -> Result<LineOutcome, AllocError>
+fn fault_outcome(
+    alloc: Global,
+    number: u64,
+    fault: ScriptLineFault,
+) -> Result<LineOutcome, AllocError>
     ensures printed { IfOk result
         (λ outcome. outcome.printed.items ≡ lines.Fault number fault ∷ []) }
     ensures fault { IfOk result (λ outcome. outcome.is_fault ≡ true) }

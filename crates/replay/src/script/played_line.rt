@@ -1,6 +1,6 @@
 //! A line of a script that was played: its contents and its outcome.
 
-use crate::script::line::{LineFault, ScriptLine};
+use crate::script::line::{ScriptLine, ScriptLineFault};
 use crate::script::point_change::PointChange;
 use crate::script::printed_line::PrintedLine;
 
@@ -23,6 +23,6 @@ pub struct PlayedLine<'a> {
     /// The line without its ending.
     pub line: &'a [u8],
     /// Its contents on the site, or its fault; `None` if it is empty.
-    pub said: Option<Result<ScriptLine<'a>, LineFault>>,
+    pub said: Option<Result<ScriptLine<'a>, ScriptLineFault>>,
     pub outcome: LineOutcome,
 }

@@ -6,7 +6,7 @@ ghost use Rattle.replay.specs.Quiet.{played_up_to};
 
 use crate::player::held::Held;
 use crate::player::player::Player;
-use crate::player::wanted::Wanted;
+use crate::player::wanted::NeededResult;
 use crate::script::lines::split_line;
 use crate::script::play::play_line;
 use crate::script::played_line::{LineOutcome, PlayedLine};
@@ -91,7 +91,7 @@ impl<'a> Playing<'a> {
             return Ok(None);
         }
         let (line, others) = split_line(self.rest);
-        let played = skim_line(&mut self.player, self.number, line, Wanted::Refusal)?;
+        let played = skim_line(&mut self.player, self.number, line, NeededResult::Refusal)?;
         self.pass(&played.outcome, others);
         Ok(Some(played))
     }
@@ -106,7 +106,7 @@ impl<'a> Playing<'a> {
             return Ok(None);
         }
         let (line, others) = split_line(self.rest);
-        let played = skim_line(&mut self.player, self.number, line, Wanted::State)?;
+        let played = skim_line(&mut self.player, self.number, line, NeededResult::State)?;
         self.pass(&played.outcome, others);
         Ok(Some(played))
     }

@@ -4,7 +4,7 @@ ghost use Rattle.std.specs.Prelude.{◌≡◌, ◌++◌, IfOk, OnOk, string_byte
 ghost use Rattle.replay.specs.PrintedLine.{response_line, sent_line, held_line, fault_line};
 ghost use Rattle.replay.specs.PrintedLine.{printed_text, printed_texts};
 
-use crate::script::line::LineFault;
+use crate::script::line::ScriptLineFault;
 use messages::{Call, Response, push_call, push_response};
 use ocpp_scalars::Refusal;
 use ocppj_frame::MessageId;
@@ -21,7 +21,7 @@ pub enum PrintedLine {
     /// The request of this number is held.
     Held(u64),
     /// The script's line of this number has this fault.
-    Fault { line: u64, fault: LineFault },
+    Fault { line: u64, fault: ScriptLineFault },
 }
 
 impl PrintedLine {
@@ -102,7 +102,7 @@ fn push_held(text: &mut String, number: u64) -> Result<(), AllocError>
 }
 
 /// Appends the line with the fault of the script's line of this number.
-fn push_fault(text: &mut String, line: u64, fault: LineFault) -> Result<(), AllocError>
+fn push_fault(text: &mut String, line: u64, fault: ScriptLineFault) -> Result<(), AllocError>
     ensures { OnOk result
         (string_bytes text.new ≡ string_bytes text.old ++ fault_line line fault) }
 {

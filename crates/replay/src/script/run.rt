@@ -12,7 +12,7 @@ ghost use Rattle.replay.specs.Run.{output_of, fault_count, IsReading, IsWriting}
 use crate::player::player::Player;
 use crate::script::input::{InputFault, read_all};
 use crate::script::lines::split_line;
-use crate::script::output::{WriteFault, flush_all, write_text};
+use crate::script::output::{OutputFault, flush_all, write_text};
 use crate::script::play::play_line;
 use crate::script::printed_line::print_lines;
 use site_rules::Site;
@@ -56,12 +56,12 @@ impl From<AllocError> for ReplayFault {
     }
 }
 
-impl From<WriteFault> for ReplayFault {
+impl From<OutputFault> for ReplayFault {
     ghost use Rattle.replay.specs.declared.script.run.ReplayFault.{ReplayFault};
 
     ghost from_gives = { λ _ fault. fault ≡ ReplayFault.Write };
 
-    fn from(_fault: WriteFault) -> ReplayFault {
+    fn from(_fault: OutputFault) -> ReplayFault {
         ReplayFault::Write
     }
 }

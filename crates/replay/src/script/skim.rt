@@ -7,7 +7,7 @@ ghost use Rattle.replay.specs.Play.{asked_handled, text_handled, text_played, sa
 ghost use Rattle.replay.specs.Play.{LeadsTo};
 
 use crate::player::player::Player;
-use crate::player::wanted::Wanted;
+use crate::player::wanted::NeededResult;
 use crate::script::line::ScriptLine;
 use crate::script::play::{asked_outcome, read_outcome, said_on, step_outcome, text_outcome};
 use crate::script::played_line::{LineOutcome, PlayedLine};
@@ -24,7 +24,7 @@ pub fn skim_line<'a>(
     player: &mut Player,
     number: u64,
     line: &'a [u8],
-    wanted: Wanted,
+    wanted: NeededResult,
 ) -> Result<PlayedLine<'a>, AllocError>
     ensures number { IfOk result (λ played. played.number ≡ number) }
     ensures line { IfOk result (λ played. played.line.now ≡ line.entry.now) }
@@ -63,7 +63,7 @@ fn has_schedule(line: &PrintedLine) -> bool {
 fn skim_text(
     player: &mut Player,
     text: &SentText<'_>,
-    wanted: Wanted,
+    wanted: NeededResult,
 ) -> Result<LineOutcome, AllocError>
     ensures { IfOk result (λ outcome. LeadsTo
         (text_played (text_handled player.old text.now.sender text.now)) outcome player.new) }
@@ -82,7 +82,7 @@ fn skim_asked(
     player: &mut Player,
     text: &SentText<'_>,
     asked: Asked,
-    wanted: Wanted,
+    wanted: NeededResult,
 ) -> Result<LineOutcome, AllocError>
     requires { AsksNoCompile asked }
     ensures { IfOk result (λ outcome. LeadsTo

@@ -15,7 +15,7 @@ use crate::charge_points::point_at;
 use crate::machine::Machine;
 use crate::numbers::MAX_NUMBER;
 use crate::reply::Reply;
-use crate::request::{MAX_REQUESTS, Request};
+use crate::request::{KeptRequest, MAX_REQUESTS};
 use crate::requests::{compile_request, hand_out, post_answer, stop_all};
 use crate::shared_book::SharedBook;
 use crate::step::Take;
@@ -41,7 +41,7 @@ impl Machine {
         let replied = point.share_book()?;
         let number = self.numbers.request + 1;
         let reply = taken(number, replied, &ask);
-        self.requests.push(Request {
+        self.requests.push(KeptRequest {
             number,
             place,
             book: kept,

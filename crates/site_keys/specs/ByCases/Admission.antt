@@ -1,4 +1,4 @@
--- The decision on credentials, case by case. The clauses of `admit` say the same by `MayCome`.
+-- The decision on credentials, case by case. The clauses of `admit` say the same by `IsAdmitted`.
 use Rattle.std.specs.Prelude.{ℕ, Bool, true, List, Option, Some, None, if◌then◌else◌}
 use Rattle.std.specs.String.{string_bytes}
 use Rattle.std.specs.Str.{bytes_eq}

@@ -7,8 +7,8 @@ use Rattle.hex.specs.Hex.{decode_sized}
 use Rattle.hex.specs.declared.error.FromHexError.{FromHexError}
 use Rattle.site_keys.specs.declared.role.Role.{Role}
 use Rattle.site_keys.specs.declared.role.Role.TheVariants.{Point, Operator}
-use Rattle.site_keys.specs.declared.line_fault.LineFault.{LineFault}
-use Rattle.site_keys.specs.declared.line_fault.LineFault.TheVariants as faults
+use Rattle.site_keys.specs.declared.line_fault.KeyLineFault.{KeyLineFault}
+use Rattle.site_keys.specs.declared.line_fault.KeyLineFault.TheVariants as faults
 use Rattle.site_keys.specs.declared.keys_fault.KeysFault.{KeysFault}
 use Rattle.site_keys.specs.declared.keys_fault.KeysFault.TheVariants.{Line, OutOfMemory}
 use Rattle.site_keys.specs.declared.key_line.Words.{Words}
@@ -20,23 +20,23 @@ use Rattle.site_keys.specs.KeyFile.{is_name, is_left_out, lines_of}
 
 -- ---- the words of a line
 
-abbrev pub role_named : List ℕ → Result Role LineFault
+abbrev pub role_named : List ℕ → Result Role KeyLineFault
 role_named word =
     if bytes_eq word (codes "point") then Ok Point
     else if bytes_eq word (codes "operator") then Ok Operator
     else Err faults.Role
 
-abbrev pub name_in : List ℕ → Result (List ℕ) LineFault
+abbrev pub name_in : List ℕ → Result (List ℕ) KeyLineFault
 name_in name = if is_name name then Ok name else Err faults.Name
 
-abbrev pub bytes_or : LineFault → Result (List ℕ) FromHexError → Result (List ℕ) LineFault
+abbrev pub bytes_or : KeyLineFault → Result (List ℕ) FromHexError → Result (List ℕ) KeyLineFault
 bytes_or fault (Ok bytes) = Ok bytes
 bytes_or fault (Err error) = Err fault
 
-abbrev pub salt_in : List ℕ → Result (List ℕ) LineFault
+abbrev pub salt_in : List ℕ → Result (List ℕ) KeyLineFault
 salt_in digits = bytes_or faults.Salt (decode_sized digits salt_size)
 
-abbrev pub digest_in : List ℕ → Result (List ℕ) LineFault
+abbrev pub digest_in : List ℕ → Result (List ℕ) KeyLineFault
 digest_in digits = bytes_or faults.Digest (decode_sized digits digest_size)
 
 -- the first three words of a line, and the rest after them
@@ -54,10 +54,10 @@ words_view words = record {
   digest = words.digest.now;
 }
 
-abbrev pub word_at : List ℕ → Result (List ℕ × List ℕ) LineFault
+abbrev pub word_at : List ℕ → Result (List ℕ × List ℕ) KeyLineFault
 word_at text = ok_or (cut space text) faults.Words
 
-abbrev pub words_of : List ℕ → Result KeyWords LineFault
+abbrev pub words_of : List ℕ → Result KeyWords KeyLineFault
 words_of line = do
   role ← word_at line
   user ← word_at role.1
@@ -66,7 +66,7 @@ words_of line = do
 
 -- ---- a line
 
-abbrev pub key_of_words : KeyWords → Result KeyState LineFault
+abbrev pub key_of_words : KeyWords → Result KeyState KeyLineFault
 key_of_words words = do
   role ← role_named words.role
   user ← name_in words.user
@@ -74,13 +74,13 @@ key_of_words words = do
   digest ← digest_in words.digest
   Ok (record { role = role; user = user; salt = salt; digest = digest })
 
-unfoldable pub key_in : List ℕ → Result KeyState LineFault
+unfoldable pub key_in : List ℕ → Result KeyState KeyLineFault
 key_in line = do
   words ← words_of line
   key_of_words words
 
 -- the key of a line, unless that is empty or a comment
-abbrev pub line_in : List ℕ → Result (Option KeyState) LineFault
+abbrev pub line_in : List ℕ → Result (Option KeyState) KeyLineFault
 line_in line =
     if is_left_out line then Ok None
     else key_in line >>= λ (key : KeyState). Ok (Some key)
@@ -88,7 +88,7 @@ line_in line =
 -- ---- the file
 
 -- a fault, with the number of its line
-abbrev pub at_line : {A : Type 0} → ℕ → Result A LineFault → Result A KeysFault
+abbrev pub at_line : {A : Type 0} → ℕ → Result A KeyLineFault → Result A KeysFault
 at_line number (Ok value) = Ok value
 at_line number (Err fault) = Err (Line number fault)
 

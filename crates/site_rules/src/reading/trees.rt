@@ -127,13 +127,13 @@ fn members_have_trees(
     let mut broken = BTreeSet::new(alloc);
     'members: while let Some(key) = reader.next_key()? {
         let has = value_has_tree(alloc, reader, depth)?;
-        note_last(&mut broken, key, has)?;
+        update_key(&mut broken, key, has)?;
     }
     Ok(broken.is_empty())
 }
 
 /// Adds a key whose last member has no tree, or removes one whose last member has a tree.
-fn note_last<'a>(broken: &mut BTreeSet<&'a str>, key: &'a str, has: bool) -> Result<(), AllocError>
+fn update_key<'a>(broken: &mut BTreeSet<&'a str>, key: &'a str, has: bool) -> Result<(), AllocError>
     ensures { OnOk result ((other : List ℕ) → has_key other broken.new
         ≡ (if bytes_eq key.now other then not (has && is_some (name_of_key key.now))
         else has_key other broken.old)) }

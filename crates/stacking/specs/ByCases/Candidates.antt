@@ -25,14 +25,14 @@ candidates_below purpose rows connector (suc level) =
 
 -- ---- by indexes
 
-abbrev pub stands_at : Purpose → ℕ → Row → Bool
-stands_at purpose connector row =
+abbrev pub is_row_at : Purpose → ℕ → Row → Bool
+is_row_at purpose connector row =
     is_purpose purpose row.profile.purpose && (row.connector == connector)
 
 -- the first row of a purpose and a stack level at a connector
 abbrev pub first_at : Purpose → ℕ → ℕ → List Row → Option Row
 first_at purpose connector level rows =
-    find (λ row. (row.profile.stack_level == level) && stands_at purpose connector row) rows
+    find (λ row. (row.profile.stack_level == level) && is_row_at purpose connector row) rows
 
 -- the indexes of these rows, by stack level
 abbrev pub AreFirstPlaces : Purpose → List Row → ℕ → List ℕ → Type 0

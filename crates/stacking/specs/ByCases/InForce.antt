@@ -19,5 +19,5 @@ is_of_level level None = false
 is_of_level level (Some entry) = entry.0 == level
 
 -- whether the entry at a place has this level
-abbrev pub stands_there : List (ℕ × ℕ) → ℕ → ℕ → Bool
-stands_there rates level place = is_of_level level (slice_get rates place)
+abbrev pub has_level_at : List (ℕ × ℕ) → ℕ → ℕ → Bool
+has_level_at rates level place = is_of_level level (slice_get rates place)

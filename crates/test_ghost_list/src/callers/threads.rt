@@ -4,7 +4,7 @@ ghost use Rattle.std.specs.Prelude.{◌≡◌, ◌++◌, ◌∷◌, [], length, 
 ghost use mathlib.Core.List.{IsPrefix};
 ghost use Rattle.test_ghost_list.specs.Ends.{EndsWith};
 
-use ghost_list::{GhostList, ListName, Front, Unnamed};
+use ghost_list::{Front, GhostList, ListName, Unnamed};
 use std::marker::{Brand, Model, Send, Sync};
 use std::sync::{Mutex, Wait};
 use std::test::Fail;

@@ -2,7 +2,7 @@
 
 ghost use Rattle.std.specs.Prelude.{IfOk, IsTrue, Some};
 ghost use Rattle.site_keys.specs.declared.role.Role.TheVariants.{Point};
-ghost use Rattle.site_keys.specs.Admission.{MayCome};
+ghost use Rattle.site_keys.specs.Admission.{IsAdmitted};
 
 use site_keys::{Admission, Keys, Role, write_key};
 use std::alloc::{AllocError, Global};
@@ -11,7 +11,7 @@ use std::test::Fail;
 /// Returns whether a point may connect with this header: the keys admit it as itself.
 fn may_come(alloc: Global, keys: &Keys, identity: &str, header: &[u8]) -> Result<bool, AllocError>
     ensures { IfOk result (λ may. IsTrue may
-        → MayCome keys.now Point identity.now (Some header.now) identity.now) }
+        → IsAdmitted keys.now Point identity.now (Some header.now) identity.now) }
 {
     match keys.admit(alloc, Role::Point, identity, Some(header))? {
         Admission::Admitted(user) => Ok(user.as_str() == identity),

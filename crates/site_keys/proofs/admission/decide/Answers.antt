@@ -16,11 +16,11 @@ returns-in-Some c =
     let header = c.args.header.now in
     let bytes = c.in-Some.bytes.items in
     let sent = (c.in_ok-bytes.ensures bytes).0 (ap items c.in-Some.is) in
-    IfOk-weaker c.decide_by.result _ _
+    IfOk-weaker c.decide_decoded.result _ _
     (λ admission is. decides admission c.args.keys.now c.args.role c.args.identity.now header (credentials_of bytes)
     (says_by_bytes header bytes sent)
     (is ∙ ap (λ (t : List ℕ). decided_of c.args.keys.now c.args.role c.args.identity.now (credentials_of t)) c.as_slice.ensures.value))
-    c.decide_by.ensures
+    c.decide_decoded.ensures
 
 pub returns-in-None : goal.returns-in-None
 returns-in-None c =

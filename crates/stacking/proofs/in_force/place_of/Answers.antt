@@ -2,7 +2,7 @@
 use Rattle.std.proofs.Common.{rules, ◌≡◌, ℕ, nat_lt, true, arith}
 use Rattle.std.proofs.lemmas.List.Sorted.{IsPartitionPoint-from_clause}
 use Rattle.stacking.proofs.LevelLemmas.{is_place, partitioned, place_of_one}
-use Rattle.stacking.specs.ByCases.InForce.{stands_there}
+use Rattle.stacking.specs.ByCases.InForce.{has_level_at}
 use Rattle.stacking.proofs.in_force.place_of.Goals as goal
 
 pub returns : goal.returns
@@ -15,5 +15,5 @@ returns c =
 
 pub returns-then-stands_there : goal.returns-then-stands_there
 returns-then-stands_there c =
-    let there : stands_there c.args.rates.now c.args.level c.likely_place-likely.result ≡ true = search rules in
+    let there : has_level_at c.args.rates.now c.args.level c.likely_place-likely.result ≡ true = search rules in
     place_of_one c.likely_place-likely.result c.args.level c.args.rates.now c.requires.rising there

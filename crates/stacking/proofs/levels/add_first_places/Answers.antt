@@ -20,10 +20,10 @@ loop-place-preserved c level inside =
           ∙ ap (λ (first : Option Row). option_or first (option_and_then (of_level level) (slice_get rows place))) before
           ∙ option_or-third old _ _
           ∙ ap (option_or old) (sym (added c.args.purpose c.args.connector level rows place c.index-rows-place.result c.loop-place-test.true c.index-rows-place.is
-          (sym c.stands_at.ensures ∙ w.if-stands_at.true)))
+          (sym c.is_row_at.ensures ∙ w.if-stands_at.true)))
       | else-stands_at w ↦
           ap (λ (places : List ℕ). slice_get rows (slice_index places level)) w.places-is
           ∙ before
           ∙ ap (option_or old) (sym (passed c.args.purpose c.args.connector level rows place c.index-rows-place.result c.loop-place-test.true c.index-rows-place.is
-          (sym c.stands_at.ensures ∙ w.if-stands_at.false)))
+          (sym c.is_row_at.ensures ∙ w.if-stands_at.false)))
     ]

@@ -14,5 +14,5 @@ returns c =
     let below = subst (λ (rows : List Row). All (λ (row : Row). row.profile.stack_level < above) rows)
     c.as_slice-rows.ensures.value c.level_above.ensures.above in
     let each = recursion_from_All (λ (row : Row). row.profile.stack_level < above) _ below in
-    let same = by_places c.args.purpose rows c.args.connector c.candidate_places.result above c.level_above.ensures.level c.candidate_places.ensures in
+    let same = by_places c.args.purpose rows c.args.connector c.candidate_row_indexes.result above c.level_above.ensures.level c.candidate_row_indexes.ensures in
     rw (same, c.as_slice-rows.ensures.value, ← c.self.view_is) (by-level _ _ _ _ each c.self.invariant.apart)

@@ -1,0 +1,163 @@
+//! Checks the profiles that a point has when a script ends, though each line by itself is right.
+
+use crate::hidden::is_hidden_everywhere;
+use crate::together::{Excess, worst_excess};
+use findings::{Finding, Location, Severity, instant_text, tenths_text};
+use meaning::View;
+use messages::unit_name;
+use point_book::PointBook;
+use profile::{Purpose, Row, Unit};
+use std::alloc::{AllocError, Global};
+
+/// Checks the profiles of the point of this identity. Finds TxDefaultProfiles at connector 0 that
+/// each connector's own one hides, and ChargePointMaxProfiles that one of a higher level lifts.
+/// Also finds the instant at which the connectors' schedules together exceed the
+/// ChargePointMaxProfile most. That is a remark if no profile of a connector prevails there: then
+/// the ceilings of the site file alone exceed it.
+pub fn check_installed_profiles(
+    alloc: Global,
+    unit: Unit,
+    point: &str,
+    book: &PointBook,
+) -> Result<Vec<Finding>, AllocError> {
+    let view = book.view();
+    let mut findings = hidden_defaults(alloc, point, &view)?;
+    findings.append(&mut lifted_limits(alloc, unit, point, &view)?)?;
+    if let Some(finding) = excess_finding(alloc, unit, point, book)? {
+        findings.push(finding)?;
+    }
+    Ok(findings)
+}
+
+/// Returns a warning for each TxDefaultProfile at connector 0 that may prevail at no connector.
+fn hidden_defaults(
+    alloc: Global,
+    point: &str,
+    view: &View<'_>,
+) -> Result<Vec<Finding>, AllocError> {
+    let mut findings = Vec::new(alloc);
+    for row in view.rows {
+        if is_hidden_everywhere(view, row) {
+            let message = hidden_message(alloc, row)?;
+            findings.push(finding_at_end(alloc, Severity::Warning, point, message)?)?;
+        }
+    }
+    Ok(findings)
+}
+
+/// Returns a warning for each ChargePointMaxProfile that another one lifts, with the first such.
+fn lifted_limits(
+    alloc: Global,
+    unit: Unit,
+    point: &str,
+    view: &View<'_>,
+) -> Result<Vec<Finding>, AllocError> {
+    let mut findings = Vec::new(alloc);
+    for low in view.rows {
+        if let Some(high) = view.rows.iter().find(|high| lifts(high, low)) {
+            let message = lifted_message(alloc, unit, high, low)?;
+            findings.push(finding_at_end(alloc, Severity::Warning, point, message)?)?;
+        }
+    }
+    Ok(findings)
+}
+
+/// Returns whether a ChargePointMaxProfile may allow more than one that it overrides: where both
+/// have a limit, only the higher stack level counts (OCPP 1.6, chapter 3.13).
+// Only the extremes are compared, so the two profiles needn't have a limit at the same time.
+fn lifts(high: &Row, low: &Row) -> bool {
+    high.profile.purpose == Purpose::ChargePointMaxProfile
+        && low.profile.purpose == Purpose::ChargePointMaxProfile
+        && high.profile.stack_level > low.profile.stack_level
+        && highest_limit(high) > lowest_limit(low)
+}
+
+/// Returns the highest limit of a profile's periods, in tenths.
+pub(crate) fn highest_limit(row: &Row) -> u32 {
+    let mut highest = 0;
+    for period in row.profile.schedule.periods.as_slice() {
+        highest = period.limit.max(highest);
+    }
+    highest
+}
+
+/// Returns the lowest limit of a profile's periods, in tenths.
+fn lowest_limit(row: &Row) -> u32 {
+    let mut lowest = u32::MAX;
+    for period in row.profile.schedule.periods.as_slice() {
+        lowest = period.limit.min(lowest);
+    }
+    lowest
+}
+
+/// Makes the finding that the connectors may draw more together than their point.
+fn excess_finding(
+    alloc: Global,
+    unit: Unit,
+    point: &str,
+    book: &PointBook,
+) -> Result<Option<Finding>, AllocError> {
+    let excess = match worst_excess(alloc, book) {
+        Ok(Some(excess)) => excess,
+        Ok(None) => return Ok(None),
+        Err(error) => return Err(error),
+    };
+    // The ceilings of most points add up to more than the point may draw: alone they are a remark.
+    let severity = if excess.is_scheduled {
+        Severity::Warning
+    } else {
+        Severity::Remark
+    };
+    let message = excess_message(alloc, unit, &excess)?;
+    Ok(Some(finding_at_end(alloc, severity, point, message)?))
+}
+
+fn finding_at_end(
+    alloc: Global,
+    severity: Severity,
+    point: &str,
+    message: String,
+) -> Result<Finding, AllocError> {
+    Ok(Finding {
+        severity,
+        place: Location::End(String::from_str(alloc, point)?),
+        message,
+    })
+}
+
+/// Describes a profile that counts nowhere.
+fn hidden_message(alloc: Global, row: &Row) -> Result<String, AllocError> {
+    let id = row.profile.id;
+    let level = row.profile.stack_level;
+    format!(in alloc;
+        "TxDefaultProfile {id} at connector 0 never counts: each connector has a TxDefaultProfile of its own at stack level {level}, which hides it also while that one has no limit"
+    )
+}
+
+/// Describes a ChargePointMaxProfile that allows more than another one.
+fn lifted_message(alloc: Global, unit: Unit, high: &Row, low: &Row) -> Result<String, AllocError> {
+    let unit = unit_name(unit);
+    let (above, below) = (high.profile.id, low.profile.id);
+    let most = tenths_text(alloc, u64::from(highest_limit(high)))?;
+    let least = tenths_text(alloc, u64::from(lowest_limit(low)))?;
+    format!(in alloc;
+        "ChargePointMaxProfile {above} allows up to {most} {unit}, and {below} only {least} {unit}: while {above} has a limit, {below} doesn't count, since its stack level is lower"
+    )
+}
+
+/// Describes connectors that may draw more together than their point.
+fn excess_message(alloc: Global, unit: Unit, excess: &Excess<'_>) -> Result<String, AllocError> {
+    let what = if excess.is_scheduled {
+        "schedules"
+    } else {
+        "ceilings"
+    };
+    let unit = unit_name(unit);
+    let together = tenths_text(alloc, excess.together)?;
+    let since = instant_text(alloc, excess.instant)?;
+    let limit = tenths_text(alloc, u64::from(excess.limit))?;
+    let id = excess.most.profile.id;
+    format!(in alloc;
+        "if all connectors charge, their {what} let them draw {together} {unit} together from {since} on, more than the {limit} {unit} of ChargePointMaxProfile {id}: nothing here divides that among them"
+    )
+}
