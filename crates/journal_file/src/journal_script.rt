@@ -7,7 +7,7 @@ use crate::folder_fault::FolderFault;
 use crate::journal_lines::{JournalLines, JournalPart};
 use crate::named_file::NamedFile;
 use crate::opening::open_to_read;
-use journal::{Line, Noted, RestoreFault, ScriptLineFault, Unrestored, read_bytes, split_line};
+use journal::{Line, Noted, RestoreFault, LineFault, Unrestored, read_bytes, split_line};
 use messages::Side;
 use ocpp_scalars::push_instant;
 use replay::{LONGEST_FRAME, MAX_SCRIPT_BYTES};
@@ -83,7 +83,7 @@ pub fn say_torn<R: Eprint>(rt: &R, file: &NamedFile, journal: &JournalLines) {
 }
 
 /// Returns the fault of a line of this number that isn't a journal line.
-pub fn unread(line: u64, fault: ScriptLineFault) -> FolderFault {
+pub fn unread(line: u64, fault: LineFault) -> FolderFault {
     FolderFault::Unrestored(Unrestored {
         line,
         fault: RestoreFault::Line(fault),

@@ -7,7 +7,7 @@ use ocpp_scalars::{Instant, Moments};
 use server_core::{PointReply, Rejected};
 use server_ports::SeatContext;
 use session::{Breach, Ended, SentCall, SessionCore, Told};
-use site_status::{Boot, CallMoment, CallNumbers, Observation};
+use site_status::{Boot, SentMoment, CallNumbers, Observation};
 use std::alloc::{AllocError, Global};
 use std::rt::Clock;
 use std::sync::Wait;
@@ -86,7 +86,7 @@ impl<C: Ledger, A: Ledger, R: Wait + Clock, J: Journal<N>, N: ListName> SessionW
     /// A call was sent.
     pub(crate) fn send(&self, call: SentCall) {
         if let Some(moment) = self.seats.clock.now() {
-            self.see(Observation::Sent(CallMoment {
+            self.see(Observation::Sent(SentMoment {
                 number: call.number,
                 action: call.action,
                 moment,

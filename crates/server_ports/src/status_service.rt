@@ -11,7 +11,7 @@ use ocpp_scalars::Moments;
 use server_core::Seen;
 use site_status::{
     Health, JournalReport, SiteCounts, SiteReport, StatusAnswer, StatusPath, WatchedJournal,
-    answer_of, health_answer, nothing_there, status_path,
+    answer_of, health_answer, not_found, status_path,
 };
 use std::alloc::{AllocError, Global};
 use std::rt::Clock;
@@ -82,7 +82,7 @@ impl<
     fn answer(&self, request: &Request<Bytes>) -> Result<StatusAnswer, AllocError> {
         let alloc = self.port.alloc;
         let Some(path) = status_path(request.uri().path()) else {
-            return nothing_there(alloc);
+            return not_found(alloc);
         };
         let Some(seats) = self.port.seats()? else {
             return health_answer(alloc, Health::Restoring);

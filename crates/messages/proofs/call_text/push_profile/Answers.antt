@@ -8,5 +8,5 @@ pub returns : goal.returns
 unfolding profile_text
 returns c =
     object_of_two _ _ _ _ (codes "chargingSchedule") _ _ _ _ _ _
-    c.in_ok-push_str.ensures.bytes c.in_ok-push_own_fields.ensures c.in_ok-push_str-2.ensures.bytes
+    c.in_ok-push_str.ensures.bytes c.in_ok-push_profile_scalars.ensures c.in_ok-push_str-2.ensures.bytes
     c.in_ok-push_schedule.ensures c.in_ok-push_str-3.ensures.bytes

@@ -13,7 +13,7 @@ returns c =
     c.partition_point.ensures.partitioned (partitioned rates level c.requires.rising) (λ a r q k. search rules) in
     is_place rates level c.partition_point.result c.partition_point.ensures.bound (λ k d less. point.0 k d (omega arith) less) (λ k d from less. point.1 k d from less)
 
-pub returns-then-stands_there : goal.returns-then-stands_there
-returns-then-stands_there c =
+pub returns-then-has_level_at : goal.returns-then-has_level_at
+returns-then-has_level_at c =
     let there : has_level_at c.args.rates.now c.args.level c.likely_place-likely.result ≡ true = search rules in
     place_of_one c.likely_place-likely.result c.args.level c.args.rates.now c.requires.rising there

@@ -4,21 +4,21 @@ use Rattle.stacking.specs.ByCases.InForce.{IsPlaceOf, has_level_at}
 use Rattle.stacking.proofs.LevelLemmas.{not_there, taken_out, taken_out_rises}
 use Rattle.stacking.proofs.in_force.remove_rate.Goals as goal
 
-pub returns-then-stands_there-clause-set : goal.returns-then-stands_there-clause-set
-returns-then-stands_there-clause-set c =
+pub returns-then-has_level_at-clause-set : goal.returns-then-has_level_at-clause-set
+returns-then-has_level_at-clause-set c =
     let rates = c.args.rates.now.items in
     let is : IsPlaceOf rates c.args.level c.place_of-place.result = search rules in
     let there : has_level_at rates c.args.level c.place_of-place.result ≡ true = search rules in
     let out = taken_out c.place_of-place.result c.args.level rates c.requires.rising is.below there in
     search (rules, out)
 
-pub returns-then-stands_there-clause-rising : goal.returns-then-stands_there-clause-rising
-returns-then-stands_there-clause-rising c =
+pub returns-then-has_level_at-clause-rising : goal.returns-then-has_level_at-clause-rising
+returns-then-has_level_at-clause-rising c =
     let rise = taken_out_rises c.place_of-place.result c.args.rates.now.items c.requires.rising in
     search (rules, rise)
 
-pub returns-else-stands_there-clause-set : goal.returns-else-stands_there-clause-set
-returns-else-stands_there-clause-set c =
+pub returns-else-has_level_at-clause-set : goal.returns-else-has_level_at-clause-set
+returns-else-has_level_at-clause-set c =
     let rates = c.args.rates.now.items in
     let is : IsPlaceOf rates c.args.level c.place_of-place.result = search rules in
     let apart : has_level_at rates c.args.level c.place_of-place.result ≡ false = search rules in

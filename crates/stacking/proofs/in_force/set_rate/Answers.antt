@@ -4,15 +4,15 @@ use Rattle.stacking.specs.ByCases.InForce.{IsPlaceOf, has_level_at}
 use Rattle.stacking.proofs.LevelLemmas.{put_between, put_between_rises, put_over, put_over_rises}
 use Rattle.stacking.proofs.in_force.set_rate.Goals as goal
 
-pub returns-then-stands_there-clause-set : goal.returns-then-stands_there-clause-set
-returns-then-stands_there-clause-set c =
+pub returns-then-has_level_at-clause-set : goal.returns-then-has_level_at-clause-set
+returns-then-has_level_at-clause-set c =
     let rates = c.args.rates.now.items in
     let is : IsPlaceOf rates c.args.level c.place_of-place.result = search rules in
     let there : has_level_at rates c.args.level c.place_of-place.result ≡ true = search rules in
     put_over c.place_of-place.result c.args.level c.args.rate rates is.below there
 
-pub returns-then-stands_there-clause-rising : goal.returns-then-stands_there-clause-rising
-returns-then-stands_there-clause-rising c =
+pub returns-then-has_level_at-clause-rising : goal.returns-then-has_level_at-clause-rising
+returns-then-has_level_at-clause-rising c =
     let rates = c.args.rates.now.items in
     let there : has_level_at rates c.args.level c.place_of-place.result ≡ true = search rules in
     put_over_rises c.place_of-place.result c.args.level c.args.rate rates c.requires.rising there

@@ -11,9 +11,9 @@ returns-then-shared-own c level inside =
     let purpose = c.args.purpose in
     let rows = c.args.rows.now in
     let connector = c.args.connector in
-    let own : slice_get rows (slice_index c.first_places-places.result level)
+    let own : slice_get rows (slice_index c.first_row_indexes-places.result level)
     ≡ first_at purpose (own_connector purpose connector) level rows =
-    c.first_places-places.ensures level inside ∙ ap (λ n. first_at purpose n level rows) c.own_connector-own.ensures in
+    c.first_row_indexes-places.ensures level inside ∙ ap (λ n. first_at purpose n level rows) c.own_connector-own.ensures in
     c.add_first_places.ensures level inside
     ∙ ap (λ (first : Option Row). option_or first (first_at purpose c.shared_connector-shared.result level rows)) own
     ∙ ap (λ n. option_or (first_at purpose (own_connector purpose connector) level rows) (first_at purpose n level rows)) c.shared_connector-shared.ensures

@@ -152,7 +152,7 @@ members_have_trees-members-preserved t c =
     let r = c.value_has_tree.new.reader in
     let less = read_key-shorter l.reader (Some k) s keyed in
     let lesser = done.shorter in (
-      members_more c.args.depth c.args.reader.now l.reader s r l.broken c.update_key.new.broken k done.tree.0 c.in_ok-has.has l.invariant.0 keyed done.tree.1 done.tree.2 lesser c.in_ok-note_last.ensures,
+      members_more c.args.depth c.args.reader.now l.reader s r l.broken c.update_key.new.broken k done.tree.0 c.in_ok-has.has l.invariant.0 keyed done.tree.1 done.tree.2 lesser c.in_ok-update_key.ensures,
       omega (arith, l.invariant.1),
       done.no_numbers,
     )
