@@ -25,11 +25,17 @@ pub fn read_payload_file<R: Files<File = File> + Eprint + AllocGlobal>(
         .take(MAX_PAYLOAD_BYTES + 1)
         .read_to_end(&mut bytes);
     let length = report_error(rt, path, read, ProgramFault::File)?;
-    let why = match String::from_utf8(bytes) {
-        Ok(_) if length as u64 > MAX_PAYLOAD_BYTES => "it is longer than a message may be",
-        Ok(text) => return Ok(text),
-        Err(_) => "it isn't UTF-8",
-    };
+    if length as u64 > MAX_PAYLOAD_BYTES {
+        return unusable(rt, path, "it is longer than a message may be");
+    }
+    match String::from_utf8(bytes) {
+        Ok(text) => Ok(text),
+        Err(_) => unusable(rt, path, "it isn't UTF-8"),
+    }
+}
+
+/// Prints why a file can't be used to standard error.
+fn unusable<R: Eprint>(rt: &R, path: &str, why: &str) -> Result<String, ProgramFault> {
     let _ = eprintln!(rt; "central: {path}: {why}");
     Err(ProgramFault::File)
 }

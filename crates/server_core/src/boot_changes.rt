@@ -1,17 +1,17 @@
-//! Whether the boots that are to be kept changed.
+//! A flag that the boots to be kept have changed.
 
 use std::sync::{Condvar, Mutex, Wait};
 
-/// Whether the boots that are to be kept changed, for whoever keeps them.
+/// A flag that the boots to be kept have changed, for the thread that writes them.
 #[derive(Drop)]
 pub struct BootChanges {
     is_new: Mutex<bool>,
-    /// Whoever keeps them waits here.
+    /// The thread that writes them waits here.
     more: Condvar,
 }
 
 impl BootChanges {
-    /// None changed yet.
+    /// Returns the flag cleared: no boot has changed yet.
     pub fn new() -> BootChanges {
         BootChanges {
             is_new: Mutex::new(false),
@@ -19,13 +19,13 @@ impl BootChanges {
         }
     }
 
-    /// One changed. Waits for no file.
+    /// Sets the flag. It doesn't wait for the file.
     pub fn note<R: Wait>(&self, rt: &R) {
         *self.is_new.lock(rt) = true;
         self.more.notify_one();
     }
 
-    /// Waits until one has changed since this returned last.
+    /// Waits until a boot has changed since the last wait returned.
     pub fn wait<R: Wait>(&self, rt: &R) {
         let is_new = self.is_new.lock(rt);
         let mut is_new = self.more.wait_while(rt, is_new, |is_new| !*is_new);

@@ -1,27 +1,27 @@
-//! How long a seat waits for a client, in seconds.
+//! The times that clients have, in seconds.
 
-/// For a handshake as a whole.
+/// The longest that a handshake may take as a whole.
 pub const LONGEST_HANDSHAKE: u64 = 10;
 
-/// For a client that doesn't read, until it has taken what leaves at once.
+/// The longest that a client which doesn't read may hold up a write, with its continuations.
 pub const LONGEST_WRITE: u64 = 10;
 
-/// For a message as a whole, once its first byte came.
+/// The longest that a message may take as a whole, from its first byte.
 pub const LONGEST_MESSAGE: u64 = 30;
 
-/// For the next byte, until it is looked what else is due.
+/// The longest that a session waits for a byte before it checks what else is due.
 pub const TICK: u64 = 1;
 
-/// For the next byte, until the client is pinged.
+/// The silence of a client after which it is pinged.
 pub const SILENCE_BEFORE_PING: u64 = 150;
 
-/// For the next byte, until the connection is closed. A charge point sends a Heartbeat every 300
-/// seconds.
+/// The silence of a client after which its connection is closed. A charge point sends a Heartbeat
+/// every 300 seconds.
 pub const LONGEST_SILENCE: u64 = 660;
 
-/// For the first message of a charge point, until it is sent a call all the same. It may have a
-/// BootNotification to send first.
+/// The time that a charge point has for its first message before it is sent a call all the same. It
+/// may have a BootNotification to send first.
 pub const SILENCE_BEFORE_CALL: u64 = 10;
 
-/// For a connection of the status port as a whole.
+/// The longest that a connection of the status port may last.
 pub const LONGEST_STATUS: u64 = 5;

@@ -1,33 +1,33 @@
-//! How many seats are free.
+//! The number of free seats.
 
 use std::sync::{Mutex, Wait};
 
-/// How many seats wait for a connection, less the connections that are on their way to them.
+/// The number of seats that wait for a connection, less the connections on their way to them.
 #[derive(Drop)]
 pub struct FreeSeats {
     count: Mutex<u64>,
 }
 
 impl FreeSeats {
-    /// There are no seats yet.
+    /// Returns the count of a server without seats.
     pub fn new() -> FreeSeats {
         FreeSeats {
             count: Mutex::new(0),
         }
     }
 
-    /// One seat more is free.
+    /// Adds a free seat.
     pub fn add<R: Wait>(&self, rt: &R) {
         let mut count = self.count.lock(rt);
         *count = count.saturating_add(1);
     }
 
-    /// How many seats are free.
+    /// Returns the number of free seats.
     pub fn count<R: Wait>(&self, rt: &R) -> u64 {
         *self.count.lock(rt)
     }
 
-    /// Takes a free seat. False where none is.
+    /// Takes a free seat. Returns false if there is none.
     pub fn take<R: Wait>(&self, rt: &R) -> bool {
         let mut count = self.count.lock(rt);
         if *count == 0 {

@@ -1,5 +1,5 @@
-//! What the threads of the server share, without sessions, handshakes or HTTP: streams and their
-//! deadlines, seats, long messages, what was seen of the points, and lines on standard error.
+//! The state that the server's threads share, without sessions, handshakes or HTTP: streams and
+//! their deadlines, seats, long messages, observations of the points, lines for standard error.
 #![tactic(auto)]
 
 mod boot_changes;

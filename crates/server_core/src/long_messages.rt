@@ -2,12 +2,12 @@
 
 use std::sync::{Mutex, Wait};
 
-/// So many connections may have long messages at a time. Each takes up to four times the longest
-/// one in memory, and keeps some of it until it ends.
+/// The most connections with long messages at a time. Each takes up to four times the longest
+/// message in memory, and keeps some of it until it ends.
 const MAX_PLACES: u64 = 16;
 
-/// How many connections may still have a long message, and how many wait until they may. Most
-/// connections never have one.
+/// The places for connections with long messages: how many are free, and how many connections wait
+/// for one. Most connections never have a long message.
 #[derive(Drop)]
 pub struct LongMessages {
     places: Mutex<FreePlaces>,
@@ -24,14 +24,14 @@ struct FreePlaces {
 pub enum LongMessagePlace {
     /// It has had no long message.
     Unasked,
-    /// It waits for one.
+    /// It waits for a place.
     Awaited,
-    /// It has one until it ends.
+    /// It has a place until it ends.
     Taken,
 }
 
 impl LongMessages {
-    /// No connection has a long message yet.
+    /// Returns the places, all of them free.
     pub fn new() -> LongMessages {
         LongMessages {
             places: Mutex::new(FreePlaces {
@@ -41,8 +41,8 @@ impl LongMessages {
         }
     }
 
-    /// Asks for a place for a connection that has none, perhaps once more. Without a free one the
-    /// connection waits for it.
+    /// Asks for a place for a connection that has none, perhaps not for the first time. If none is
+    /// free, the connection waits for one.
     pub fn ask<R: Wait>(&self, rt: &R, place: LongMessagePlace) -> LongMessagePlace {
         let mut places = self.places.lock(rt);
         if places.free == 0 {
@@ -58,7 +58,7 @@ impl LongMessages {
         LongMessagePlace::Taken
     }
 
-    /// A connection ends that has such a place, or waits for one.
+    /// Frees the place of a connection that ends, or ends its wait for one.
     pub fn leave<R: Wait>(&self, rt: &R, place: LongMessagePlace) {
         let mut places = self.places.lock(rt);
         match place {
@@ -68,7 +68,7 @@ impl LongMessages {
         }
     }
 
-    /// Whether more connections wait for a place than find one.
+    /// Returns whether more connections wait for a place than places are free.
     pub fn are_wanted<R: Wait>(&self, rt: &R) -> bool {
         let places = self.places.lock(rt);
         places.waiting > places.free

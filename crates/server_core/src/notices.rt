@@ -1,4 +1,4 @@
-//! Lines for people, which a thread of their own writes to standard error.
+//! Lines for people, which a thread of its own writes to standard error.
 
 use ocpp_scalars::{Instant, Moments, push_instant};
 use site_status::push_without_controls;
@@ -6,16 +6,16 @@ use std::alloc::{AllocError, Global};
 use std::mem;
 use std::sync::{Condvar, Mutex, Wait};
 
-/// So many lines wait at most. More are left out, and counted.
+/// The most lines that wait to be written. Further ones are left out, and counted.
 const MAX_WAITING: usize = 1_024;
 
-/// Lines that wait to be written to standard error. Whoever has something to say doesn't wait until
-/// somebody reads it.
+/// The lines that wait to be written to standard error. A session that adds one never waits for a
+/// reader of standard error.
 #[derive(Drop)]
 pub struct Notices {
     alloc: Global,
     waiting: Mutex<WaitingLines>,
-    /// Whoever writes them waits here.
+    /// The thread that writes them waits here.
     more: Condvar,
 }
 
@@ -36,7 +36,7 @@ impl WaitingLines {
 }
 
 impl Notices {
-    /// Nothing was said yet.
+    /// Returns the notices without a line.
     pub fn new(alloc: Global) -> Notices {
         Notices {
             alloc,
@@ -48,14 +48,14 @@ impl Notices {
         }
     }
 
-    /// Says what became of whom at this moment. Without a clock nothing is said.
+    /// Adds a line with the present time, a name and an event. Without a clock it adds none.
     pub fn say<R: Wait, M: Moments>(&self, rt: &R, clock: &M, who: &str, what: &str) {
         if let Some(moment) = clock.now() {
             self.add(rt, line_of(self.alloc, moment, who, what));
         }
     }
 
-    /// The same of what may be missing, for lack of memory.
+    /// Does the same with an event whose text may be missing for lack of memory.
     pub fn say_made<R: Wait, M: Moments>(
         &self,
         rt: &R,
@@ -69,7 +69,7 @@ impl Notices {
         }
     }
 
-    /// Adds a line, or counts it where too many wait or memory ran out.
+    /// Adds a line, or counts it as left out if too many wait or memory ran out.
     fn add<R: Wait>(&self, rt: &R, line: Result<String, AllocError>) {
         let mut waiting = self.waiting.lock(rt);
         let is_kept = match line {
@@ -83,7 +83,7 @@ impl Notices {
         self.more.notify_one();
     }
 
-    /// Writes the lines for ever. Nothing is locked while one is written.
+    /// Writes the lines forever. Nothing is locked while one is written.
     pub fn write_all<R: Wait + Eprint>(&self, rt: &R) {
         for _round in rt.forever() {
             let WaitingLines { lines, left_out } = self.take(rt);
@@ -110,7 +110,7 @@ impl Notices {
     }
 }
 
-/// A line of what became of whom.
+/// Returns the line of an event: the moment, the name and the text, without control characters.
 fn line_of(alloc: Global, moment: Instant, who: &str, what: &str) -> Result<String, AllocError> {
     let mut line = String::from_str(alloc, "central: ")?;
     push_instant(&mut line, moment)?;

@@ -6,12 +6,12 @@ use std::sync::atomic::{AtomicU64, Ordering};
 use std::thread;
 use std::time::Duration;
 
-/// For each other one a session waits so many microseconds before its next message.
+/// The pause before a session's next message for each other client that is ahead, in microseconds.
 const SHARE: u64 = 50;
 
-/// How many clients send faster than they are served. The more there are, the longer each of their
-/// sessions waits between two messages. So all of them together take a bounded part of the processor's
-/// time, and whoever else wants the book finds no crowd before it.
+/// The number of clients that send faster than they are served. The more there are, the longer each
+/// of their sessions waits between two messages. So all of them together take a bounded part of the
+/// processor's time, and other sessions don't queue behind them for the book.
 #[derive(Drop)]
 pub struct AheadClients {
     count: AtomicU64,
@@ -29,7 +29,7 @@ impl AheadClients {
 #[derive(Drop)]
 pub struct Pace<'a> {
     clients: &'a AheadClients,
-    /// Whether its client is counted among them.
+    /// Whether the session's client is counted among them.
     is_counted: bool,
 }
 
@@ -41,7 +41,7 @@ impl<'a> Pace<'a> {
         }
     }
 
-    /// Waits before the next message of a client that is ahead, if others are.
+    /// Waits before the next message of a client that is ahead, if other clients are too.
     pub fn keep<R: Wait + Clock>(&mut self, rt: &R, is_ahead: bool) {
         self.count(is_ahead);
         if !is_ahead {
@@ -53,13 +53,13 @@ impl<'a> Pace<'a> {
         }
     }
 
-    /// The session ends.
+    /// Ends the session: its client no longer counts as ahead.
     pub fn end(self) {
         let mut ended = self;
         ended.count(false);
     }
 
-    /// Counts its client, or counts it no more.
+    /// Adds the session's client to the count, or removes it.
     fn count(&mut self, is_ahead: bool) {
         if is_ahead == self.is_counted {
             return;

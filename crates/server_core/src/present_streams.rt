@@ -8,9 +8,9 @@ use std::alloc::{AllocError, Global};
 use std::marker::Model;
 use std::sync::{Mutex, Wait};
 
-/// The newest link that a point got, and the stream over which it has it, while that is connected.
-/// The link stays when the stream goes: else an earlier connection whose stream comes here late
-/// would be taken for the newest, and the point left on it without its calls.
+/// A point's newest link, and the stream of that link while it is connected. The link stays when
+/// the stream goes. Otherwise an earlier connection that enters late would be taken for the newest,
+/// and the point would get no calls over it.
 #[derive(Drop)]
 struct Present {
     link: u64,
@@ -30,7 +30,7 @@ impl Model for Present {
 }
 
 impl Present {
-    /// Of a point that got no link yet. Links are numbered from 1 on.
+    /// Returns the entry of a point that got no link yet. Links are numbered from 1 on.
     fn new() -> Present
         ensures { result ≡ never_connected }
     {
@@ -40,8 +40,8 @@ impl Present {
         }
     }
 
-    /// The point has this link over this stream. Returns the stream that is to be shut, if there is
-    /// one: of two that with the earlier link.
+    /// Enters a link of the point, with its stream. Returns the stream to shut, if there is one: of
+    /// two streams the one with the earlier link.
     fn enter(&mut self, link: u64, stream: SharedStream) -> Option<SharedStream>
         ensures later { self.new ≡ entered self.old link }
         ensures shut { link < self.old.link → IsSome result }
@@ -53,8 +53,8 @@ impl Present {
         self.stream.replace(stream)
     }
 
-    /// The connection over which the point had this link has ended. Returns its stream, unless a
-    /// later connection has come.
+    /// Removes the stream of a link whose connection has ended, and returns it. Returns none if a
+    /// later connection has entered.
     fn leave(&mut self, link: u64) -> Option<SharedStream>
         ensures { self.new ≡ left self.old link }
     {
@@ -67,14 +67,14 @@ impl Present {
 }
 
 /// The stream of each point's newest connection, by the point's place in the site. A point that
-/// connects once more is served over its new connection, and the old one is shut.
+/// reconnects is served over its new connection, and the old one is shut.
 #[derive(Drop)]
 pub struct PresentStreams {
     places: Mutex<Vec<Present>>,
 }
 
 impl PresentStreams {
-    /// Of a site with so many points, none of which is connected.
+    /// Makes the streams of a site with `points` points, none of which is connected.
     pub fn make(alloc: Global, points: usize) -> Result<PresentStreams, AllocError> {
         let mut places = Vec::with_capacity(alloc, points)?;
         for _point in 0..points {
@@ -85,8 +85,8 @@ impl PresentStreams {
         })
     }
 
-    /// A point has this link over this stream. Of two links the later one stays, which is the one
-    /// over which the point is sent its calls, whichever comes here first. The other stream is shut.
+    /// Enters a link of a point, with its stream. Of two links the later one stays, whichever
+    /// enters first: the point gets its calls over that one. The other stream is shut.
     pub fn enter<R: Wait>(&self, rt: &R, place: usize, link: u64, stream: SharedStream) {
         let mut places = self.places.lock(rt);
         let Some(present) = places.get_mut(place) else {
@@ -99,7 +99,7 @@ impl PresentStreams {
         }
     }
 
-    /// The connection over which a point had this link has ended.
+    /// Removes the stream of a point's link whose connection has ended.
     pub fn leave<R: Wait>(&self, rt: &R, place: usize, link: u64) {
         let mut places = self.places.lock(rt);
         let Some(present) = places.get_mut(place) else {

@@ -1,24 +1,24 @@
-//! What is said again only after a while.
+//! Lines for people that repeat only after a pause.
 
 use std::rt::Clock;
 use std::time::Instant;
 
-/// The same is said no more often than each so many seconds.
+/// The shortest time between two reports of the same line, in seconds.
 const SECONDS_BETWEEN: u64 = 60;
 
-/// When a sentence was said last, so that it is said seldom.
+/// The time of a line's last report, which limits how often it repeats.
 #[derive(Drop)]
 pub struct Seldom {
     said: Option<Instant>,
 }
 
 impl Seldom {
-    /// It wasn't said yet.
+    /// Returns the state of a line that wasn't reported yet.
     pub fn new() -> Seldom {
         Seldom { said: None }
     }
 
-    /// Whether it is to be said now, after which it counts as said. Without a clock it isn't.
+    /// Returns whether the line is due, and if so counts it as reported. Without a clock it isn't.
     pub fn is_due<R: Clock>(&mut self, rt: &R) -> bool {
         let Ok(now) = Instant::now(rt) else {
             return false;

@@ -1,4 +1,4 @@
-//! What is seen of a site's connections.
+//! Observations of a site's connections.
 
 use crate::boot_changes::BootChanges;
 use messages::{ActionKind, ReplyStatus};
@@ -11,7 +11,8 @@ use site_status::{
 use std::alloc::{AllocError, Global};
 use std::sync::{Mutex, Wait};
 
-/// What is seen of a site's connections since the program began.
+/// The observations of a site's connections since the program started, and the boots and rejections
+/// that were kept from before.
 #[derive(Drop)]
 pub struct SiteWatch {
     seen: Mutex<Seen>,
@@ -20,10 +21,10 @@ pub struct SiteWatch {
     boots: BootChanges,
 }
 
-/// What was seen.
+/// The observations at a moment.
 #[derive(Drop)]
 pub struct Seen {
-    /// Of each point, by its place in the site.
+    /// The activity of each point, by its place in the site.
     pub points: Vec<PointActivity>,
     pub counts: SiteCounts,
 }
@@ -37,15 +38,15 @@ pub struct PointReply {
     pub moment: Instant,
 }
 
-/// A call was rejected.
+/// A call that its point rejected.
 #[derive(Clone, Copy)]
 pub struct Rejected {
-    /// What it asked, where that is known.
+    /// The action of the call, if it is known.
     pub action: Option<ActionKind>,
 }
 
 impl SiteWatch {
-    /// Of a site with so many points, of which nothing was seen.
+    /// Makes the observations of a site with `points` points, of which nothing was seen.
     pub fn make(alloc: Global, points: usize) -> Result<SiteWatch, AllocError> {
         let mut places = Vec::with_capacity(alloc, points)?;
         let mut calls = Vec::with_capacity(alloc, points)?;
@@ -63,38 +64,38 @@ impl SiteWatch {
         })
     }
 
-    /// So many connections are served at a time.
+    /// Sets the number of connections that are served at a time.
     pub fn set_seats<R: Wait>(&self, rt: &R, seats: u64) {
         self.seen.lock(rt).counts.seats = seats;
     }
 
-    /// A connection wasn't let in.
+    /// Counts a connection that wasn't let in.
     pub fn refuse<R: Wait>(&self, rt: &R) {
         let mut seen = self.seen.lock(rt);
         seen.counts.refused_handshakes = seen.counts.refused_handshakes.saturating_add(1);
     }
 
-    /// There was no seat for a connection.
+    /// Counts a connection for which there was no seat.
     pub fn turn_away<R: Wait>(&self, rt: &R) {
         let mut seen = self.seen.lock(rt);
         seen.counts.turned_away = seen.counts.turned_away.saturating_add(1);
     }
 
-    /// A session begins, of a point or of an operator.
+    /// Counts a session of a point or of an operator, which begins.
     pub fn begin<R: Wait>(&self, rt: &R, is_point: bool) {
         let mut seen = self.seen.lock(rt);
         let sessions = sessions_of(&mut seen.counts, is_point);
         *sessions = sessions.saturating_add(1);
     }
 
-    /// A session has ended.
+    /// Stops counting a session, which has ended.
     pub fn end<R: Wait>(&self, rt: &R, is_point: bool) {
         let mut seen = self.seen.lock(rt);
         let sessions = sessions_of(&mut seen.counts, is_point);
         *sessions = sessions.saturating_sub(1);
     }
 
-    /// This was seen of the point at a place.
+    /// Records an observation of the point at a place.
     pub fn see<R: Wait>(&self, rt: &R, place: usize, sighting: Observation) {
         let is_boot = matches!(sighting, Observation::Booted(_));
         let mut seen = self.seen.lock(rt);
@@ -107,7 +108,7 @@ impl SiteWatch {
         }
     }
 
-    /// The point at a place booted before the program began, and is kept as such.
+    /// Records a boot of the point at a place from before the program started. It is kept already.
     pub fn resume_boot<R: Wait>(&self, rt: &R, place: usize, boot: Boot) {
         let mut seen = self.seen.lock(rt);
         if let Some(news) = seen.points.get_mut(place) {
@@ -115,7 +116,7 @@ impl SiteWatch {
         }
     }
 
-    /// The point at a place rejected these calls before the program began.
+    /// Records the calls that the point at a place rejected before the program started.
     pub fn resume_rejections<R: Wait>(&self, rt: &R, place: usize, rejected: RejectedCalls) {
         let mut seen = self.seen.lock(rt);
         if let Some(news) = seen.points.get_mut(place) {
@@ -123,8 +124,8 @@ impl SiteWatch {
         }
     }
 
-    /// The point at a place has these calls at a moment. Where memory runs out they are seen the next
-    /// time.
+    /// Records the calls that the point at a place has at a moment. If memory runs out, they are
+    /// recorded the next time.
     pub fn see_calls<R: Wait>(&self, rt: &R, place: usize, numbers: CallNumbers, moment: Instant) {
         let mut calls = self.calls.lock(rt);
         if let Some(moments) = calls.get_mut(place) {
@@ -132,7 +133,7 @@ impl SiteWatch {
         }
     }
 
-    /// The points have the calls of this state at a moment.
+    /// Records the calls that each point has at a moment, in this state of the site.
     pub fn see_all_calls<R: Wait>(&self, rt: &R, machine: &Machine, moment: Instant) {
         let site = machine.site();
         for place in 0..site.len() {
@@ -144,7 +145,7 @@ impl SiteWatch {
         }
     }
 
-    /// Since when the call to each point waits that waits longest, by the state of the site.
+    /// Returns since when the longest-waiting call to each point waits, in this state of the site.
     pub fn waiting_since<R: Wait>(
         &self,
         rt: &R,
@@ -159,7 +160,7 @@ impl SiteWatch {
         Ok(since)
     }
 
-    /// The point at a place replied to a call. Where it rejects it, returns what that asked.
+    /// Records the reply of the point at a place to a call, and returns the call if it is rejected.
     pub fn reply<R: Wait>(&self, rt: &R, place: usize, reply: PointReply) -> Option<Rejected> {
         let PointReply {
             call,
@@ -183,8 +184,8 @@ impl SiteWatch {
         None
     }
 
-    /// The connection over which the point at a place had this link has ended. Returns whether it
-    /// has no later one.
+    /// Records the end of the connection over which the point at a place had this link. Returns
+    /// whether the point has no later one.
     pub fn leave<R: Wait>(&self, rt: &R, place: usize, link: u64) -> bool {
         let mut seen = self.seen.lock(rt);
         match seen.points.get_mut(place) {
@@ -193,12 +194,12 @@ impl SiteWatch {
         }
     }
 
-    /// What tells that the boots changed which are to be kept.
+    /// Returns the flag that the boots to be kept have changed.
     pub fn changed_boots(&self) -> &BootChanges {
         &self.boots
     }
 
-    /// The boot of each point that is to be kept, if there is one.
+    /// Returns the boot to keep of each point, if there is one.
     pub fn boots<R: Wait>(&self, rt: &R, alloc: Global) -> Result<Vec<Option<Boot>>, AllocError> {
         let seen = self.seen.lock(rt);
         let mut boots = Vec::with_capacity(alloc, seen.points.len())?;
@@ -208,7 +209,7 @@ impl SiteWatch {
         Ok(boots)
     }
 
-    /// A copy of what was seen.
+    /// Returns a copy of the observations.
     pub fn copy<R: Wait>(&self, rt: &R, alloc: Global) -> Result<Seen, AllocError> {
         let seen = self.seen.lock(rt);
         let mut points = Vec::with_capacity(alloc, seen.points.len())?;
@@ -222,7 +223,7 @@ impl SiteWatch {
     }
 }
 
-/// Since when a call to the point at a place waits, if one does.
+/// Returns since when a call to the point at a place waits, if one does.
 fn waiting_at(machine: &Machine, place: usize, moments: &CallMoments) -> Option<Instant> {
     let point = machine.site().point(place)?;
     moments.waiting_since(machine.outbox_of(point.id)?)
@@ -249,7 +250,7 @@ fn no_counts() -> SiteCounts {
     }
 }
 
-/// Why a call is rejected, if it is. Where a status leaves nothing undone, it isn't.
+/// Returns why a call is rejected, if it is. A status that leaves nothing undone rejects nothing.
 fn rejection_of(sent: Option<SentMoment>, call: u64, rejection: Option<String>) -> Option<String> {
     let reason = rejection?;
     match (sent, ReplyStatus::named(reason.as_str())) {

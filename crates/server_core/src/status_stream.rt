@@ -15,7 +15,7 @@ pub struct StatusStream<'a, R> {
 }
 
 impl<R: Clock> StatusStream<'_, R> {
-    /// How much time is left.
+    /// Returns the time left until the deadline, or the error `TimedOut`.
     fn left(&self) -> io::Result<Duration> {
         let now = Instant::now(self.rt)?;
         match self.deadline.checked_duration_since(now) {

@@ -1,4 +1,4 @@
-//! The handshakes that aren't whole yet.
+//! The handshakes that aren't complete yet.
 
 use crate::shared_stream::{SharedStream, seconds_since, shut};
 use std::alloc::Global;
@@ -6,11 +6,11 @@ use std::rt::Clock;
 use std::sync::{Mutex, Wait};
 use std::time::Instant;
 
-/// So many seconds each handshake has, though connections wait for a seat.
+/// The time that each handshake has even while connections wait for a seat, in seconds.
 const LEAST: u64 = 1;
 
-/// The handshakes that aren't whole yet, so that the one that lasts longest can give way where
-/// connections wait for a seat.
+/// The handshakes that aren't complete yet. The oldest one can give way to a connection that waits
+/// for a seat.
 #[derive(Drop)]
 pub struct UnfinishedHandshakes {
     begun: Mutex<BegunHandshakes>,
@@ -31,7 +31,7 @@ struct BegunHandshake {
 }
 
 impl UnfinishedHandshakes {
-    /// None has begun.
+    /// Returns a list of no handshakes.
     pub fn new(alloc: Global) -> UnfinishedHandshakes {
         UnfinishedHandshakes {
             begun: Mutex::new(BegunHandshakes {
@@ -41,8 +41,8 @@ impl UnfinishedHandshakes {
         }
     }
 
-    /// One begins over this stream. Returns its number. Without a clock or memory it doesn't give
-    /// way, and ends by its deadline.
+    /// Adds a handshake that begins over this stream, and returns its number. Without a clock or
+    /// memory it isn't added: it never gives way, and ends by its deadline.
     pub fn begin<R: Wait + Clock>(&self, rt: &R, stream: SharedStream) -> Option<u64> {
         let begun = Instant::now(rt).ok()?;
         let mut unfinished = self.begun.lock(rt);
@@ -59,7 +59,7 @@ impl UnfinishedHandshakes {
         }
     }
 
-    /// The one of this number is whole, or has failed.
+    /// Removes the handshake of this number, which is complete or has failed.
     pub fn end<R: Wait>(&self, rt: &R, number: u64) {
         let mut unfinished = self.begun.lock(rt);
         let found = unfinished
@@ -73,7 +73,7 @@ impl UnfinishedHandshakes {
         }
     }
 
-    /// Shuts the stream of the one that lasts longest. False where none has had its time.
+    /// Shuts the stream of the oldest handshake. Returns false if none has had its time yet.
     pub fn shut_longest<R: Wait + Clock>(&self, rt: &R) -> bool {
         let mut unfinished = self.begun.lock(rt);
         let is_due = match unfinished.handshakes.first() {

@@ -1,4 +1,4 @@
-//! Connections are accepted: each for a free seat, or it is answered that there is none.
+//! Accepts connections: each gets a free seat, or the answer that there is none.
 
 use crate::seat_context::SeatContext;
 use crossbeam_channel::Sender;
@@ -12,25 +12,25 @@ use std::sync::ledger::Ledger;
 use std::thread;
 use std::time::Duration;
 
-/// So many milliseconds pass before the next try where a connection couldn't be accepted, as for
-/// lack of file descriptors.
+/// The pause after a connection couldn't be accepted, as for lack of file descriptors, in
+/// milliseconds.
 const PAUSE: u64 = 100;
 
-/// Once a handshake gave way, it is looked so often whether its seat is free.
+/// The number of checks whether the seat of a handshake that gave way is free.
 const LOOKS: u32 = 50;
 
-/// So many milliseconds pass before each look.
+/// The pause before each of these checks, in milliseconds.
 const LOOK: u64 = 2;
 
-/// What is said where none is.
+/// The line for people when no seat is free.
 const FULL: &str = "all are taken: connections are turned away (HTTP 503)";
 
-/// The answer to a connection for which there is no seat.
+/// The response to a connection for which there is no seat.
 const NO_SEAT: &[u8] =
     b"HTTP/1.1 503 Service Unavailable\r\nConnection: close\r\nContent-Length: 0\r\n\r\n";
 
-/// Accepts connections for ever, and sends each to a free seat. Where none is free, it is answered
-/// so and closed.
+/// Accepts connections forever, and sends each to a free seat. If none is free, refuses and closes
+/// the connection.
 pub fn accept_connections<C: Ledger, A: Ledger, R: Wait + Clock, J, N: ListName>(
     seats: &SeatContext<C, A, R, J, N>,
     listener: &TcpListener,
@@ -43,7 +43,7 @@ pub fn accept_connections<C: Ledger, A: Ledger, R: Wait + Clock, J, N: ListName>
             continue;
         };
         if take_seat(seats) {
-            // A seat waits for it, so there is room on the way.
+            // A seat waits for the stream, so the bounded channel has room and this doesn't block.
             if streams.send(rt, stream).is_err() {
                 return;
             }
@@ -55,8 +55,8 @@ pub fn accept_connections<C: Ledger, A: Ledger, R: Wait + Clock, J, N: ListName>
     }
 }
 
-/// Takes a seat for a connection. Where none is free, the handshake that lasts longest gives way, once
-/// it has had its time.
+/// Takes a seat for a connection. If none is free, the oldest handshake gives way, once it has had
+/// its time.
 fn take_seat<C: Ledger, A: Ledger, R: Wait + Clock, J, N: ListName>(
     seats: &SeatContext<C, A, R, J, N>,
 ) -> bool {
@@ -77,8 +77,8 @@ fn take_seat<C: Ledger, A: Ledger, R: Wait + Clock, J, N: ListName>(
     false
 }
 
-/// The next connection. None where it couldn't be accepted, after a pause: a file descriptor may be
-/// free then.
+/// Accepts the next connection. Returns none after a pause if it couldn't be accepted: a file
+/// descriptor may be free then.
 fn accept_next<C: Ledger, A: Ledger, R: Wait + Clock, J, N: ListName>(
     seats: &SeatContext<C, A, R, J, N>,
     listener: &TcpListener,
@@ -99,7 +99,7 @@ fn accept_next<C: Ledger, A: Ledger, R: Wait + Clock, J, N: ListName>(
     }
 }
 
-/// Says that all seats are taken.
+/// Reports that all seats are taken.
 fn say_full<C: Ledger, A: Ledger, R: Wait + Clock, J, N: ListName>(
     seats: &SeatContext<C, A, R, J, N>,
     full: &mut Seldom,
@@ -109,8 +109,8 @@ fn say_full<C: Ledger, A: Ledger, R: Wait + Clock, J, N: ListName>(
     }
 }
 
-/// Answers a connection that there is no seat for it, and closes it. Waits for nothing: the next
-/// connection isn't to wait for this one.
+/// Sends a connection the response that there is no seat, and closes it. It never blocks: the next
+/// connection must not wait for this one.
 fn refuse(stream: TcpStream) {
     let mut stream = stream;
     if stream.set_nonblocking(true).is_err() {
@@ -118,7 +118,7 @@ fn refuse(stream: TcpStream) {
     }
     let _ = stream.write(NO_SEAT);
     let _ = stream.shutdown(Shutdown::Write);
-    // What came already is read, or the close would cut off the answer.
+    // Closing a socket with unread bytes resets the connection, which could cut off the response.
     let mut request = [0u8; 1_024];
     let _ = stream.read(&mut request);
 }

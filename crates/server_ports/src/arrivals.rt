@@ -1,4 +1,4 @@
-//! What is said of connections: those for which there is no session, and operators.
+//! Reports of connections: those that get no session, and those of operators.
 
 use crate::handshake::{ClientRequest, Unshaken};
 use crate::request_words::{push_path, said_of_operator};
@@ -10,8 +10,8 @@ use std::rt::Clock;
 use std::sync::Wait;
 use std::sync::ledger::Ledger;
 
-/// Says that a connection wasn't let in. One that failed by itself, as a probe of the port does, is
-/// none of these.
+/// Reports and counts a connection that wasn't let in. A handshake that failed by itself, as that
+/// of a port probe, is not reported.
 pub fn note_unshaken<C: Ledger, A: Ledger, R: Wait + Clock, J, N: ListName>(
     seats: &SeatContext<C, A, R, J, N>,
     unshaken: Unshaken,
@@ -22,8 +22,8 @@ pub fn note_unshaken<C: Ledger, A: Ledger, R: Wait + Clock, J, N: ListName>(
     }
 }
 
-/// Says that a connection was closed since the site has no point of its path, or since its client
-/// didn't offer OCPP 1.6.
+/// Reports and counts a connection that was closed because the site has no point of its path, or
+/// because its client didn't offer OCPP 1.6.
 pub fn note_unknown<C: Ledger, A: Ledger, R: Wait + Clock, J, N: ListName>(
     seats: &SeatContext<C, A, R, J, N>,
     asked: &ClientRequest,
@@ -34,8 +34,8 @@ pub fn note_unknown<C: Ledger, A: Ledger, R: Wait + Clock, J, N: ListName>(
     note_refused(seats, from, pushed.map(|()| what));
 }
 
-/// Says that an operator has come, from where and as whom: what is in the journal by then tells no
-/// more than that it was an operator.
+/// Reports that an operator has connected, with its address and user. The journal records only that
+/// a change came from an operator.
 pub fn note_operator<C: Ledger, A: Ledger, R: Wait + Clock, J, N: ListName>(
     seats: &SeatContext<C, A, R, J, N>,
     asked: &ClientRequest,
@@ -63,7 +63,7 @@ fn note_refused<C: Ledger, A: Ledger, R: Wait + Clock, J, N: ListName>(
     say_from(seats, from, what);
 }
 
-/// Says what became of whoever has this address.
+/// Reports an event of the client with this address.
 fn say_from<C: Ledger, A: Ledger, R: Wait + Clock, J, N: ListName>(
     seats: &SeatContext<C, A, R, J, N>,
     from: Option<SocketAddr>,
@@ -80,7 +80,7 @@ fn say_from<C: Ledger, A: Ledger, R: Wait + Clock, J, N: ListName>(
     }
 }
 
-/// An address in words.
+/// Returns the text of an address.
 fn name_of(alloc: Global, from: Option<SocketAddr>) -> Result<String, AllocError> {
     match from {
         Some(from) => format!(in alloc; "{from}"),

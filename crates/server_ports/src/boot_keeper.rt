@@ -1,4 +1,4 @@
-//! The boots of points, which are kept over a restart of the program.
+//! The thread that keeps the boots of points over a restart of the program.
 
 use crate::seat_context::SeatContext;
 use crate::serve_fault::ServeFault;
@@ -16,17 +16,17 @@ use std::time::Duration;
 use std::{io, thread};
 use world::Shareable;
 
-/// So many seconds pass at least from one file of boots to the next.
+/// The shortest time between two writes of the boots, in seconds.
 const SECONDS_BETWEEN: u64 = 1;
 
-/// Who keeps the boots of points.
+/// A place that keeps the boots of points.
 pub trait BootKeeper {
-    /// Keeps these lines in place of those that were kept before.
+    /// Keeps these lines in place of the earlier ones.
     fn keep(&self, lines: &str) -> io::Result<()>;
 }
 
-/// Begins the thread that keeps the boots of points, each time that they change. No session waits for
-/// it. It goes on when this returns, for as long as the program runs.
+/// Starts the thread that keeps the boots of points each time they change. No session waits for it.
+/// The thread runs as long as the program does.
 pub fn begin_boots<
     C: Ledger + Shareable,
     A: Ledger + Shareable,
@@ -43,8 +43,8 @@ pub fn begin_boots<
     }
 }
 
-/// Keeps the boots of points for ever. Where they can't be kept, that is said once until they are, and
-/// it is tried again at the next change.
+/// Keeps the boots of points forever. A failure is reported once until they are kept again, and the
+/// next change is the next try.
 fn keep_boots<C: Ledger, A: Ledger, R: Wait + Clock, J: Journal<N>, K: BootKeeper, N: ListName>(
     seats: &SeatContext<C, A, R, J, N>,
     keeper: &K,
@@ -64,8 +64,8 @@ fn keep_boots<C: Ledger, A: Ledger, R: Wait + Clock, J: Journal<N>, K: BootKeepe
     }
 }
 
-/// Keeps the boots of points as they are now. The book is locked to be copied, and nothing is locked
-/// while the lines are made and kept.
+/// Keeps the boots of points as they are now. The book is locked while it is copied, and nothing is
+/// locked while the lines are made and written.
 fn keep_now<C: Ledger, A: Ledger, R: Wait, J, K: BootKeeper, N: ListName>(
     seats: &SeatContext<C, A, R, J, N>,
     keeper: &K,
@@ -79,7 +79,7 @@ fn keep_now<C: Ledger, A: Ledger, R: Wait, J, K: BootKeeper, N: ListName>(
     keeper.keep(lines.as_str())
 }
 
-/// A line for each boot of a point, by the point's place in the site.
+/// Returns a line for each boot. The boots are in the order of the site's points.
 fn boot_lines(alloc: Global, site: &Site, boots: &[Option<Boot>]) -> Result<String, AllocError> {
     let mut lines = String::new(alloc);
     for (place, boot) in boots.iter().enumerate() {
@@ -94,7 +94,7 @@ fn boot_lines(alloc: Global, site: &Site, boots: &[Option<Boot>]) -> Result<Stri
     Ok(lines)
 }
 
-/// Says that the boots can't be kept.
+/// Reports that the boots can't be kept.
 fn say_unkept<C: Ledger, A: Ledger, R: Wait + Clock, J, N: ListName>(
     seats: &SeatContext<C, A, R, J, N>,
     error: &io::Error,

@@ -1,4 +1,4 @@
-//! Who is let in.
+//! Which clients are let in.
 
 ghost use Rattle.std.specs.Prelude.{◌≡◌, ◌↔◌, List, ℕ, None, IfOk, option_copied};
 ghost use Rattle.site_keys.specs.Admission.{IsAdmittedAs, IsAdmitted};
@@ -10,19 +10,19 @@ use http::{Request, StatusCode};
 use site_keys::{Admission, Keys, Role};
 use std::alloc::{AllocError, Global};
 
-/// Each page of a browser sends it (RFC 6455, section 10.2).
+/// The header that web pages send with each WebSocket handshake (RFC 6455, section 10.2).
 const ORIGIN: &str = "origin";
 
-/// Has a user and a password (RFC 7617).
+/// The header with a user and a password (RFC 7617).
 pub const AUTHORIZATION: &str = "authorization";
 
-/// Whom a server lets in.
+/// The clients that a server lets in.
 #[derive(Clone, Copy)]
 pub enum Access<'a> {
-    /// Whoever comes.
+    /// Every client.
     Open,
-    /// No web page. Where there are keys, only whom they let come; else whoever asks for this machine,
-    /// where this address is listened at.
+    /// No web page. With keys, only the clients that they admit. Without keys, the clients whose
+    /// request is for this machine, which listens at this address.
     Guarded {
         keys: Option<&'a Keys>,
         address: &'a str,
@@ -30,8 +30,8 @@ pub enum Access<'a> {
 }
 
 impl Access<'_> {
-    /// The status that refuses a request (RFC 9110, sections 15.5.2, 15.5.4 and 15.5.20), or None where
-    /// it is let in.
+    /// Returns the status that refuses a request (RFC 9110, sections 15.5.2, 15.5.4 and 15.5.20),
+    /// or None if its client is let in.
     pub fn refusal(
         self,
         alloc: Global,
@@ -45,7 +45,8 @@ impl Access<'_> {
             return Ok(Some(StatusCode::FORBIDDEN));
         }
         let Some(keys) = keys else {
-            // No web page knows a key, so that with keys a proxy may hand on whatever name it has.
+            // With keys the Host may be any, as behind a proxy: a web page that rebinds its own
+            // name to this machine knows no key.
             return Ok(if is_for_this_machine(headers, address) {
                 None
             } else {
@@ -60,7 +61,7 @@ impl Access<'_> {
     }
 }
 
-/// The same for whom a path names.
+/// Returns the status that refuses the peer of a path by the keys, or None if they admit it.
 fn refusal_by_keys(
     alloc: Global,
     keys: &Keys,
@@ -75,7 +76,7 @@ fn refusal_by_keys(
     Ok(refusal_of(&admission))
 }
 
-/// What comes of whom a path names: a point comes with its own key, an operator with an operator's.
+/// Checks the peer of a path: a point needs its own key, an operator an operator's.
 fn admission_of(
     alloc: Global,
     keys: &Keys,
@@ -92,7 +93,7 @@ fn admission_of(
     }
 }
 
-/// The status of who isn't admitted.
+/// Returns the status for a peer that isn't admitted.
 fn refusal_of(admission: &Admission) -> Option<StatusCode>
     ensures { (result ≡ None) ↔ ((user : List ℕ) × IsAdmittedAs admission.now user) }
 {

@@ -1,4 +1,5 @@
-//! The handshake of a connection (RFC 6455, section 4.2): who connects, and whether in OCPP 1.6.
+//! The handshake of a connection (RFC 6455, section 4.2): which client connects, and whether it
+//! offers OCPP 1.6.
 
 use crate::entry::Access;
 use crate::request_words::{said_of, user_of};
@@ -13,7 +14,7 @@ const SUBPROTOCOLS: &str = "sec-websocket-protocol";
 /// The subprotocol of OCPP-J 1.6 (chapter 3.1.2).
 const OCPP_16: &str = "ocpp1.6";
 
-/// What a client asked for in its handshake.
+/// A client's request for a session, from its handshake.
 #[derive(Drop)]
 pub struct ClientRequest {
     /// The path of its URL, without the query.
@@ -24,25 +25,25 @@ pub struct ClientRequest {
     pub user: Option<String>,
 }
 
-/// What a client without a right key is asked for (RFC 7617).
+/// The challenge to a client without a valid key (RFC 7617).
 const CHALLENGE: &str = "Basic realm=\"central\", charset=\"UTF-8\"";
 
-/// Reads what a client asks for. Refuses it, or accepts OCPP 1.6 where that is offered.
+/// The callback of a handshake: it refuses the request, or accepts OCPP 1.6 if that is offered.
 #[derive(Drop)]
 struct RequestReader<'a> {
     alloc: Global,
     entry: Access<'a>,
     asked: &'a mut Option<ClientRequest>,
-    /// What is said of the request, if it is refused.
+    /// The line for people about the request, if it is refused.
     refused: &'a mut Option<Result<String, AllocError>>,
 }
 
-/// Why there is no session for a connection.
+/// Why a connection gets no session.
 #[derive(Drop)]
 pub enum Unshaken {
-    /// Its request was refused, of which this is said.
+    /// Its request was refused. This is the line for people about it.
     Refused(Result<String, AllocError>),
-    /// It wasn't whole in time, or malformed, or memory ran out.
+    /// The handshake wasn't complete in time, or was malformed, or memory ran out.
     Failed,
 }
 
@@ -68,8 +69,8 @@ impl Callback for RequestReader<'_> {
     }
 }
 
-/// Notes what a client asks for, in the response that accepts it. Where memory runs out nothing is
-/// noted.
+/// Stores the client's request in `asked`, and returns the response that accepts it. If memory runs
+/// out, it stores nothing.
 fn accepted(
     alloc: Global,
     request: &Request<()>,
@@ -99,7 +100,7 @@ fn accepted(
     response
 }
 
-/// Whether OCPP 1.6 is among the subprotocols of all headers that offer any.
+/// Returns whether OCPP 1.6 is among the subprotocols of all headers that offer any.
 fn offers_ocpp(headers: &HeaderMap<HeaderValue>) -> bool {
     headers
         .get_all(SUBPROTOCOLS)
@@ -110,7 +111,8 @@ fn offers_ocpp(headers: &HeaderMap<HeaderValue>) -> bool {
         })
 }
 
-/// The response that refuses a request by this status. A header for which memory runs out is missing.
+/// Returns the response that refuses a request with this status. If memory runs out for a header,
+/// the response lacks it.
 fn refusal(alloc: Global, status: StatusCode) -> ErrorResponse {
     let mut response = Response::new(alloc, None);
     *response.status_mut() = status;
@@ -132,7 +134,7 @@ fn refusal(alloc: Global, status: StatusCode) -> ErrorResponse {
     response
 }
 
-/// Shakes hands with a client, if it is let in.
+/// Does the handshake with a client, if it is let in.
 pub fn shake_hands<S: Read + Write + Drop>(
     alloc: Global,
     entry: Access<'_>,

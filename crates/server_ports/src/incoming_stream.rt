@@ -1,5 +1,4 @@
-//! The stream of a connection that may be shut from another thread, and that waits no longer for its
-//! client than it has to.
+//! The stream of a connection: it has deadlines for its client, and another thread may shut it.
 
 ghost use Rattle.std.specs.Counts.{IsPrefixLen};
 ghost use Rattle.std.specs.Prelude.{IfOk};
@@ -17,54 +16,56 @@ use std::time::{Duration, Instant};
 use std::{io, thread};
 use world::Watched;
 
-/// A message of so many bytes needs no place of its own.
+/// A message needs a place for its rest once this many bytes of it have come.
 const LONGEST_WITHOUT_PLACE: usize = 65_536;
 
-/// A client's control frame has so many bytes beside its payload (RFC 6455, section 5.2).
+/// The header of a client's control frame in bytes, with its mask (RFC 6455, section 5.2).
 const CONTROL_HEAD: usize = 6;
 
-/// While its session looks at it, a read waits for so many milliseconds. One of a long message that
-/// finds no place waits for a tick all the same.
+/// The read timeout while a session polls its stream, in milliseconds. A read of a long message
+/// without a place waits for a tick all the same.
 const LOOK: u64 = 1;
 
-/// And it is read so often at most in a look.
+/// The most reads in one poll.
 const READS_OF_LOOK: u32 = 64;
 
-/// So often at most a read of a handshake begins again since a signal interrupted it.
+/// The most times that a read of a handshake is repeated because a signal interrupted it.
 const MOST_SIGNALS: u32 = 1_000;
 
-/// The stream of a connection. Its handshake, and later each message, has to be whole by a deadline,
-/// so that nobody holds it up by a byte now and then. With its first long message it takes one of the
-/// places that all connections share, and keeps that, since what the message took in memory is kept.
+/// The stream of a connection. Its handshake, and later each message, has to be complete by a
+/// deadline, so that a client can't hold up a seat by a byte now and then. With its first long
+/// message it takes one of the places that all connections share. It keeps that place, since the
+/// buffers of the message keep their memory.
 #[derive(Drop)]
 pub struct IncomingStream<'a, R> {
     rt: &'a R,
     stream: SharedStream,
     places: &'a LongMessages,
     place: LongMessagePlace,
-    /// Until when the handshake has to be whole, while it isn't.
+    /// The deadline of the handshake, until that is complete.
     handshake: Option<Instant>,
-    /// When the last byte came, or else the handshake began.
+    /// The time of the last byte, or of the start of the handshake if none came.
     heard: Instant,
     unfinished: Option<Unfinished>,
-    /// When a write began that didn't take all, until all of that is taken.
+    /// The time at which a write began that wasn't complete, until all of it is sent.
     untaken: Option<Instant>,
-    /// How often it may still be read in this look, while its session looks at it.
+    /// The number of reads left in this poll, while its session polls it.
     reads_left: Option<u32>,
-    /// Whether the last read took as much as it could: most often there is more.
+    /// Whether the last read filled its buffer: then most often more bytes wait.
     is_ahead: bool,
 }
 
-/// A message that isn't whole.
+/// A message that isn't complete.
 #[derive(Clone, Copy)]
 struct Unfinished {
-    /// When its first byte came.
+    /// The time of its first byte.
     begun: Instant,
     bytes: usize,
 }
 
 impl<'a, R: Clock + Wait> IncomingStream<'a, R> {
-    /// A connection whose handshake begins now. None where the system can't bound it.
+    /// Returns the stream of a connection whose handshake begins now, or none if the system can't
+    /// set a deadline for it.
     pub fn new(
         rt: &'a R,
         alloc: Global,
@@ -73,7 +74,8 @@ impl<'a, R: Clock + Wait> IncomingStream<'a, R> {
     ) -> Option<IncomingStream<'a, R>> {
         let now = Instant::now(rt).ok()?;
         let deadline = now.checked_add(Duration::from_secs(LONGEST_HANDSHAKE))?;
-        // An answer leaves at once. Where that can't be set, it leaves later.
+        // Without Nagle's algorithm an answer leaves at once. If that can't be set, it leaves
+        // later.
         let _ = stream.set_nodelay(true);
         let longest_write = Duration::from_secs(LONGEST_WRITE);
         stream.set_write_timeout(Some(longest_write)).ok()?;
@@ -92,8 +94,8 @@ impl<'a, R: Clock + Wait> IncomingStream<'a, R> {
         })
     }
 
-    /// Its handshake is whole: from now on a read waits for a tick. False where the system doesn't
-    /// let it.
+    /// Ends the handshake, which is complete: from now on a read waits for a tick. Returns false if
+    /// the system doesn't allow that.
     pub fn end_handshake(&mut self) -> bool {
         self.handshake = None;
         self.unfinished = None;
@@ -101,36 +103,36 @@ impl<'a, R: Clock + Wait> IncomingStream<'a, R> {
         self.stream.set_read_timeout(Some(tick)).is_ok()
     }
 
-    /// Whether it is to end: it has a place that another connection waits for, and no message that it
-    /// has begun.
+    /// Returns whether the connection should end: it has a place for which another one waits, and
+    /// no unfinished message.
     pub fn is_in_the_way(&self) -> bool {
         self.place == LongMessagePlace::Taken
             && self.unfinished.is_none()
             && self.places.are_wanted(self.rt)
     }
 
-    /// Whether its client sends faster than it is served, as far as the last read told.
+    /// Returns whether its client sends faster than it is served, judged by the last read.
     pub fn is_ahead(&self) -> bool {
         self.is_ahead
     }
 
-    /// The connection ends: its place is free again.
+    /// Ends the connection, and frees its place.
     pub fn end(&mut self) {
         self.places.leave(self.rt, self.place);
         self.place = LongMessagePlace::Unasked;
     }
 
-    /// For how many seconds nothing has come.
+    /// Returns the seconds since the last byte.
     pub fn silence(&self) -> u64 {
         seconds_since(self.rt, self.heard)
     }
 
-    /// A share of the stream, by which another thread may shut it.
+    /// Returns a clone of the stream, by which another thread may shut it.
     pub fn share(&self) -> Option<SharedStream> {
         Arc::try_clone(&self.stream).ok()
     }
 
-    /// Lets the next read wait until the deadline of the handshake and no longer.
+    /// Limits the next read to the time left until the deadline of the handshake.
     fn bound_handshake(&self, deadline: Instant) -> io::Result<()> {
         let now = Instant::now(self.rt)?;
         match deadline.checked_duration_since(now) {
@@ -139,8 +141,8 @@ impl<'a, R: Clock + Wait> IncomingStream<'a, R> {
         }
     }
 
-    /// Lets more of an unfinished message come while it isn't overdue, and once a long one has a
-    /// place. While it waits for that, its deadline waits too.
+    /// Allows another read of an unfinished message unless it is overdue, or is long and has no
+    /// place. While the message waits for a place, its deadline moves with the time.
     fn bound_message(&mut self, message: Unfinished) -> io::Result<()> {
         if seconds_since(self.rt, message.begun) >= LONGEST_MESSAGE {
             return Err(io::Error::from(ErrorKind::TimedOut));
@@ -161,7 +163,7 @@ impl<'a, R: Clock + Wait> IncomingStream<'a, R> {
         Err(io::Error::from(ErrorKind::WouldBlock))
     }
 
-    /// Lets it be read in a look so often and no more.
+    /// Counts a read of a poll, and fails with `WouldBlock` once none is left.
     fn count_read(&mut self) -> io::Result<()> {
         match self.reads_left {
             None => Ok(()),
@@ -173,8 +175,8 @@ impl<'a, R: Clock + Wait> IncomingStream<'a, R> {
         }
     }
 
-    /// Reads of a handshake by its deadline. A signal that interrupts the read, as where the process is
-    /// stopped and goes on, doesn't end the handshake: it is read again.
+    /// Reads a part of a handshake by its deadline. A signal that interrupts the read, as when the
+    /// process is stopped and continued, doesn't end the handshake: the read is repeated.
     fn read_of_handshake(&mut self, deadline: Instant, buf: &mut [u8]) -> io::Result<usize>
         ensures { IfOk result (λ bytes. IsPrefixLen bytes buf.new) }
     {
@@ -188,7 +190,7 @@ impl<'a, R: Clock + Wait> IncomingStream<'a, R> {
         Err(io::Error::from(ErrorKind::TimedOut))
     }
 
-    /// Reads what comes, and notes when it came.
+    /// Reads once, and records when the bytes came.
     fn read_once(&mut self, buf: &mut [u8]) -> io::Result<usize>
         ensures { IfOk result (λ bytes. IsPrefixLen bytes buf.new) }
     {
@@ -202,7 +204,7 @@ impl<'a, R: Clock + Wait> IncomingStream<'a, R> {
         Ok(bytes)
     }
 
-    /// So many bytes came.
+    /// Records that this many bytes came.
     fn hear(&mut self, bytes: usize) -> io::Result<()> {
         let now = Instant::now(self.rt)?;
         self.heard = now;
@@ -234,12 +236,13 @@ impl<R: Clock + Wait> Watched for IncomingStream<'_, R> {
         self.stream.set_read_timeout(Some(tick)).is_ok()
     }
 
-    /// The message that came is whole.
+    /// Notes that the message being read is complete.
     fn end_message(&mut self) {
         self.unfinished = None;
     }
 
-    /// A control frame came with so many bytes, perhaps within a message.
+    /// Notes a control frame, perhaps within a message, and takes its bytes off those of the
+    /// message.
     fn end_control(&mut self, payload: usize) {
         let Some(message) = self.unfinished else {
             return;
@@ -269,8 +272,8 @@ impl<R: Clock + Wait> Read for IncomingStream<'_, R> {
 }
 
 impl<R: Clock> Write for IncomingStream<'_, R> {
-    /// What leaves has one time as a whole. Where its client doesn't read, a write waits and takes a
-    /// part, and the next one would wait as long.
+    /// Writes with one deadline for a write and its continuations. If the client doesn't read, a
+    /// write waits and sends a part, and the next one would wait as long again.
     fn write(&mut self, buf: &[u8]) -> io::Result<usize> {
         let begun = match self.untaken {
             None => Instant::now(self.rt)?,
@@ -284,7 +287,7 @@ impl<R: Clock> Write for IncomingStream<'_, R> {
             _ => Some(begun),
         };
         match written {
-            // Its client doesn't read. Else the socket would wait for it once more.
+            // Its client doesn't read. After a WouldBlock the socket would try the write once more.
             Err(error) if error.kind() == ErrorKind::WouldBlock => {
                 Err(io::Error::from(ErrorKind::TimedOut))
             }

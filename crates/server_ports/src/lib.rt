@@ -1,5 +1,5 @@
-//! The ports of a site: connections are accepted, their handshakes made (OCPP-J 1.6, chapter 3), and
-//! the status port answered. It knows no session.
+//! The ports of a site: accepts connections, does their handshakes (OCPP-J 1.6, chapter 3), and
+//! answers the status port. This crate has no sessions.
 #![tactic(auto)]
 
 mod accepting;

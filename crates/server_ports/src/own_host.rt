@@ -1,16 +1,16 @@
-//! Whether a request is for this machine.
+//! Checks whether a request is for this machine.
 
 use http::{HeaderMap, HeaderValue};
 use std::net::IpAddr;
 
-/// Whom a request is for (RFC 9110, section 7.2).
+/// The header with the host that a request is for (RFC 9110, section 7.2).
 const HOST: &str = "host";
 
 /// The name that each machine has for itself (RFC 6761, section 6.3).
 const LOCALHOST: &str = "localhost";
 
-/// Whether a request with these headers is for this machine, where this address is listened at.
-/// Without a field for it, it is no browser's.
+/// Returns whether a request with these headers is for this machine, which listens at this address.
+/// A request without a `Host` field passes: it is no browser's.
 pub fn is_for_this_machine(headers: &HeaderMap<HeaderValue>, address: &str) -> bool {
     headers
         .get_all(HOST)
@@ -21,9 +21,9 @@ pub fn is_for_this_machine(headers: &HeaderMap<HeaderValue>, address: &str) -> b
         })
 }
 
-/// Whether a `Host` field with this value is for this machine, where this address is listened at: it
-/// has an IP address, `localhost`, or the name of that address. A web page whose own name leads to this
-/// machine asks by that name (DNS rebinding).
+/// Returns whether a `Host` field with this value is for this machine, which listens at this
+/// address: the value is an IP address, `localhost`, or the name in that address. A web page whose
+/// own name resolves to this machine sends that name (DNS rebinding), so it is refused.
 pub fn is_own_host(host: &str, address: &str) -> bool {
     let name = name_of(host);
     name.parse::<IpAddr>().is_ok()
@@ -31,8 +31,8 @@ pub fn is_own_host(host: &str, address: &str) -> bool {
         || name.eq_ignore_ascii_case(name_of(address))
 }
 
-/// The name or the address of a host, without its port and the brackets of an IPv6 address (RFC 3986,
-/// section 3.2.2).
+/// Returns the name or the address of a host, without its port and without the brackets of an IPv6
+/// address (RFC 3986, section 3.2.2).
 fn name_of(host: &str) -> &str {
     if let Some(bracketed) = host.strip_prefix('[') {
         return match bracketed.split_once(']') {

@@ -1,15 +1,15 @@
-//! Whom the path of a connection names (OCPP-J 1.6, chapter 3.1.1).
+//! The peer that the path of a connection names (OCPP-J 1.6, chapter 3.1.1).
 
-/// Who connects, by the path of the URL: an operator for a charge point, or the point itself. The
-/// site may have no point of that identity.
+/// The peer that connects, by the path of its URL: an operator for a charge point, or the point
+/// itself. The site may have no point of that identity.
 #[derive(Clone, Copy, PartialEq, Eq)]
 pub enum PathPeer<'a> {
     Operator(&'a str),
     Point(&'a str),
 }
 
-/// Whom a path without a query names. `/operator/ID` is an operator for the point of that identity.
-/// Any other path is the point whose identity is its last segment.
+/// Returns the peer that a path without a query names. `/operator/ID` is an operator for the point
+/// of that identity. Any other path is the point whose identity is its last segment.
 pub fn peer_of_path(path: &str) -> PathPeer<'_> {
     match path.strip_prefix("/operator/") {
         Some(id) if !id.contains('/') => PathPeer::Operator(id),

@@ -1,18 +1,18 @@
-//! What is said of a request for a session.
+//! Lines for people about requests for a session.
 
 use crate::entry::AUTHORIZATION;
 use http::{Request, StatusCode};
 use site_keys::user_in;
 use std::alloc::{AllocError, Global};
 
-/// So many characters of a path and of a user are told.
+/// The most characters of a path or a user in a line.
 const LONGEST_NAME: usize = 100;
 
-/// Digits of a key.
+/// The number of digits of a key.
 const KEY_DIGITS: usize = 40;
 
-/// What is said of a request that is refused by this status: which path it asks for, and which user
-/// it gives. Nothing is said of its password.
+/// Returns the line about a request that is refused with this status: its path and its user, but
+/// not its password.
 pub fn said_of(
     alloc: Global,
     status: StatusCode,
@@ -25,7 +25,7 @@ pub fn said_of(
     Ok(said)
 }
 
-/// What is said of an operator's session: which path it asked for, and which user it gave.
+/// Returns the line about an operator's session: the path and the user of its request.
 pub fn said_of_operator(
     alloc: Global,
     path: &str,
@@ -37,7 +37,7 @@ pub fn said_of_operator(
     Ok(said)
 }
 
-/// The user that a request gives, if it gives one.
+/// Returns the user of a request, if it gives one.
 pub fn user_of(alloc: Global, request: &Request<()>) -> Result<Option<String>, AllocError> {
     match request.headers().get(AUTHORIZATION) {
         Some(value) => user_in(alloc, value.as_bytes()),
@@ -45,7 +45,7 @@ pub fn user_of(alloc: Global, request: &Request<()>) -> Result<Option<String>, A
     }
 }
 
-/// Appends a path, or its end where it is long: that names the point.
+/// Appends a path, or only its end if it is long: the end names the point.
 pub fn push_path(said: &mut String, path: &str) -> Result<(), AllocError> {
     let left_out = path.chars().count().saturating_sub(LONGEST_NAME);
     for character in path.chars().skip(left_out) {
@@ -54,8 +54,8 @@ pub fn push_path(said: &mut String, path: &str) -> Result<(), AllocError> {
     Ok(())
 }
 
-/// Appends a user, or its beginning where it is long. Who gave a key as the user is told so: a key
-/// isn't told.
+/// Appends a user, or only its beginning if it is long. A user that looks like a key isn't printed:
+/// a client may have sent its key in the place of the user.
 fn push_user(said: &mut String, user: &Option<String>) -> Result<(), AllocError> {
     let Some(user) = user else {
         return said.push_str(", no user");
@@ -70,7 +70,7 @@ fn push_user(said: &mut String, user: &Option<String>) -> Result<(), AllocError>
     Ok(())
 }
 
-/// Whether a text is as long as the digits of a key, and has such digits alone.
+/// Returns whether a text has the length of a key and only hexadecimal digits.
 fn is_like_a_key(text: &str) -> bool {
     text.len() == KEY_DIGITS && text.bytes().all(|byte| byte.is_ascii_hexdigit())
 }

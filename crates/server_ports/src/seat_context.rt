@@ -1,4 +1,4 @@
-//! What all seats of a site share.
+//! The state that all seats of a site share.
 
 use ghost_list::ListName;
 use journal::Journal;
@@ -14,19 +14,19 @@ use std::sync::ledger::Ledger;
 use std::sync::{Arc, Mutex, Wait};
 use version_store::{NoName, Shared};
 
-/// What whoever runs a site may choose.
+/// The options of a site that runs.
 #[derive(Drop)]
 pub struct SeatOptions {
-    /// For so many seconds a call waits for its reply. Then its connection is closed.
+    /// The time that a point has to reply to a call, in seconds. Then its connection is closed.
     pub call_timeout: u64,
-    /// The keys of all who may come. Without them anybody may who asks for this machine, but for web
-    /// pages.
+    /// The keys of all clients. Without keys, each client except a web page may connect if its
+    /// request is for this machine.
     pub keys: Option<Keys>,
-    /// The address that is listened at, as it was given.
+    /// The address at which the site listens, as it was given.
     pub address: String,
 }
 
-/// What all threads share that serve a site.
+/// The state that all threads of a site share.
 #[derive(Drop)]
 pub struct SeatContext<C: Ledger, A: Ledger, R, J, N: ListName = NoName> {
     pub rt: R,
@@ -42,7 +42,7 @@ pub struct SeatContext<C: Ledger, A: Ledger, R, J, N: ListName = NoName> {
     pub notices: Notices,
     pub options: SeatOptions,
     pub ahead: AheadClients,
-    /// Whoever reads a long message has this.
+    /// The lock that a thread holds while it reads a long message.
     pub reading: Mutex<()>,
 }
 
@@ -53,7 +53,7 @@ impl<
     J: Journal<N> + Drop,
     N: ListName,
 > SeatContext<C, A, R, J, N> {
-    /// What threads share that serve this book, with this journal.
+    /// Makes the state that the threads share which serve this book, with this journal.
     pub fn make(
         rt: R,
         alloc: Global,
@@ -89,7 +89,7 @@ impl<
         })
     }
 
-    /// Goes on with the boots that were kept of points, each at the place of its point in the site.
+    /// Resumes the boots that were kept of points, each at the place of its point in the site.
     pub fn resume_boots(&self, boots: &[Option<Boot>]) -> Result<(), AllocError> {
         let book = self.shared.lock(&self.rt);
         let copied = book.present().copy();
@@ -107,14 +107,14 @@ impl<
         Ok(())
     }
 
-    /// Goes on with what points rejected before, each at the place of its point in the site.
+    /// Resumes the calls that points rejected before, each at the place of its point in the site.
     pub fn resume_rejections(&self, rejected: Vec<RejectedCalls>) {
         for (place, calls) in rejected.into_iter().enumerate() {
             self.watch.resume_rejections(&self.rt, place, calls);
         }
     }
 
-    /// The journal of what is served.
+    /// Returns the site's journal.
     pub fn journal(&self) -> &J {
         &self.journal
     }

@@ -9,8 +9,8 @@ use std::sync::Wait;
 use std::sync::ledger::Ledger;
 use world::World;
 
-/// A world of these types. Threads need to know of each that it may be sent to them, which they can't
-/// learn of a world's.
+/// The world of these types. They are parameters, since a thread has to know of each that it may be
+/// sent, which the types of a `World` don't say.
 pub struct SeatWorld<C, A, R, J, N> {
     _types: PhantomData<(C, A, R, J, N)>,
 }

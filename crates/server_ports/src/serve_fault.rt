@@ -1,12 +1,12 @@
-//! Why a server ends.
+//! Why a server fails.
 
 use std::alloc::AllocError;
 use thiserror::Error;
 
-/// Why the server didn't end well.
+/// Why the server failed.
 #[derive(Clone, Copy, Debug, Error, PartialEq, Eq)]
 pub enum ServeFault {
-    /// A connection couldn't be accepted. Those before it were served to their end.
+    /// A connection couldn't be accepted. Earlier ones were served to their end.
     #[error("device: socket")]
     Socket,
     #[error("OutOfMemory")]

@@ -19,36 +19,36 @@ use std::time::{Duration, Instant};
 use std::{io, thread};
 use world::Shareable;
 
-/// So many connections are served at a time.
+/// The most connections that are served at a time.
 const STATUS_SEATS: u64 = 4;
 
-/// The stack of a thread that serves them.
+/// The stack of a thread that serves them, in bytes.
 const STATUS_STACK: usize = 2 * 1_048_576;
 
-/// So many milliseconds pass before the next try where a connection couldn't be accepted.
+/// The pause after a connection couldn't be accepted, in milliseconds.
 const PAUSE: u64 = 100;
 
-/// A request has no body that is read.
+/// The longest body of a request in bytes: none is read.
 const LONGEST_BODY: usize = 0;
 
-/// What the threads of a status port share.
+/// The state that the threads of a status port share.
 #[derive(Drop)]
 pub struct StatusPort<C: Ledger, A: Ledger, R, J, N: ListName> {
     pub rt: R,
     pub alloc: Global,
-    /// The address that is listened at, as it was given, where only requests for this machine are
-    /// answered. None where it is open to others, who may have any name for it.
+    /// The address at which the port listens, as it was given, if it answers only requests for this
+    /// machine. None if it is open to others, which may have any name for it.
     pub address: Option<String>,
-    /// What is watched. None while the site is being restored.
+    /// The site that is watched. None while it is being restored.
     pub seats: Mutex<Option<SharedSeats<C, A, R, J, N>>>,
 }
 
-/// What the seats of a site share.
+/// The state that the seats of a site share.
 pub type SharedSeats<C, A, R, J, N> = Arc<SeatContext<C, A, R, J, N>, Global>;
 
 impl<C: Ledger, A: Ledger, R: Wait + Drop, J: Drop, N: ListName> StatusPort<C, A, R, J, N> {
-    /// The port of a site that is being restored, at this address if it answers only requests for this
-    /// machine.
+    /// Returns the port of a site that is being restored. The address is there if the port answers
+    /// only requests for this machine.
     pub fn new(rt: R, alloc: Global, address: Option<String>) -> StatusPort<C, A, R, J, N> {
         StatusPort {
             rt,
@@ -58,14 +58,14 @@ impl<C: Ledger, A: Ledger, R: Wait + Drop, J: Drop, N: ListName> StatusPort<C, A
         }
     }
 
-    /// The site is restored: from now on this is watched.
+    /// Watches this restored site from now on.
     pub fn watch(&self, seats: &Arc<SeatContext<C, A, R, J, N>, Global>) -> Result<(), AllocError> {
         let seats = Arc::try_clone(seats)?;
         *self.seats.lock(&self.rt) = Some(seats);
         Ok(())
     }
 
-    /// What is watched, if the site is restored.
+    /// Returns the site that is watched, if it is restored.
     pub fn seats(&self) -> Result<Option<SharedSeats<C, A, R, J, N>>, AllocError> {
         let seats = self.seats.lock(&self.rt);
         match &*seats {
@@ -75,7 +75,7 @@ impl<C: Ledger, A: Ledger, R: Wait + Drop, J: Drop, N: ListName> StatusPort<C, A
     }
 }
 
-/// Begins to answer at a status port. It goes on when this returns, for as long as the program runs.
+/// Starts the threads of a status port. They run as long as the program does.
 pub fn begin_status<
     C: Ledger + Shareable,
     A: Ledger + Shareable,
@@ -98,7 +98,7 @@ pub fn begin_status<
     Ok(())
 }
 
-/// Answers one connection after another.
+/// Answers one connection after another, forever.
 fn answer_all<
     C: Ledger,
     A: Ledger,
@@ -109,7 +109,7 @@ fn answer_all<
     for _connection in port.rt.forever() {
         match listener.accept() {
             Ok((stream, _)) => {
-                // Whatever a client does, the next one is answered.
+                // A failure is the client's affair: the thread goes on with the next connection.
                 let _ = answer_connection(port, &stream);
             }
             Err(_) => thread::sleep(&port.rt, Duration::from_millis(PAUSE)),

@@ -1,4 +1,4 @@
-//! What is answered at the status port.
+//! The answers of the status port.
 
 use crate::own_host::is_for_this_machine;
 use crate::seat_context::SeatContext;
@@ -18,7 +18,7 @@ use std::rt::Clock;
 use std::sync::Wait;
 use std::sync::ledger::Ledger;
 
-/// Answers the requests of a status port.
+/// The HTTP service of a status port.
 #[derive(Drop)]
 pub struct StatusService<'a, C: Ledger, A: Ledger, R, J, N: ListName> {
     pub port: &'a StatusPort<C, A, R, J, N>,
@@ -69,7 +69,7 @@ impl<
     J: WatchedJournal + Drop,
     N: ListName,
 > StatusService<'_, C, A, R, J, N> {
-    /// Whether a request is for this machine, where that is wanted.
+    /// Returns whether a request is for this machine, or true if the port is open to others.
     fn is_for_us(&self, request: &Request<Bytes>) -> bool {
         match &self.port.address {
             Some(address) => is_for_this_machine(request.headers(), address.as_str()),
@@ -77,8 +77,8 @@ impl<
         }
     }
 
-    /// What a request is answered. The book is locked to be copied, which shares what it holds, and
-    /// not while a text is made.
+    /// Returns the answer to a request. The book is locked while it is copied, which shares its
+    /// contents, and not while a text is made.
     fn answer(&self, request: &Request<Bytes>) -> Result<StatusAnswer, AllocError> {
         let alloc = self.port.alloc;
         let Some(path) = status_path(request.uri().path()) else {
@@ -95,7 +95,7 @@ impl<
     }
 }
 
-/// What is answered at a path that wants to know what the site has.
+/// Returns the answer at a path that reports the state of the site.
 fn answer_by<C: Ledger, A: Ledger, R: Wait + Clock, J, N: ListName>(
     seats: &SeatContext<C, A, R, J, N>,
     journal: JournalReport,
@@ -127,13 +127,13 @@ fn answer_by<C: Ledger, A: Ledger, R: Wait + Clock, J, N: ListName>(
     answer_of(seats.alloc, path, &report)
 }
 
-/// Makes the response of an answer.
+/// Fills in the response with an answer.
 fn fill(alloc: Global, response: &mut Response, answer: StatusAnswer) -> Result<(), AllocError> {
     let StatusAnswer { status, kind, body } = answer;
     if let Ok(status) = StatusCode::from_u16(status) {
         response.status = status;
     }
-    // Each name is a header's value, so only memory may be wanting.
+    // The name of each kind is a valid header value, so only lack of memory can fail here.
     let Ok(value) = HeaderValue::from_str(alloc, kind.name()) else {
         return Err(AllocError);
     };

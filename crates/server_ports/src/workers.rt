@@ -1,4 +1,4 @@
-//! The workers of a site that goes on, and the ways to them.
+//! The workers of `run`, and the channels to them.
 
 ghost use Rattle.std.specs.Prelude.{◌≡◌, ◌≤◌, ◌+◌, ◌/◌};
 
@@ -15,11 +15,11 @@ use std::thread::Threads;
 use version_store::Job;
 use world::Shareable;
 
-/// So many long jobs wait for their workers at most, of the requests that may be open at a time. The
-/// others are left to short ones.
+/// The most long jobs that wait for workers: half of the requests that may be open at a time. The
+/// other half is left to short jobs.
 const MAX_LONG_JOBS: usize = MAX_JOBS / 2;
 
-/// The ways to the workers: those of short jobs, and those of long ones.
+/// The senders of jobs to the workers: to those of short jobs, and to those of long ones.
 #[derive(Drop)]
 pub struct JobSenders {
     short: Sender<Job>,
@@ -27,7 +27,7 @@ pub struct JobSenders {
 }
 
 impl JobSenders {
-    /// The same ways, for another thread.
+    /// Returns clones of the senders, for another thread.
     pub fn share(&self) -> Result<JobSenders, AllocError> {
         Ok(JobSenders {
             short: self.short.clone()?,
@@ -35,14 +35,14 @@ impl JobSenders {
         })
     }
 
-    /// The ways, for a session.
+    /// Returns the senders for a session.
     pub fn jobs(&self) -> Jobs<'_> {
         Jobs::new(&self.short, &self.long)
     }
 }
 
-/// Begins the workers on threads of their own. Half of them take short jobs, and half of them long
-/// ones: one at least takes each. Where no thread can be made nobody takes the jobs, and sessions
+/// Starts the workers on threads of their own. Half of them take short jobs, and half of them long
+/// ones: at least one each. If no thread can be made, no worker takes the jobs, and sessions
 /// compile themselves.
 pub fn begin_workers<
     C: Ledger + Shareable,
@@ -64,7 +64,7 @@ pub fn begin_workers<
     })
 }
 
-/// Begins so many workers that take the same jobs, of which so many may wait. Returns the way to them.
+/// Starts `workers` threads on one queue of at most `most_waiting` jobs. Returns its sender.
 fn begin_pool<
     C: Ledger + Shareable,
     A: Ledger + Shareable,

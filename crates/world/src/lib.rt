@@ -1,4 +1,4 @@
-//! What sessions are generic in: the types of their site, and the stream of their socket.
+//! The types that sessions are generic in: those of their site, and the stream of their socket.
 #![tactic(auto)]
 
 mod shareable;

@@ -1,20 +1,20 @@
-//! A stream that a session looks at while it waits.
+//! A stream that a session polls while it waits.
 
-/// A stream that can be looked at: what has come is read, and more isn't waited for.
+/// A stream that can be polled: a read takes the bytes that have arrived and hardly waits for more.
 pub trait Watched {
-    /// From now on a read waits for a moment at most. False where it can't.
+    /// Makes each read wait for a moment at most. Returns false if the stream can't.
     fn begin_look(&mut self) -> bool {
         false
     }
 
-    /// Reads wait again as they did before. False where they can't.
+    /// Makes reads wait again as they did before. Returns false if the stream can't.
     fn end_look(&mut self) -> bool {
         true
     }
 
-    /// The message that came is whole.
+    /// Notes that the message being read is complete.
     fn end_message(&mut self) {}
 
-    /// A control frame came with so many bytes, perhaps within a message.
+    /// Notes a control frame with a payload of this many bytes, perhaps within a message.
     fn end_control(&mut self, _bytes: usize) {}
 }

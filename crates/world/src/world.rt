@@ -10,11 +10,11 @@ use version_store::NoName;
 
 /// The types that a site's sessions are generic in.
 pub trait World {
-    /// Counts the changes of the book.
+    /// The ledger that counts the changes of the book.
     type Changes: Ledger;
-    /// Counts its answers.
+    /// The ledger that counts the answers of the book.
     type Answers: Ledger;
-    /// The name of the ghost list that records its states.
+    /// The name of the ghost list that records the states of the book.
     type Name: ListName;
 
     type Runtime: Wait;

@@ -1,4 +1,4 @@
--- Nobody is refused but who isn't admitted.
+-- A peer is refused if and only if the keys don't admit it.
 use Rattle.server_ports.proofs.entry.refusal_by_keys.Goals as goal
 
 pub returns : goal.returns
