@@ -57,15 +57,8 @@ pub fn first_break(alloc: Global, text: &str) -> Result<JsonFault, AllocError> {
     };
     // Each token has at least one byte, so this range ends the loop without a proof of its own.
     for _ in 0..text.len() {
-        let start = reader.offset();
-        let Some(token) = reader.next() else {
+        let Some(lexeme) = next_lexeme(bytes, &mut reader) else {
             break;
-        };
-        let comma = comma_between(bytes, start, reader.offset());
-        let lexeme = Lexeme {
-            token,
-            start,
-            comma,
         };
         if let Some(broken) = walk.take(bytes, lexeme)? {
             return Ok(fault_at(text, broken));
@@ -76,6 +69,17 @@ pub fn first_break(alloc: Global, text: &str) -> Result<JsonFault, AllocError> {
         wanted: walk.wanted,
     };
     Ok(fault_at(text, end))
+}
+
+/// Reads the next token of a text.
+fn next_lexeme<'a>(bytes: &[u8], reader: &mut Reader<'a>) -> Option<Lexeme<'a>> {
+    let start = reader.offset();
+    let token = reader.next()?;
+    Some(Lexeme {
+        token,
+        start,
+        comma: comma_between(bytes, start, reader.offset()),
+    })
 }
 
 /// Returns the offset of a comma that only blanks separate from `end`.
@@ -204,12 +208,7 @@ impl Walk {
     /// Returns the break at a token that isn't allowed: at its first byte, in it, or after it.
     // The library gives no cause with a bad token, only its offset, so its bytes are read again.
     fn break_in(&self, bytes: &[u8], start: usize) -> Break {
-        let may_begin = match bytes.get(start) {
-            Some(b'"') => self.wants_name() || self.wants_value(),
-            Some(first) => self.wants_value() && begins_lexeme(*first),
-            None => false,
-        };
-        if !may_begin {
+        if !self.may_begin(bytes.get(start)) {
             return Break {
                 offset: start,
                 wanted: self.wanted,
@@ -225,6 +224,15 @@ impl Walk {
                 },
             },
             Err(broken) => broken,
+        }
+    }
+
+    /// Returns whether a token with this first byte is allowed.
+    fn may_begin(&self, first: Option<&u8>) -> bool {
+        match first {
+            Some(b'"') => self.wants_name() || self.wants_value(),
+            Some(first) => self.wants_value() && begins_lexeme(*first),
+            None => false,
         }
     }
 }

@@ -84,18 +84,7 @@ struct Walk<'text> {
 pub(crate) fn site_names(alloc: Global, text: &str) -> Result<SiteNames<'_>, AllocError> {
     let mut scratch = Scratch::new(alloc);
     let mut reader = Reader::new(text, &mut scratch)?;
-    let mut walk = Walk {
-        alloc,
-        text,
-        open: Vec::new(alloc),
-        name: Span { start: 0, end: 0 },
-        names: SiteNames {
-            unknown: Vec::new(alloc),
-            more: false,
-            meant: Vec::new(alloc),
-            repeated: Vec::new(alloc),
-        },
-    };
+    let mut walk = Walk::new(alloc, text);
     // Each token has at least one byte, so this range ends the loop without a proof of its own.
     for _ in 0..text.len() {
         let start = reader.offset();
@@ -109,6 +98,22 @@ pub(crate) fn site_names(alloc: Global, text: &str) -> Result<SiteNames<'_>, All
 }
 
 impl<'text> Walk<'text> {
+    /// Begins before the first token.
+    fn new(alloc: Global, text: &'text str) -> Walk<'text> {
+        Walk {
+            alloc,
+            text,
+            open: Vec::new(alloc),
+            name: Span { start: 0, end: 0 },
+            names: SiteNames {
+                unknown: Vec::new(alloc),
+                more: false,
+                meant: Vec::new(alloc),
+                repeated: Vec::new(alloc),
+            },
+        }
+    }
+
     /// Takes the token that begins at an offset.
     fn take(&mut self, start: usize, token: Token<'_>) -> Result<(), AllocError> {
         match token {
@@ -180,29 +185,17 @@ impl<'text> Walk<'text> {
 
     /// Checks the name read last.
     fn take_name(&mut self) -> Result<(), AllocError> {
-        let owner = match self.open.last() {
-            Some(open) => open.owner,
-            None => Owner::Other,
-        };
-        let point = match owner {
-            Owner::Site => None,
-            Owner::Point(index) => Some(index),
-            Owner::Points | Owner::Other => return Ok(()),
+        let point = match self.open.last().map(|open| open.owner) {
+            Some(Owner::Site) => None,
+            Some(Owner::Point(index)) => Some(index),
+            Some(Owner::Points | Owner::Other) | None => return Ok(()),
         };
         let Some(name) = text_of(self.text, self.name) else {
             return Ok(());
         };
         let offset = self.name.start.saturating_sub(1);
-        for (place, field) in fields_of(point).iter().enumerate() {
-            if *field == name {
-                return self.take_field(
-                    place,
-                    RepeatedField {
-                        name: *field,
-                        offset,
-                    },
-                );
-            }
+        if let Some((place, name)) = known_field(point, name) {
+            return self.take_field(place, RepeatedField { name, offset });
         }
         let field = UnknownField {
             point,
@@ -226,6 +219,16 @@ impl<'text> Walk<'text> {
         *seen = true;
         Ok(())
     }
+}
+
+/// Returns the index and the name of a field of a point or of the site, if it is a known one.
+fn known_field(point: Option<usize>, name: &str) -> Option<(usize, &'static str)> {
+    for (place, field) in fields_of(point).iter().enumerate() {
+        if *field == name {
+            return Some((place, *field));
+        }
+    }
+    None
 }
 
 /// Returns the known fields of a point or of the site.

@@ -3,7 +3,7 @@
 use crate::report::Report;
 use messages::AuditOutcome;
 use replay::{PlayedLine, Playing, PointChange};
-use std::alloc::AllocError;
+use std::alloc::{AllocError, Global};
 
 /// The audit whose call a line's reply confirmed, and the verdict on that reply.
 #[derive(Clone, Copy)]
@@ -38,31 +38,33 @@ pub(crate) fn judged_audit(
 /// Checks the reply to an audit's call. Reports a point that isn't in step, or an audit without a
 /// verdict.
 pub(crate) fn check_verdict(report: &mut Report, audit: &JudgedAudit) -> Result<(), AllocError> {
-    let alloc = report.alloc;
+    let Some(message) = verdict_message(report.alloc, audit)? else {
+        return Ok(());
+    };
+    match audit.outcome {
+        AuditOutcome::Unsettled => report.remark_at(report.line(), message),
+        _ => report.warn(message),
+    }
+}
+
+/// Describes the outcome of an audit, unless it is to be expected.
+fn verdict_message(alloc: Global, audit: &JudgedAudit) -> Result<Option<String>, AllocError> {
     let JudgedAudit {
         connector,
         duration,
         ..
     } = *audit;
-    match audit.outcome {
-        AuditOutcome::Differs => {
-            let message = format!(in alloc;
-                "Differs: the point's schedule of connector {connector} for {duration} s differs from what the central system means"
-            )?;
-            report.warn(message)
-        }
-        AuditOutcome::Rejected => {
-            let message = format!(in alloc;
-                "Rejected: the point tells no schedule of connector {connector} for {duration} s"
-            )?;
-            report.warn(message)
-        }
-        AuditOutcome::Unsettled => {
-            let message = format!(in alloc;
-                "Unsettled: the point's schedule of connector {connector} for {duration} s can't be compared with what the central system means"
-            )?;
-            report.remark_at(report.line(), message)
-        }
-        AuditOutcome::NoAudit | AuditOutcome::Waiting | AuditOutcome::Agrees => Ok(()),
-    }
+    let message = match audit.outcome {
+        AuditOutcome::Differs => format!(in alloc;
+            "Differs: the point's schedule of connector {connector} for {duration} s differs from what the central system means"
+        )?,
+        AuditOutcome::Rejected => format!(in alloc;
+            "Rejected: the point tells no schedule of connector {connector} for {duration} s"
+        )?,
+        AuditOutcome::Unsettled => format!(in alloc;
+            "Unsettled: the point's schedule of connector {connector} for {duration} s can't be compared with what the central system means"
+        )?,
+        AuditOutcome::NoAudit | AuditOutcome::Waiting | AuditOutcome::Agrees => return Ok(None),
+    };
+    Ok(Some(message))
 }

@@ -29,6 +29,21 @@ pub(crate) struct LineCall<'a, 'node, 'memory> {
     pub payload: Node<'node, 'memory>,
 }
 
+impl<'a, 'node, 'memory> LineCall<'a, 'node, 'memory> {
+    /// Makes the CALL of a line's message.
+    pub(crate) fn new(
+        text: &'a LineMessage<'a>,
+        action: &'a str,
+        payload: Node<'node, 'memory>,
+    ) -> LineCall<'a, 'node, 'memory> {
+        LineCall {
+            text,
+            action,
+            payload,
+        }
+    }
+}
+
 /// Checks a CALL.
 pub(crate) fn check_call(
     report: &mut Report,
@@ -59,16 +74,12 @@ pub(crate) fn refuse_action(
     };
     let action = excerpt(alloc, name)?;
     let message = match similar_name(alloc, name, actions.as_slice())? {
-        Some(meant) => {
-            format!(in alloc;
-                "NotImplemented: \"{action}\" is no action of {sender} (\"{meant}\" is one)"
-            )?
-        }
-        None if ActionKind::named(name).is_some() => {
-            format!(in alloc;
-                "NotImplemented: \"{action}\" is an action of the other side, not of {sender}"
-            )?
-        }
+        Some(meant) => format!(in alloc;
+            "NotImplemented: \"{action}\" is no action of {sender} (\"{meant}\" is one)"
+        )?,
+        None if ActionKind::named(name).is_some() => format!(in alloc;
+            "NotImplemented: \"{action}\" is an action of the other side, not of {sender}"
+        )?,
         None => format!(in alloc;
             "NotImplemented: \"{action}\" is no action of {sender} that is known here"
         )?,
@@ -119,15 +130,7 @@ fn check_asked(
     kind: ActionKind,
     action: Action,
 ) -> Result<(), AllocError> {
-    // An unknown field of a clear has a warning of its own: it may clear more than is meant.
-    if kind.side().is_same(Side::Operator) && kind != ActionKind::ClearChargingProfile {
-        warn_unknown(report, call.text.frame, kind)?;
-        let payload = PayloadObject {
-            fields: fields_of(kind),
-            node: call.payload,
-        };
-        remark_unzoned(report, payload)?;
-    }
+    check_operator_fields(report, call, kind)?;
     match action {
         Action::SetChargingProfile { connector, profile } => {
             check_install(report, call.text, connector, profile)
@@ -139,17 +142,43 @@ fn check_asked(
         Action::AuditPoint {
             connector,
             duration,
-        } => {
-            let request = ScheduleRequest {
-                connector,
-                duration,
-                unit: None,
-            };
-            check_ask(report, call.text, &request)
-        }
+        } => check_audit_request(report, call.text, connector, duration),
         Action::StartTransaction(start) => check_start(report, call.text, start.connector),
         _ => check_refused(report, call.text),
     }
+}
+
+/// Warns of an operator's unknown fields, and remarks on its instants without a zone.
+fn check_operator_fields(
+    report: &mut Report,
+    call: &LineCall<'_, '_, '_>,
+    kind: ActionKind,
+) -> Result<(), AllocError> {
+    // An unknown field of a clear has a warning of its own: it may clear more than is meant.
+    if !kind.side().is_same(Side::Operator) || kind == ActionKind::ClearChargingProfile {
+        return Ok(());
+    }
+    warn_unknown(report, call.text.frame, kind)?;
+    let payload = PayloadObject {
+        fields: fields_of(kind),
+        node: call.payload,
+    };
+    remark_unzoned(report, payload)
+}
+
+/// Checks the request for an audit.
+fn check_audit_request(
+    report: &mut Report,
+    text: &LineMessage<'_>,
+    connector: u32,
+    duration: u32,
+) -> Result<(), AllocError> {
+    let request = ScheduleRequest {
+        connector,
+        duration,
+        unit: None,
+    };
+    check_ask(report, text, &request)
 }
 
 /// Reports the refusal of any other action, unless it depends on the point's state.

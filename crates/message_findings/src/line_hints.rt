@@ -29,19 +29,9 @@ pub(crate) fn mistake_message(
         ScriptLineFault::BadText => {
             format!(in alloc; "{fault}: it isn't UTF-8 from its byte at offset {valid} on")
         }
-        ScriptLineFault::BadLine => {
-            let hint = form_hint(alloc, text)?;
-            let rule = line_sentence(fault);
-            let text = excerpt(alloc, text)?;
-            format!(in alloc; "{fault}: {hint}; {rule}: {text}")
-        }
+        ScriptLineFault::BadLine => bad_line(alloc, text),
         ScriptLineFault::BadInstant => bad_instant(alloc, word_at(text, 0)),
-        ScriptLineFault::UnknownPoint => {
-            let id = word_at(text, 2);
-            let hint = point_hint(report, site, id)?;
-            let id = excerpt(alloc, id)?;
-            format!(in alloc; "{fault}: the site has no point \"{id}\"{hint}")
-        }
+        ScriptLineFault::UnknownPoint => unknown_point(report, site, word_at(text, 2)),
         ScriptLineFault::NotComposite | ScriptLineFault::UnknownRequest => {
             let why = line_sentence(fault);
             format!(in alloc; "{fault}: {why}")
@@ -52,6 +42,24 @@ pub(crate) fn mistake_message(
 /// Returns the word at an index in a line, counted from 0, or an empty text.
 fn word_at(line: &str, place: usize) -> &str {
     line.split(' ').nth(place).unwrap_or("")
+}
+
+/// Describes the fault of a line that has none of the forms.
+fn bad_line(alloc: Global, text: &str) -> Result<String, AllocError> {
+    let hint = form_hint(alloc, text)?;
+    let fault = ScriptLineFault::BadLine;
+    let rule = line_sentence(fault);
+    let text = excerpt(alloc, text)?;
+    format!(in alloc; "{fault}: {hint}; {rule}: {text}")
+}
+
+/// Describes the fault of a line whose point isn't in the site.
+fn unknown_point(report: &mut Report, site: &Site, id: &str) -> Result<String, AllocError> {
+    let alloc = report.alloc;
+    let hint = point_hint(report, site, id)?;
+    let fault = ScriptLineFault::UnknownPoint;
+    let id = excerpt(alloc, id)?;
+    format!(in alloc; "{fault}: the site has no point \"{id}\"{hint}")
 }
 
 /// Describes the fault of a first word that is no instant.
@@ -108,6 +116,11 @@ fn plain_hint(text: &str) -> Option<&'static str> {
     if text.starts_with(' ') {
         return Some("the line begins with a blank");
     }
+    first_word_hint(text)
+}
+
+/// Returns a mistake in a line's first word, or in the blanks after it.
+fn first_word_hint(text: &str) -> Option<&'static str> {
     let (first, rest) = text.split_once(' ').unwrap_or((text, ""));
     if first.contains('\t') || rest.starts_with('\t') {
         return Some("a tab stands where one blank is wanted");

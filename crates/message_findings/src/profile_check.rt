@@ -264,7 +264,6 @@ fn warn_recurrence(
     profile: &Profile,
     recurrency: Recurrency,
 ) -> Result<(), AllocError> {
-    let alloc = report.alloc;
     let length = recurrency.length();
     let unit = match recurrency {
         Recurrency::Daily => "day",
@@ -273,20 +272,31 @@ fn warn_recurrence(
     let end = profile.schedule.duration.map_or(length, u64::from);
     // With a shorter duration, `warn_duration` has reported the period already.
     if let (true, Some((index, start))) = (end >= length, first_past(profile, length)) {
-        let message = format!(in alloc;
+        let message = format!(in report.alloc;
             "chargingSchedulePeriod[{index}] starts at {start} s, when the {unit} of {length} s is over: it never counts"
         )?;
         warn_of(report, profile, message.as_str())?;
     }
-    if let Some(duration) = profile.schedule.duration {
-        if u64::from(duration) > length {
-            let message = format!(in alloc;
-                "the duration of {duration} s is longer than the {unit} of {length} s, which begins anew all the same"
-            )?;
-            warn_of(report, profile, message.as_str())?;
-        } else if u64::from(duration) < length {
-            warn_gap(report, profile, recurrency, u64::from(duration), length)?;
-        }
+    if end > length {
+        let message = format!(in report.alloc;
+            "the duration of {end} s is longer than the {unit} of {length} s, which begins anew all the same"
+        )?;
+        warn_of(report, profile, message.as_str())?;
+    }
+    warn_gaps(report, profile, recurrency)
+}
+
+/// Warns of the gaps of a Daily or Weekly schedule: after its duration, and before its first
+/// period.
+fn warn_gaps(
+    report: &mut Report,
+    profile: &Profile,
+    recurrency: Recurrency,
+) -> Result<(), AllocError> {
+    let length = recurrency.length();
+    let end = profile.schedule.duration.map_or(length, u64::from);
+    if end < length {
+        warn_gap(report, profile, recurrency, end, length)?;
     }
     match profile.schedule.periods.as_slice().first() {
         Some(first) if first.start > 0 => {

@@ -88,13 +88,7 @@ fn refuse_start(
             let message = unknown_point_message(report, text.site, text.point)?;
             report.fault(message)
         }
-        (Refusal::UnknownConnector, _) => {
-            let count = connector_count(text);
-            let found = format!(in alloc;
-                "connectorId is {connector}, and a transaction starts at one from 1 to {count}"
-            )?;
-            reject(report, refusal, Some(found.as_str()))
-        }
+        (Refusal::UnknownConnector, _) => reject_connector(report, text, connector),
         (Refusal::WrongUnit, _) => reject(report, refusal, Some(unit_found(text.site))),
         (Refusal::NotTxProfile, Some(purpose)) => {
             let name = purpose_name(purpose);
@@ -106,19 +100,17 @@ fn refuse_start(
     }
 }
 
-/// Warns that a point doesn't accept a remote start.
-pub(crate) fn warn_not_started(
+/// Reports a connector at which no transaction can start.
+fn reject_connector(
     report: &mut Report,
-    id: &str,
-    status: &str,
+    text: &LineMessage<'_>,
+    connector: u32,
 ) -> Result<(), AllocError> {
-    let alloc = report.alloc;
-    let id = excerpt(alloc, id)?;
-    let status = excerpt(alloc, status)?;
-    let message = format!(in alloc;
-        "the point answers call \"{id}\" with {status}: it starts no transaction, and the remote start waits no more"
+    let count = connector_count(text);
+    let found = format!(in report.alloc;
+        "connectorId is {connector}, and a transaction starts at one from 1 to {count}"
     )?;
-    report.warn(message)
+    reject(report, Refusal::UnknownConnector, Some(found.as_str()))
 }
 
 /// Warns of a transaction without the profile of the remote start that waited at its connector.

@@ -12,6 +12,7 @@ use findings::Finding;
 use ocppj_frame::ReadingMemory;
 use replay::{Held, PlayedLine, Playing, PrintedLine, ScriptLine, ScriptLineFault};
 use std::alloc::{AllocError, Global};
+use texts::SentText;
 
 /// A check of a script, line by line as it is played. It finds faults of lines, refused messages,
 /// and messages that probably do something unintended. It leaves the refusals that depend on the
@@ -66,40 +67,44 @@ impl ScriptCheck {
         playing: &Playing<'_>,
         played: &PlayedLine<'_>,
     ) -> Result<(), AllocError> {
-        let report = &mut self.report;
         let site = playing.machine().site();
         match &played.said {
             None => Ok(()),
-            Some(Ok(ScriptLine::Text(sent))) => {
-                let starts = self.starts.follow(playing, played, sent.point())?;
-                let text = LineMessage {
-                    audit: judged_audit(playing, played, sent.point()),
-                    replies_to_start: starts.is_reply,
-                    ..LineMessage::new(site, played, sent)
-                };
-                check_text(report, &mut self.memory, &text)?;
-                match &starts.ended {
-                    Some(ended) => check_ended_start(report, ended),
-                    None => Ok(()),
-                }
-            }
+            Some(Ok(ScriptLine::Text(sent))) => self.check_sent(playing, played, sent),
             Some(Ok(ScriptLine::Hold(sent))) => {
-                check_text(
-                    report,
-                    &mut self.memory,
-                    &LineMessage::held(site, played, sent),
-                )
+                let text = LineMessage::held(site, played, sent);
+                check_text(&mut self.report, &mut self.memory, &text)
             }
             Some(Ok(ScriptLine::Release(number))) => {
                 if played.outcome.is_fault {
-                    return unknown_request(report, *number);
+                    return unknown_request(&mut self.report, *number);
                 }
                 Ok(())
             }
             Some(Err(fault)) => {
-                let message = mistake_message(report, site, played.line, *fault)?;
-                report.fault(message)
+                let message = mistake_message(&mut self.report, site, played.line, *fault)?;
+                self.report.fault(message)
             }
+        }
+    }
+
+    /// Checks the message of a line, and the remote start that ended with it.
+    fn check_sent(
+        &mut self,
+        playing: &Playing<'_>,
+        played: &PlayedLine<'_>,
+        sent: &SentText<'_>,
+    ) -> Result<(), AllocError> {
+        let starts = self.starts.follow(playing, played, sent.point())?;
+        let text = LineMessage {
+            audit: judged_audit(playing, played, sent.point()),
+            replies_to_start: starts.is_reply,
+            ..LineMessage::new(playing.machine().site(), played, sent)
+        };
+        check_text(&mut self.report, &mut self.memory, &text)?;
+        match &starts.ended {
+            Some(ended) => check_ended_start(&mut self.report, ended),
+            None => Ok(()),
         }
     }
 

@@ -69,33 +69,14 @@ impl PendingRemoteStarts {
         played: &PlayedLine<'_>,
         point: &str,
     ) -> Result<StartsChange, AllocError> {
-        let mut change = StartsChange {
-            is_reply: false,
-            ended: None,
-        };
         let Some(place) = playing.machine().site().place_of(point) else {
-            return Ok(change);
+            return Ok(StartsChange::none());
         };
         let alloc = self.alloc;
         let Some(known) = self.known(place)? else {
-            return Ok(change);
+            return Ok(StartsChange::none());
         };
-        match played.outcome.change {
-            PointChange::Confirmed => {
-                change.is_reply = known.is_asked;
-                // Without an `Accepted` the start is dropped, so the starts are read again.
-                known.is_asked = false;
-                known.waiting = known_starts(alloc, playing, point)?;
-            }
-            PointChange::Transaction => {
-                change.ended = ended_start(alloc, known, playing, point)?;
-                known.waiting = known_starts(alloc, playing, point)?;
-            }
-            PointChange::RemoteStart => known.waiting = known_starts(alloc, playing, point)?,
-            PointChange::Nothing | PointChange::Profiles | PointChange::Audit => {}
-        }
-        known.follow_calls(played);
-        Ok(change)
+        known.follow(alloc, playing, played, point)
     }
 
     /// Returns the remote starts of the point at this index of the site.
@@ -110,7 +91,44 @@ impl PendingRemoteStarts {
     }
 }
 
+impl StartsChange {
+    /// Returns that of a line without an effect on remote starts.
+    fn none() -> StartsChange {
+        StartsChange {
+            is_reply: false,
+            ended: None,
+        }
+    }
+}
+
 impl PointStarts {
+    /// Follows the line played last, of this point.
+    fn follow(
+        &mut self,
+        alloc: Global,
+        playing: &Playing<'_>,
+        played: &PlayedLine<'_>,
+        point: &str,
+    ) -> Result<StartsChange, AllocError> {
+        let mut change = StartsChange::none();
+        match played.outcome.change {
+            PointChange::Confirmed => {
+                change.is_reply = self.is_asked;
+                // Without an `Accepted` the start is dropped, so the starts are read again.
+                self.is_asked = false;
+                self.waiting = known_starts(alloc, playing, point)?;
+            }
+            PointChange::Transaction => {
+                change.ended = ended_start(alloc, self, playing, point)?;
+                self.waiting = known_starts(alloc, playing, point)?;
+            }
+            PointChange::RemoteStart => self.waiting = known_starts(alloc, playing, point)?,
+            PointChange::Nothing | PointChange::Profiles | PointChange::Audit => {}
+        }
+        self.follow_calls(played);
+        Ok(change)
+    }
+
     /// Follows the calls that a line sent.
     fn follow_calls(&mut self, played: &PlayedLine<'_>) {
         for line in &played.outcome.printed {
@@ -156,19 +174,20 @@ fn ended_start(
     };
     match (start.profile, book.transaction_at(start.connector)) {
         (Some(profile), Some(active)) if !has_tx_profile(book, start.connector, profile) => {
-            let id_tag = start.id_tag.copy(alloc)?;
-            // An idTag is a CiString, whose case doesn't count. Here that holds for ASCII letters.
-            let is_same_tag = id_tag
-                .as_str()
-                .eq_ignore_ascii_case(active.begin.id_tag.as_str());
             Ok(Some(EndedStart {
-                id_tag,
+                id_tag: start.id_tag.copy(alloc)?,
                 profile,
-                is_same_tag,
+                is_same_tag: is_same_tag(&start.id_tag, &active.begin.id_tag),
             }))
         }
         _ => Ok(None),
     }
+}
+
+/// Returns whether two idTags are the same.
+// An idTag is a CiString, whose case doesn't count. Here that holds for ASCII letters.
+fn is_same_tag(tag: &IdTag, other: &IdTag) -> bool {
+    tag.as_str().eq_ignore_ascii_case(other.as_str())
 }
 
 /// Returns whether a connector has a TxProfile of this id.

@@ -3,7 +3,6 @@
 use crate::audit_check::check_verdict;
 use crate::call_check::{LineCall, check_call};
 use crate::line_text::{LineMessage, Sender};
-use crate::remote_start_check::warn_not_started;
 use crate::report::Report;
 use crate::sentences::{call_sentence, line_sentence};
 use findings::{JsonFault, excerpt, first_break, json_fault_text};
@@ -64,11 +63,7 @@ fn check_frame(
             payload,
             ..
         } => {
-            let call = LineCall {
-                text,
-                action: action.as_str(),
-                payload: payload.root(),
-            };
+            let call = LineCall::new(text, action.as_str(), payload.root());
             check_call(report, &call)
         }
         _ if text.sender == Sender::Hold => not_composite(report, text, "it is no CALL"),
@@ -137,14 +132,25 @@ fn check_reply(
     let (true, Some(status)) = (text.confirms_call, status) else {
         return Ok(());
     };
-    if text.replies_to_start {
-        return warn_not_started(report, id, status);
-    }
+    warn_not_accepted(report, text, id, status)
+}
+
+/// Warns that a point doesn't accept the call in flight.
+fn warn_not_accepted(
+    report: &mut Report,
+    text: &LineMessage<'_>,
+    id: &str,
+    status: &str,
+) -> Result<(), AllocError> {
+    let alloc = report.alloc;
+    let effect = if text.replies_to_start {
+        "it starts no transaction, and the remote start waits no more"
+    } else {
+        "the central system keeps what the call is of, so its schedules aren't what the point has"
+    };
     let id = excerpt(alloc, id)?;
     let status = excerpt(alloc, status)?;
-    let message = format!(in alloc;
-        "the point answers call \"{id}\" with {status}: the central system keeps what the call is of, so its schedules aren't what the point has"
-    )?;
+    let message = format!(in alloc; "the point answers call \"{id}\" with {status}: {effect}")?;
     report.warn(message)
 }
 

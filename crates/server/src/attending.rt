@@ -1,4 +1,4 @@
-//! A session over a stream that waits no longer than it has to.
+//! The session of a seat: serves messages, and enforces the time limits of its client.
 
 ghost use Rattle.session.specs.Serving.{KeepsPass};
 
@@ -21,35 +21,35 @@ use std::time::Instant;
 use tungstenite::{Message, NoMask, WebSocket};
 use version_store::Pass;
 
-/// A schedule of no more changes of limits than these is compiled by its session: that takes at most
-/// some 0.3 milliseconds, mostly less than to wake a worker.
+/// The most changes of limits in a schedule that a session compiles itself. That takes at most some
+/// 0.3 milliseconds, mostly less than waking a worker.
 const MOST_OF_OWN: u64 = 1_000;
 
-/// What a seat knows of the client that it serves.
+/// The state of a session's client, as its seat sees it.
 #[derive(Drop)]
 struct Attention {
-    /// For so many seconds a call waits for its reply.
+    /// The time that a call waits for its reply, in seconds.
     call_timeout: u64,
     begun: Instant,
-    /// Whether a message came.
+    /// Whether a message of the client came.
     has_spoken: bool,
-    /// When it was looked last whether a call waits for it.
+    /// The time of the last check whether a call waits for the client.
     looked: Instant,
-    /// Whether it was pinged since it was heard.
+    /// Whether the client was pinged in its present silence.
     is_pinged: bool,
-    /// The last call that was sent to it.
+    /// The last call that was sent to the client, until it is overdue.
     sent: Option<CallMoment>,
 }
 
-/// When a call was sent to a point.
+/// A call that was sent to a point, and when.
 #[derive(Clone, Copy)]
 struct CallMoment {
     number: u64,
     moment: Instant,
 }
 
-/// Serves messages until the socket is closed or fails, the client is silent for too long, or a call
-/// to it has no reply in time. Returns how it ended.
+/// Serves messages until the socket is closed or fails, the client is silent for too long, or a
+/// call to it has no reply in time. Returns how the session ended.
 pub(crate) fn run_session<C: Ledger, A: Ledger, R: Wait + Clock, J: Journal<N>, N: ListName>(
     context: &Context<'_, SeatWorld<C, A, R, J, N>>,
     watch: &SessionWatch<'_, C, A, R, J, N>,
@@ -84,7 +84,7 @@ pub(crate) fn run_session<C: Ledger, A: Ledger, R: Wait + Clock, J: Journal<N>, 
     unreachable!()
 }
 
-/// Serves the next message, or does what is due where none comes. An error ends the session.
+/// Serves the next message, or does what is due if none comes. An error ends the session.
 fn attend_next<C: Ledger, A: Ledger, R: Wait + Clock, J: Journal<N>, N: ListName>(
     context: &Context<'_, SeatWorld<C, A, R, J, N>>,
     watch: &SessionWatch<'_, C, A, R, J, N>,
@@ -105,7 +105,7 @@ fn attend_next<C: Ledger, A: Ledger, R: Wait + Clock, J: Journal<N>, N: ListName
             sent
         }
         Heard::Control { .. } => {
-            // Whoever pings all the time leaves no time without a byte.
+            // A client that pings all the time would never let a read time out, and get no calls.
             if seconds_since(context.rt, attention.looked) < TICK {
                 None
             } else {
@@ -113,7 +113,8 @@ fn attend_next<C: Ledger, A: Ledger, R: Wait + Clock, J: Journal<N>, N: ListName
             }
         }
         Heard::Nothing => {
-            // What was noted though no text leaves for it, as a point's reply, is written all the same.
+            // Some noted lines have no message that leaves after them, as those of a point's reply.
+            // They are written here.
             let _ = context.journal.write_out();
             keep_alive(socket, attention)?;
             send_to_silent(context, socket, core, attention)?
@@ -135,7 +136,7 @@ fn attend_next<C: Ledger, A: Ledger, R: Wait + Clock, J: Journal<N>, N: ListName
     Ok(())
 }
 
-/// Pings a client that is silent, once. After a longer silence the session ends.
+/// Pings a silent client once. After a longer silence it ends the session.
 fn keep_alive<R: Wait + Clock>(
     socket: &mut WebSocket<IncomingStream<'_, R>, NoMask>,
     attention: &mut Attention,
@@ -159,8 +160,8 @@ fn keep_alive<R: Wait + Clock>(
     }
 }
 
-/// Sends the call that waits for a point, which has nothing to say itself. Returns which. A
-/// point that has just connected is left the time for its BootNotification.
+/// Sends the call that waits for a silent point, and returns it. A point that has just connected
+/// first gets the time for its BootNotification.
 fn send_to_silent<C: Ledger, A: Ledger, R: Wait + Clock, J: Journal<N>, N: ListName>(
     context: &Context<'_, SeatWorld<C, A, R, J, N>>,
     socket: &mut WebSocket<IncomingStream<'_, R>, NoMask>,
@@ -180,7 +181,7 @@ fn send_to_silent<C: Ledger, A: Ledger, R: Wait + Clock, J: Journal<N>, N: ListN
 }
 
 impl Attention {
-    /// A call was sent just now. Without a clock nobody waits for its reply.
+    /// Records that a call was sent just now. Without a clock its reply has no deadline.
     fn note_sent<R: Clock>(&mut self, rt: &R, number: u64) {
         self.sent = match Instant::now(rt) {
             Ok(moment) => Some(CallMoment { number, moment }),
@@ -188,7 +189,7 @@ impl Attention {
         };
     }
 
-    /// The number of the last call, where it has no reply, though it was sent long enough ago.
+    /// Returns the number of the last call if it has no reply in time.
     fn overdue<C: Ledger, A: Ledger, R: Wait + Clock, J: Journal<N>, N: ListName>(
         &mut self,
         context: &Context<'_, SeatWorld<C, A, R, J, N>>,

@@ -1,4 +1,4 @@
-//! The connections of a site: each is accepted, and served on a thread of its own.
+//! The connections of `serve`: each is accepted, and served on a thread of its own.
 
 ghost use Rattle.std.specs.Prelude.{◌≡◌, ◌≤◌, IfOk, length, vec_len, vec_capacity};
 
@@ -40,8 +40,8 @@ enum Session<C: Ledger, A: Ledger> {
     Ended(Pass<C, A>),
 }
 
-/// Accepts a connection for each pass, and serves it on a thread of its own, or on this one where
-/// no thread can be made. Ends when all have ended, and gives back all passes.
+/// Accepts a connection for each pass, and serves it on a thread of its own, or on this one if no
+/// thread can be made. Ends when all connections have ended, and returns all passes.
 pub(crate) fn run_connections<
     C: Ledger + Send + Sync,
     A: Ledger + Send + Sync,
@@ -55,7 +55,7 @@ pub(crate) fn run_connections<
     ensures { IfOk result (λ served. length served.passes.items ≡ length passes.items) }
 {
     let count = passes.len();
-    // Room first: once a session has begun, its pass may not be lost.
+    // Room first: once a session has begun, an allocation failure must not lose its pass.
     let sessions = Vec::with_capacity(context.alloc, count)?;
     let ended = Vec::with_capacity(context.alloc, count)?;
     Ok(thread::scope(
@@ -75,7 +75,7 @@ pub(crate) fn run_connections<
     ))
 }
 
-/// Begins a session for each pass, in room for them. Then the listener is closed: nobody is to wait
+/// Starts a session for each pass, in `room`. Then it closes the listener, so that no client waits
 /// for a connection that is never accepted.
 fn begin_all<
     's,
@@ -106,7 +106,7 @@ fn begin_all<
     }
 }
 
-/// Begins the session of a pass with the next connection.
+/// Starts the session of a pass with the next connection.
 fn begin<
     's,
     E,
@@ -128,7 +128,7 @@ fn begin<
         *is_accepting = false;
         return Session::Ended(pass);
     };
-    // An answer leaves at once. Where that can't be set, it leaves later.
+    // Without Nagle's algorithm an answer leaves at once. If that can't be set, it leaves later.
     let _ = stream.set_nodelay(true);
     match scope.spawn(move || run_connection(context, stream, pass)) {
         Ok(session) => Session::Running(session),
@@ -136,7 +136,7 @@ fn begin<
     }
 }
 
-/// Waits until each session has ended, and gives back the passes, in room for them.
+/// Waits until each session has ended, and returns the passes in `room`.
 fn end_all<C: Ledger, A: Ledger, R: Threads>(
     rt: &R,
     sessions: Vec<Session<C, A>>,
@@ -153,7 +153,7 @@ fn end_all<C: Ledger, A: Ledger, R: Threads>(
     ended
 }
 
-/// The pass of a session, once that has ended.
+/// Waits until a session has ended, and returns its pass.
 fn pass_of<C: Ledger, A: Ledger, R: Threads>(rt: &R, session: Session<C, A>) -> Pass<C, A> {
     match session {
         Session::Running(session) => session.join(rt),

@@ -1,6 +1,7 @@
 //! The central system on sockets: operators and charge points connect over WebSocket (OCPP-J 1.6,
-//! chapter 3). Each is served on a thread of its own, and workers on other threads compile. `serve`
-//! ends after a number of connections; `run_seats` goes on, with so many at a time.
+//! chapter 3). Each is served on a thread of its own, and workers on other threads compile.
+//! `serve` ends after a number of connections. `run_seats` runs forever, with at most one
+//! connection a seat.
 #![tactic(auto)]
 
 mod attending;

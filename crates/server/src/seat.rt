@@ -1,4 +1,4 @@
-//! A seat: it serves one connection after another.
+//! A seat: a thread that serves one connection after another.
 
 ghost use Rattle.session.specs.Serving.{KeepsPass};
 
@@ -25,17 +25,17 @@ use std::thread::Threads;
 use tungstenite::{NoMask, WebSocket, WebSocketConfig};
 use version_store::Pass;
 
-/// A longer message is refused while it comes in.
+/// The longest message in bytes. A longer one is refused while it comes in.
 const LONGEST_MESSAGE_BYTES: usize = 1_048_576;
 
-/// Each read of a stream asks for so many bytes, for which each connection has room.
+/// The read buffer of each connection, in bytes.
 const READ_BYTES: usize = 2_048;
 
 /// The socket of a seat.
 type SeatSocket<'a, R> = WebSocket<IncomingStream<'a, R>, NoMask>;
 
-/// Serves one connection after another, each with the seat's pass, until no more are sent. Gives
-/// back the pass, which counts no less than before.
+/// Serves one connection after another, each with the seat's pass, until no more are sent. Returns
+/// the pass, whose counters never decrease.
 pub fn keep_seat<
     C: Ledger,
     A: Ledger,
@@ -62,7 +62,7 @@ pub fn keep_seat<
     unreachable!()
 }
 
-/// What the sessions of a seat have at hand.
+/// Returns the context of a seat's sessions.
 fn context_of<
     's,
     C: Ledger + 's,
@@ -82,7 +82,7 @@ fn context_of<
     }
 }
 
-/// Serves a connection from its handshake until it ends. Gives back the pass.
+/// Serves a connection from its handshake until it ends. Returns the pass.
 fn run_incoming<C: Ledger, A: Ledger, R: Threads + Wait + Clock + Sync, J: Journal<N>, N: ListName>(
     seats: &SeatContext<C, A, R, J, N>,
     context: &Context<'_, SeatWorld<C, A, R, J, N>>,
@@ -123,7 +123,7 @@ fn run_incoming<C: Ledger, A: Ledger, R: Threads + Wait + Clock + Sync, J: Journ
     }
 }
 
-/// Shakes hands with a client. While that lasts, it may have to give way.
+/// Does the handshake with a client, which may have to give way until it is complete.
 fn shake_in_time<'a, C: Ledger, A: Ledger, R: Threads + Wait + Clock + Sync, J, N: ListName>(
     seats: &SeatContext<C, A, R, J, N>,
     stream: IncomingStream<'a, R>,
@@ -143,9 +143,9 @@ fn shake_in_time<'a, C: Ledger, A: Ledger, R: Threads + Wait + Clock + Sync, J, 
     shaken
 }
 
-/// Shakes hands on a thread of its own, or on this one where none can be made. A handshake takes far
-/// more of a stack than a session that waits, and what a thread took of its stack stays in memory
-/// until it ends.
+/// Does the handshake on a thread of its own, or on this one if none can be made. A handshake
+/// takes far more stack than a waiting session, and the stack that a thread once used stays in
+/// memory until the thread ends.
 fn shake_apart<'a, R: Threads + Wait + Clock + Sync>(
     rt: &R,
     alloc: Global,
@@ -156,7 +156,7 @@ fn shake_apart<'a, R: Threads + Wait + Clock + Sync>(
     shaken
 }
 
-/// What a connection may take up.
+/// Returns the limits of a connection.
 fn limits() -> WebSocketConfig {
     WebSocketConfig::default()
         .read_buffer_size(READ_BYTES)
@@ -165,7 +165,7 @@ fn limits() -> WebSocketConfig {
 }
 
 /// Serves a session after its handshake. A point's older connection is shut once this one has its
-/// link, and this one is shut once a later one has. Gives back the pass.
+/// link, and this one is shut once a later one has. Returns the pass.
 fn run_admitted<C: Ledger, A: Ledger, R: Wait + Clock, J: Journal<N>, N: ListName>(
     seats: &SeatContext<C, A, R, J, N>,
     context: &Context<'_, SeatWorld<C, A, R, J, N>>,
@@ -177,7 +177,7 @@ fn run_admitted<C: Ledger, A: Ledger, R: Wait + Clock, J: Journal<N>, N: ListNam
 {
     let Admitted { mut core, place } = admitted;
     let (mut socket, mut pass) = (socket, pass);
-    // Before the link: whoever has that has to be found when a later one comes.
+    // Before the link is claimed: once this session has it, a later one must be able to shut it.
     let Some(share) = socket.get_ref().share() else {
         return pass;
     };
@@ -196,11 +196,11 @@ fn run_admitted<C: Ledger, A: Ledger, R: Wait + Clock, J: Journal<N>, N: ListNam
     watch.begin(&core);
     let ended = run_session(context, &watch, &mut socket, &core, &mut pass);
     watch.end(&core, ended);
-    // What its messages took in memory is free before its place is.
+    // The buffers of its messages are freed before its place, so the places bound the memory.
     let mut stream = socket.into_inner();
     stream.end();
     release_link(context, core);
-    // Of its last message, too, for which perhaps no text leaves.
+    // The lines of its last message as well, for which perhaps no message leaves.
     let _ = context.journal.write_out();
     if let Some(link) = link {
         seats.present.leave(context.rt, place, link);

@@ -1,4 +1,4 @@
-//! A server that goes on: it serves N connections at a time, and any number one after another.
+//! A server that runs forever: it serves N connections at a time, and any number one after another.
 
 ghost use Rattle.std.specs.Prelude.{◌≡◌, ◌≤◌, ◌+◌, true, IfOk, length};
 
@@ -21,22 +21,22 @@ use world::Shareable;
 /// The most connections at a time.
 pub const MAX_SEATS: u64 = 1_000;
 
-/// The stack of a thread that serves connections.
+/// The stack of a thread that serves connections, in bytes.
 const SEAT_STACK: usize = 2 * 1_048_576;
 
-/// The book of a site that is to be served by seats, and its passes.
+/// The book of a site that seats will serve, and its passes.
 #[derive(Drop)]
 pub struct SeatedBook<C: Ledger, A: Ledger, N: ListName> {
     pub shared: Shared<C, A, N>,
-    /// The pass of whoever restores the book before it is served.
+    /// The pass for restoring the book, before it is served.
     pub restoring: Pass<C, A>,
     /// A pass for each seat.
     pub seats: Vec<Pass<C, A>>,
 }
 
 impl<C: Ledger, A: Ledger, N: ListName> SeatedBook<C, A, N> {
-    /// The book of a site where nothing was done yet, with so many seats. The two ledgers are to
-    /// count its changes and its answers, and the ghost list records its states.
+    /// Makes the book of a site where nothing was done yet, with a pass for each seat. The two
+    /// ledgers count its changes and its answers, and the ghost list records its states.
     pub fn make(
         alloc: Global,
         blanks: (Blank, Blank),
@@ -53,7 +53,7 @@ impl<C: Ledger, A: Ledger, N: ListName> SeatedBook<C, A, N> {
         ensures { IfOk result (λ book. length book.seats.items ≡ seats) }
     {
         let (changes, answers) = blanks;
-        // It never fails: each ledger has so many parts.
+        // This never fails: each ledger has `seats + 1` parts, which is a u64.
         let Some(count) = seats.checked_add(1) else {
             return Err(AllocError);
         };
@@ -70,10 +70,10 @@ impl<C: Ledger, A: Ledger, N: ListName> SeatedBook<C, A, N> {
     }
 }
 
-/// Begins to serve a site on a listener, with a seat for each pass: a thread that keeps the pass
-/// and serves one connection after another. Workers on other threads compile. It goes on when this
-/// returns, for as long as the program runs. Returns how many seats there are: fewer where a thread
-/// couldn't be made, and one at least.
+/// Starts to serve a site on a listener, with a seat for each pass: a thread that keeps the pass
+/// and serves one connection after another. Workers on other threads compile. All threads run as
+/// long as the program does. Returns the number of seats: fewer than passes if a thread couldn't
+/// be made, but at least one.
 pub fn run_seats<
     C: Ledger + Shareable,
     A: Ledger + Shareable,
@@ -114,7 +114,7 @@ pub fn run_seats<
     }
 }
 
-/// Begins the thread that writes lines for people to standard error.
+/// Starts the thread that writes lines for people to standard error.
 fn begin_writer<
     C: Ledger + Shareable,
     A: Ledger + Shareable,
@@ -130,7 +130,7 @@ fn begin_writer<
     }
 }
 
-/// Begins a seat for each pass. Returns how many threads could be made for them.
+/// Starts a seat for each pass. Returns the number of seats for which a thread could be made.
 fn begin_seats<
     C: Ledger + Shareable,
     A: Ledger + Shareable,
@@ -148,7 +148,7 @@ fn begin_seats<
     let mut seats = 0usize;
     for pass in passes {
         if begin_seat(context, jobs, queue, pass)? {
-            // It is free before a connection is let in.
+            // The seat counts as free before the first connection is accepted.
             context.free.add(&context.rt);
             seats += 1;
         }
@@ -156,7 +156,7 @@ fn begin_seats<
     Ok(seats)
 }
 
-/// Begins a seat. False where no thread can be made for it.
+/// Starts a seat. Returns false if no thread can be made for it.
 fn begin_seat<
     C: Ledger + Shareable,
     A: Ledger + Shareable,

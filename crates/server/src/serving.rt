@@ -1,4 +1,4 @@
-//! The server: it accepts connections, and ends once N of them have ended.
+//! The server of `serve`: it accepts N connections, and ends once all of them have ended.
 
 ghost use Rattle.std.specs.Prelude.{◌≡◌, ◌≤◌, IfOk, length};
 
@@ -25,9 +25,9 @@ pub const MAX_WORKERS: usize = 8;
 /// The most connections in all.
 pub const MAX_SESSIONS: u64 = 64;
 
-/// Serves a site: accepts N connections, each served on a thread of its own, and ends when all have
-/// ended. Workers on other threads compile. After the last one the listener is closed. Gives how
-/// many changes were made and answers handed out in all sessions.
+/// Serves a site: accepts N connections, each served on a thread of its own, and ends when all
+/// have ended. Workers on other threads compile. After the last connection the listener is closed.
+/// Returns how many changes all sessions made and how many answers they handed out.
 pub fn serve<R: Threads + Wait + Sync, M: Moments + Sync>(
     rt: &R,
     alloc: Global,
@@ -50,7 +50,7 @@ pub fn serve<R: Threads + Wait + Sync, M: Moments + Sync>(
     run_counted::<Brand, Brand, R, M>(rt, plan, site, listener, (changes, answers))
 }
 
-/// How a site is served.
+/// The options of `serve`.
 #[derive(Drop)]
 struct ServePlan<'a, M> {
     alloc: Global,
@@ -59,7 +59,7 @@ struct ServePlan<'a, M> {
     clock: &'a M,
 }
 
-/// Serves a site, whose changes and answers these two ledgers count.
+/// Serves a site whose changes and answers these two ledgers count.
 fn run_counted<
     C: Ledger + Send + Sync,
     A: Ledger + Send + Sync,
@@ -93,7 +93,7 @@ fn run_counted<
     let Ok(served) = run_beside_workers(rt, plan, listener, &shared, passes) else {
         return Err(ServeFault::OutOfMemory);
     };
-    // Each session has given its pass back, so none is missing.
+    // Each session has returned its pass, so none is missing.
     let Ok(totals) = shared.settle(served.passes) else {
         unreachable!()
     };
@@ -104,8 +104,8 @@ fn run_counted<
     }
 }
 
-/// Serves the connections while workers compile on threads of their own. Where no thread can be
-/// made for these, the sessions find nobody to send their jobs to.
+/// Serves the connections while workers compile on threads of their own. If no thread can be made
+/// for the workers, the sessions compile their jobs themselves.
 fn run_beside_workers<
     C: Ledger + Send + Sync,
     A: Ledger + Send + Sync,

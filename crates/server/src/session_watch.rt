@@ -1,4 +1,4 @@
-//! What a session is seen to do: for the status of its site, and as lines for people.
+//! Observations of a session: for the status of its site, and as lines for people.
 
 use ghost_list::ListName;
 use journal::Journal;
@@ -13,7 +13,7 @@ use std::rt::Clock;
 use std::sync::Wait;
 use std::sync::ledger::Ledger;
 
-/// Whoever watches a session of a point or of an operator.
+/// The observer of a session of a point or of an operator.
 #[derive(Drop)]
 pub(crate) struct SessionWatch<'a, C: Ledger, A: Ledger, R, J, N: ListName> {
     pub(crate) seats: &'a SeatContext<C, A, R, J, N>,
@@ -31,7 +31,7 @@ impl<C: Ledger, A: Ledger, R: Wait + Clock, J: Journal<N>, N: ListName> SessionW
     J,
     N,
 > {
-    /// It has begun.
+    /// Records that the session has begun.
     pub(crate) fn begin(&self, core: &SessionCore) {
         let seats = self.seats;
         seats.watch.begin(&seats.rt, self.link.is_some());
@@ -41,7 +41,7 @@ impl<C: Ledger, A: Ledger, R: Wait + Clock, J: Journal<N>, N: ListName> SessionW
         }
     }
 
-    /// It has ended so.
+    /// Records how the session has ended.
     pub(crate) fn end(&self, core: &SessionCore, ended: Ended) {
         let seats = self.seats;
         seats.watch.end(&seats.rt, self.link.is_some());
@@ -57,7 +57,7 @@ impl<C: Ledger, A: Ledger, R: Wait + Clock, J: Journal<N>, N: ListName> SessionW
         self.say(core, event);
     }
 
-    /// A message came, and told this.
+    /// Records a message of the session, with its event.
     pub(crate) fn hear(&self, core: &SessionCore, told: Told) {
         let Some(moment) = self.seats.clock.now() else {
             return;
@@ -83,7 +83,7 @@ impl<C: Ledger, A: Ledger, R: Wait + Clock, J: Journal<N>, N: ListName> SessionW
         }
     }
 
-    /// A call was sent.
+    /// Records that a call was sent.
     pub(crate) fn send(&self, call: SentCall) {
         if let Some(moment) = self.seats.clock.now() {
             self.see(Observation::Sent(SentMoment {
@@ -94,7 +94,7 @@ impl<C: Ledger, A: Ledger, R: Wait + Clock, J: Journal<N>, N: ListName> SessionW
         }
     }
 
-    /// The call of this number has no reply in time.
+    /// Reports that the call of this number has no reply in time.
     pub(crate) fn give_up(&self, core: &SessionCore, call: u64) {
         self.say_made(core, without_reply(self.seats.alloc, call));
     }
@@ -146,7 +146,7 @@ impl<C: Ledger, A: Ledger, R: Wait + Clock, J: Journal<N>, N: ListName> SessionW
         seats.watch.see(&seats.rt, self.place, sighting);
     }
 
-    /// Says what became of the point.
+    /// Reports an event of the point.
     fn say(&self, core: &SessionCore, event: Event) {
         let seats = self.seats;
         let who = core.point_id().as_str();
@@ -162,13 +162,13 @@ impl<C: Ledger, A: Ledger, R: Wait + Clock, J: Journal<N>, N: ListName> SessionW
     }
 }
 
-/// What became of a point.
+/// An event of a point's connection.
 #[derive(Clone, Copy)]
 enum Event {
     Connected,
     Booted,
     Lost,
-    /// Its connection has ended, since it broke the protocol.
+    /// Its connection has ended, because it broke the protocol.
     Breach(Breach),
     /// Its earlier connection has ended. It has a later one.
     Superseded,
@@ -188,7 +188,7 @@ impl Event {
     }
 }
 
-/// A copy of the reason for which a point rejects a call; empty where it doesn't.
+/// Returns a copy of the reason for which a point rejects a call, or an empty text if it doesn't.
 fn reason_of(alloc: Global, reply: &PointReply) -> Result<String, AllocError> {
     match &reply.rejection {
         Some(reason) => String::from_str(alloc, reason.as_str()),

@@ -10,23 +10,24 @@ use std::io;
 use std::os::unix::fs::FileExt;
 use std::rt::Files;
 
-/// What a folder keeps of boots.
+/// The boots that a folder keeps.
 #[derive(Drop)]
 pub struct KeptBoots {
-    /// Those that were kept at the start, each at the place of its point in the site.
+    /// The boots that were kept at the start, each at the place of its point in the site.
     pub boots: Vec<Option<Boot>>,
-    /// Where later ones are kept. None if that can't be opened.
+    /// The file that keeps later ones. None if it can't be opened.
     pub file: Option<BootsFile>,
 }
 
-/// A file of boots. It is opened at the start: a thread of its own writes it, and opens nothing.
+/// A file of boots. It is opened at the start. Later a thread of its own writes it, which opens
+/// nothing.
 #[derive(Drop)]
 pub struct BootsFile {
     file: File,
 }
 
 impl KeptBoots {
-    /// What a folder has of the points of a site.
+    /// Reads the boots that a folder has of the points of a site.
     pub fn read<R: Files<File = File> + Eprint + AllocGlobal>(
         rt: &R,
         folder: &str,
@@ -40,7 +41,8 @@ impl KeptBoots {
 }
 
 impl BootKeeper for BootsFile {
-    /// A line that is torn by a crash meanwhile is left out at the next start.
+    /// Writes the lines over the old ones in place. If a crash tears a line meanwhile, the next
+    /// start ignores it.
     fn keep(&self, lines: &str) -> io::Result<()> {
         self.file.write_all_at(lines.as_bytes(), 0)?;
         self.file.set_len(lines.len() as u64)?;

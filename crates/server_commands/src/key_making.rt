@@ -6,8 +6,8 @@ use site_keys::{KeyText, Role, write_key};
 use std::alloc::AllocGlobal;
 use std::random::RandomSource;
 
-/// Makes a key of random bytes: its line for the file on standard output, and the name with the key
-/// itself, as a file for `--login` has them, on standard error.
+/// Makes a key of random bytes. Prints its line for the key file to standard output. Prints the
+/// name and the key itself to standard error, in the form of a `--login` file.
 pub fn make_key<R: RandomSource + AllocGlobal + Print + Eprint>(
     rt: &R,
     making: KeyMaking<'_>,

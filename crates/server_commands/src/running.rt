@@ -29,12 +29,12 @@ use std::thread::Threads;
 use version_store::Shared;
 use world::Shareable;
 
-// The command line lets in as many as the server does.
+// The command line has its limits from another crate, so this proves that they are the server's.
 const _: () = prove!(MAX_SEATS == server::MAX_SEATS);
 
 const _: () = prove!(MAX_WORKERS == server::MAX_WORKERS as u64);
 
-/// What is run.
+/// The inputs of a run, read and opened.
 #[derive(Drop)]
 struct Plan<'a> {
     site: Site,
@@ -47,14 +47,14 @@ struct Plan<'a> {
     seats: u64,
     workers: u64,
     options: SeatOptions,
-    /// Where it is told how the site is, if it is.
+    /// The listener of the status port, if there is one.
     status: Option<TcpListener>,
-    /// The address of that, where it answers only requests for this machine.
+    /// The address of the status port, if it answers only requests for this machine.
     status_address: Option<&'a str>,
 }
 
-/// Runs the site of a file with the journal of a folder: goes on where that stopped. Returns only
-/// where it can't go on.
+/// Runs the site of a file with the journal of a folder, and resumes where the journal ends.
+/// Returns only if it can't go on.
 pub fn run_file<
     R: Files<File = File>
         + Print
@@ -98,7 +98,7 @@ pub fn run_file<
             running.status
         },
     };
-    // One pass more than seats: the restore has it.
+    // One pass more than seats, for the restore.
     let Some(passes) = running.seats.checked_add(1) else {
         return Err(ProgramFault::OutOfMemory);
     };
@@ -106,7 +106,7 @@ pub fn run_file<
     run_counted::<Brand, Brand, Brand, R>(rt, plan, blanks, (Unnamed::new(), Unnamed::new()))
 }
 
-/// The keys of a file, if one is given.
+/// Reads the keys of a file, if one is given.
 fn read_keys<R: Files<File = File> + Eprint + AllocGlobal>(
     rt: &R,
     path: Option<&str>,
@@ -117,7 +117,7 @@ fn read_keys<R: Files<File = File> + Eprint + AllocGlobal>(
     }
 }
 
-/// Listens for those who ask how the site is, where that is wanted.
+/// Listens at the status port, if one is wanted.
 fn listen_for_status<R: Eprint + Net<Listener = TcpListener, Stream = TcpStream>>(
     rt: &R,
     running: &Running<'_>,
@@ -134,8 +134,8 @@ fn listen_for_status<R: Eprint + Net<Listener = TcpListener, Stream = TcpStream>
     Ok(Some(listener))
 }
 
-/// Listens at an address with a port: where it isn't open to others at one of this machine alone, or
-/// else it is this fault.
+/// Listens at an address with a port. Unless the port is open to others, the address has to be a
+/// loopback address: any other is the fault `closed`.
 fn listen<R: Eprint + Net<Listener = TcpListener, Stream = TcpStream>>(
     rt: &R,
     address: &str,
@@ -158,8 +158,8 @@ fn listen<R: Eprint + Net<Listener = TcpListener, Stream = TcpStream>>(
     }
 }
 
-/// Runs a site, whose changes and answers these two ledgers count, and whose states and syncs are
-/// recorded in these two ghost lists.
+/// Runs a site whose changes and answers these two ledgers count. These two ghost lists record its
+/// states and syncs.
 fn run_counted<
     C: Ledger + Shareable,
     A: Ledger + Shareable,
@@ -227,7 +227,7 @@ fn run_counted<
     Err(ProgramFault::Folder(FolderFault::Write))
 }
 
-/// Begins to tell how the site is, where that is wanted. It is told that it is being restored, too.
+/// Starts the status port, if one is wanted. It answers already while the site is being restored.
 fn begin_port<
     C: Ledger + Shareable,
     A: Ledger + Shareable,
@@ -248,7 +248,7 @@ fn begin_port<
     Ok(port)
 }
 
-/// A text of its own, where there is one.
+/// Returns a copy of a text, if there is one.
 fn owned(alloc: Global, text: Option<&str>) -> Result<Option<String>, AllocError> {
     match text {
         Some(text) => Ok(Some(String::from_str(alloc, text)?)),
@@ -256,7 +256,7 @@ fn owned(alloc: Global, text: Option<&str>) -> Result<Option<String>, AllocError
     }
 }
 
-/// Begins the thread that writes what is said of the journal.
+/// Starts the thread that writes lines for people about the journal.
 fn begin_lines<
     C: Ledger + Shareable,
     A: Ledger + Shareable,
@@ -274,7 +274,7 @@ fn begin_lines<
     }
 }
 
-/// Goes on with the boots that the folder keeps, and begins to keep those that come.
+/// Resumes the boots that the folder keeps, and starts to keep later ones.
 fn keep_boots<
     C: Ledger + Shareable,
     A: Ledger + Shareable,
@@ -295,7 +295,7 @@ fn keep_boots<
     }
 }
 
-/// What the threads share that serve this book.
+/// Returns the state that the threads share which serve this book.
 fn context_of<
     C: Ledger,
     A: Ledger,

@@ -15,11 +15,11 @@ use std::sync::Wait;
 use std::thread::Threads;
 use version_store::Totals;
 
-// The command line lets in as many as the server does.
+// The command line has its limit from another crate, so this proves that it is the server's.
 const _: () = prove!(MAX_SESSIONS == server::MAX_SESSIONS);
 
-/// Serves the site of a file, and prints where it listens, and in the end how many changes were
-/// made and answers handed out.
+/// Serves the site of a file. Prints where it listens, and in the end how many changes were made
+/// and how many answers handed out.
 pub fn serve_file<
     R: Files
         + Print
@@ -81,7 +81,7 @@ fn print_totals<R: Print>(rt: &R, totals: Totals) -> Result<(), ProgramFault> {
     }
 }
 
-/// Why the program stops where its server does.
+/// Returns why the program stops when its server fails.
 pub(crate) fn stop_of(fault: ServeFault) -> ProgramFault {
     match fault {
         ServeFault::Socket => ProgramFault::Socket,

@@ -1,4 +1,4 @@
--- The step that is to be done for a message is one that the message asks for.
+-- The step in the work for a message is one that the message asks for.
 use Rattle.std.proofs.Common.{◌≡◌, ℕ, Bool, false, List, Option, Some, None, Result, Ok, Err, IfSome, inl, inr, refl, sym, subst}
 use Rattle.ocppj_frame.specs.declared.fault.FrameFault.{FrameFault}
 use Rattle.ocppj_frame.specs.declared.fault.FrameFault.TheVariants as faults
@@ -94,7 +94,7 @@ confirms_own : (text : Sent) → ConfirmsOwn text (asked_of text)
 unfolding asked_of
 confirms_own text = own_of_message text (message_of_text text.frame)
 
--- ---- what a message asks for is the step that is to be done
+-- ---- the step in the work is the one that the message asks for
 
 of_call : (text : Sent) (id : List ℕ) (kind : ActionKind) (step : Step) → IsOfCall step
     → asked_of text ≡ asked.Step id kind step → AsksFor text step
@@ -113,7 +113,7 @@ of_asked text (Point None) (asked.Confirm point call accepted) side by_call own 
 of_asked text (Point (Some link)) (asked.Confirm point call accepted) side by_call own is =
     (side, own, is)
 
--- what is to be done for a message of a session is what that asks for
+-- the work for a message of a session has the step that the message asks for
 pub asks_for : (session : SessionState) (moment : ℕ) (frame : List ℕ) (todo : TodoState)
     → IsTodo session moment frame todo
     → IfSome todo.step (AsksFor (sent_by session moment frame))

@@ -1,4 +1,4 @@
--- What leaves is an answer, or a call that was sent.
+-- Each message that leaves is an answer, or a call that was sent.
 use Rattle.std.proofs.Common.{◌≡◌, ℕ, Bool, List, Some, Option, Result, Ok, IfOk, IfSome, sym, subst}
 use Rattle.ocpp_scalars.specs.declared.refusal.Refusal.{Refusal}
 use Rattle.messages.specs.declared.call.Call.{Call}
@@ -52,7 +52,7 @@ answer_leaves is_recorded session was text served answer seen it is =
     of_answer is_recorded session was text answer seen
     (subst (λ (a : Option (List ℕ)). IsServed session was (seen_at is_recorded seen) text a) is it)
 
--- what holds of a value that is there
+-- a property of an optional value holds of the value
 pub of_some : {X : Type 0} (P : X → Type 0) (found : Option X) (x : X) → IfSome found P
     → found ≡ Some x → P x
 of_some {X} P found x holds is = subst (λ (f : Option X). IfSome f P) is holds

@@ -72,7 +72,7 @@ attached_made earlier later point entry link old new law at store makes earlier_
   is_after = later_is;
 }
 
--- a link that a point got, as the code has it
+-- a link that a point got, in the form that the code has
 pub attached_noted : (earlier later : MachineState → Type 0)
     (point there : List ℕ) (maybe : Option EntryState) (entry : EntryState)
     (link : ℕ) (result : Result ℕ Refusal) (locked old new : StoreState) (was pass : PassState)
@@ -184,7 +184,8 @@ on_noted text moment point judged true right =
     (sym (is_unread moment point)) right
 on_noted text moment point judged false right = right
 
--- the line of a verdict, with the reply that was judged or, where memory ran out, one that isn't read
+-- the line of a verdict, with the reply that was judged or, if memory ran out, one that reads as no
+-- schedule
 verdict_line : (old : StoreState) (moment : ℕ) (point : List ℕ) (call : ℕ) (frame : List ℕ)
     (text : Sent) (judged : Judgement) (made : Made) (short : Bool)
     → VerdictsAreRestored → AreOne same_request → AreComputed
@@ -276,7 +277,7 @@ prepared text maybe step found noted moment point result asks step_is by found_i
     (subst (λ p. IfOk result (λ (entry : Option EntryState). IfSome entry (λ (e : EntryState).
     IsEntryOf e (line_at moment p (noted_state noted))))) point_is entry_is)))
 
--- a change is what it performs, and is noted with its message
+-- a change is performed as itself, and noted with its message
 performs_makes : (old : StoreState) (was : PassState) (step : Step) (told : Reply)
     (new : StoreState) (pass : PassState) → is_change step ≡ true
     → Performs old was step (Outcome (outcomes.Made told)) new pass → Makes old step told new
@@ -328,7 +329,7 @@ change_made earlier later entry told new number law notable drawn later_is =
       is_after = later_is;
     }
 
--- what was performed and is noted, as the code has it
+-- the steps that were performed and are noted, in the form that the code has
 abbrev AreNotable : Option EntryState → Bool → Performed → (MachineState → Type 0) → StoreState
     → Type 0
 AreNotable maybe confirms performed earlier new =
@@ -350,7 +351,7 @@ change_noted earlier later maybe entry confirms performed told new number law no
     notable)))
     drawn later_is
 
--- a confirm is what it performs, and is noted with its reply
+-- a Confirm is performed as itself, and noted with its reply
 confirm_made : (earlier later : MachineState → Type 0)
     (step : Step) (entry : EntryState) (told : Reply) (old new : StoreState)
     (was pass : PassState) → ConfirmsAreRestored → IsEntryToNote step entry

@@ -1,4 +1,4 @@
--- What a step comes to that is neither a Take nor a Confirm.
+-- The result of a step that is neither a Take nor a Confirm.
 use Rattle.std.proofs.Common.{◌≢◌, ℕ, List, Bool, refl}
 use Rattle.site_core.specs.declared.step.Step.{Step}
 use Rattle.site_core.specs.declared.step.Step.TheVariants as steps
@@ -11,7 +11,7 @@ use Rattle.session.specs.declared.outcome.Outcome.TheVariants.{Made}
 use Rattle.session.specs.declared.outcome.Performed.TheVariants.{Outcome}
 use Rattle.session.specs.Perform.{Performs}
 
--- it is the call that it stands for
+-- it is that of its call on the book
 pub performs_call : (old : StoreState) (was : PassState) (step : Step) (reply : Reply)
     (new : StoreState) (pass : PassState)
     → ((take : Take) → step ≢ steps.Take take)

@@ -1,4 +1,5 @@
--- The answer to a request, from what was compared, and to a message whose step can't be noted.
+-- The answer to a request, from the comparison with its job, and to a message whose step can't be
+-- noted.
 use Rattle.std.proofs.Common.{◌≡◌, ℕ, List, Option, None, Result, Ok, Err, IfOk, IfSome, inl, inr, subst, sym, ap, ◌∙◌}
 use Rattle.meaning.specs.declared.ask.Ask.{Ask}
 use Rattle.site_core.specs.Right.{IsRight}

@@ -1,4 +1,4 @@
--- What a CALL asks for is a step that the book makes for a session.
+-- Each step that a CALL asks for is one that the book makes for a session.
 use Rattle.std.proofs.Common.{refl}
 use Rattle.site_core.specs.declared.step.Step.{Step}
 use Rattle.site_core.specs.declared.step.Step.TheVariants as steps

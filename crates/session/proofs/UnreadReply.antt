@@ -1,4 +1,4 @@
--- The reply that is noted where memory ran out isn't read, as reading it shows.
+-- The reply that is noted if memory ran out reads as no schedule.
 use Rattle.std.proofs.Common.{◌≡◌, ℕ, List, refl}
 use Rattle.std.specs.Str.{chars}
 use Rattle.json.specs.Json.{value}

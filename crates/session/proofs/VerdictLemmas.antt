@@ -38,13 +38,13 @@ by_audit None judged next made one led = absurd (cc led)
 by_audit (Some audit) judged next made one led =
     ap Some (by_test audit judged next made (same_request audit.asked judged.audit) one refl led)
 
--- what a Judge comes to at the point at a place
+-- the result of a Judge at the point at a place
 abbrev judged_there : MachineState → List ℕ → ℕ → Judgement → ℕ → Result Made Refusal
 judged_there state point call judged place =
     judges call judged (point_at state place) >>= (λ (reply : Reply).
     Ok (made_at state (steps.Judge point call judged) place reply))
 
--- the place where a Judge is made, of the one that its point has in the site
+-- the place where a Judge is made, given the place that its point has in the site
 abbrev judged_place : MachineState → List ℕ → ℕ → Judgement → Option ℕ → Result ℕ Refusal
 judged_place state point call judged place =
     found_place state (of_audit point (judges call judged)).via place
@@ -73,7 +73,7 @@ open_audit : (state : MachineState) (point : List ℕ) (call : ℕ) (judged : Ju
 open_audit state point call judged made one led =
     unless_stopped state point call judged made _ state.is_stopped one led
 
--- ---- the step doesn't look at whether memory ran out
+-- ---- the step doesn't depend on whether memory ran out
 
 abbrev judgement : AuditRequest → Verdict → Judgement
 judgement asked found = record { audit = asked; verdict = found; short = false }

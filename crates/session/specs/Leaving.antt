@@ -1,4 +1,4 @@
--- What a message of a session carries that leaves.
+-- The proof that each message of a session carries when it leaves.
 use Rattle.std.specs.Prelude.{ℕ, Bool, List, Option, Some, None}
 use Rattle.messages.specs.declared.call.Call.{Call}
 use Rattle.messages.specs.CallText.{call_text}
@@ -14,8 +14,8 @@ use Rattle.journal.specs.Account.{Covers, ReceiptState}
 use Rattle.session.specs.Served.{IsServed, seen_at}
 use Rattle.session.specs.Session.{SessionState}
 
--- A call was sent to a point over a link: its Send was made on the book while the session had it.
--- What was recorded of the book ended with the state after it.
+-- A call was sent to a point over a link: its Send was made on the book while the session had the
+-- lock. The record ended with the state after it.
 pub record IsSentCall (is_recorded : Bool) (point : List ℕ) (link : ℕ) (call : Call)
     (seen : List MachineState) : Type 0 where
   pub old : StoreState
@@ -24,8 +24,8 @@ pub record IsSentCall (is_recorded : Bool) (point : List ℕ) (link : ℕ) (call
   pub makes : Makes old (steps.Send point link) (replies.Sent call) new
   pub is_seen : IsAt is_recorded seen new.present
 
--- A message answers one of a session, with what was recorded by its step, if it has one. Or it is a
--- call that was sent.
+-- A message is the answer to a message of a session, with the states recorded by its step, if it has
+-- one. Or it is a call that was sent.
 pub data IsAnswerOrCall : Bool → List ℕ → Option (List MachineState) → Type 0 where
   of_answer : (is_recorded : Bool) (session : SessionState) (was : PassState) (text : Sent)
       (answer : List ℕ) (seen : Option (List MachineState))
@@ -35,7 +35,7 @@ pub data IsAnswerOrCall : Bool → List ℕ → Option (List MachineState) → T
       (seen : List MachineState) → IsSentCall is_recorded point link call seen
       → IsAnswerOrCall is_recorded (call_text call) (Some seen)
 
--- Where something was recorded by the step of a message, a receipt covers it.
+-- If the step of a message recorded states, a receipt covers them.
 abbrev pub IsCovered : Bool → Option ReceiptState → Option (List MachineState) → Type 0
 IsCovered is_recorded receipt None = Unit {0}
 IsCovered is_recorded None (Some seen) = ⊥

@@ -1,4 +1,4 @@
--- What a session notes of a step that it made: a line that leads where the step led.
+-- The lines that a session notes of the steps that it made: each leads where its step led.
 use Rattle.std.specs.Prelude.{ℕ, ◌≡◌, Bool, true, false, List, Option, Some, None}
 use Rattle.messages.specs.declared.action_kind.ActionKind.{ActionKind}
 use Rattle.messages.specs.declared.side.Side.TheVariants.{Point}
@@ -16,26 +16,26 @@ use Rattle.texts.specs.SentText.{Sent}
 use Rattle.session.specs.declared.outcome.Performed.{Performed}
 use Rattle.session.specs.Perform.{Performs}
 
--- ---- what is noted of a link
+-- ---- entries of links
 
 -- the state that a book has
 abbrev pub IsPresent : StoreState → MachineState → Type 0
 IsPresent book state = state ≡ book.present
 
--- an entry of what is noted of a point, at some moment
+-- an entry about a point, at some moment
 abbrev pub IsEntryAt : List ℕ → NotedState → EntryState → Type 0
 IsEntryAt point noted entry = (moment : ℕ) × IsEntryOf entry (line_at moment point noted)
 
--- ---- what is noted of a message
+-- ---- entries of messages
 
--- what a message asks for is this step: a point's reply asks that its own call is confirmed
+-- a message asks for this step: a point's reply asks for the Confirm of a call to that point
 abbrev pub AsksFor : Sent → Step → Type 0
 AsksFor text (steps.Confirm point link call accepted) =
     (text.sender ≡ Point) × (point ≡ text.point)
     × (asked_of text ≡ asked.Confirm point call accepted)
 AsksFor text step = (id : List ℕ) × (kind : ActionKind) × (asked_of text ≡ asked.Step id kind step)
 
--- an entry of what is noted of a step, for which a message asks
+-- the entry of a step that a message asks for
 pub record IsEntryToNote (step : Step) (entry : EntryState) : Type 0 where
   pub text : Sent
   pub asks : AsksFor text step
@@ -43,7 +43,7 @@ pub record IsEntryToNote (step : Step) (entry : EntryState) : Type 0 where
   pub noted_is : noted_by step text.sender text.frame ≡ Some noted
   pub entry_is : IsEntryOf entry (line_at text.moment text.point noted)
 
--- no entry, or that of the step
+-- no entry, or the entry of the step
 abbrev pub IsEntryFor : Option Step → Option EntryState → Type 0
 IsEntryFor step None = Unit {0}
 IsEntryFor None (Some entry) = ⊥
@@ -53,8 +53,8 @@ abbrev pub is_confirm : Step → Bool
 is_confirm (steps.Confirm point link call accepted) = true
 is_confirm step = false
 
--- A step was performed on the book, which is this one since, and the entry is to note it. What was
--- recorded of the book ended with the state before it.
+-- A step was performed on the book, which has this state since, and the entry is to note it. The
+-- record before the step ended with the state before it.
 pub record IsNotable (entry : EntryState) (confirms : Bool) (performed : Performed)
     (before : MachineState → Type 0) (new : StoreState) : Type 0 where
   pub step : Step

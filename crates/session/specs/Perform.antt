@@ -1,4 +1,4 @@
--- What the one call on the book comes to that a step of a session stands for.
+-- The result of the one call on the book that makes a step of a session.
 use Rattle.std.specs.Prelude.{◌≡◌, true}
 use Rattle.site_core.specs.declared.step.Step.{Step}
 use Rattle.site_core.specs.declared.step.Step.TheVariants as steps
@@ -14,14 +14,14 @@ use Rattle.session.specs.declared.outcome.Outcome.TheVariants.{Made, Answered, R
 abbrev pub IsOfText : Step → Type 0
 IsOfText step = may_fold step ≡ true
 
--- a request for a schedule has seen what its session has
+-- a request for a schedule has seen the changes that its session has
 abbrev pub seen_by : PassState → Step → Step
 seen_by was (steps.Take take) = steps.Take (record take { seen = was.seen })
 seen_by was step = step
 
 -- A Take gives the job of the request that is kept, and no reply. Any other step gives the reply of
--- the call that it stands for. A refused one changes nothing. What a pass counts doesn't
--- change with what its point confirms.
+-- its call on the book. A refused step changes nothing. A Confirm doesn't change the counters of a
+-- pass.
 abbrev pub Performs : StoreState → PassState → Step → Performed → StoreState → PassState → Type 0
 Performs old was step (Job job) new pass =
     Calls old was (seen_by was step) (Taken job.number job.book job.ask) new pass

@@ -1,5 +1,4 @@
--- What a message of a session is answered, once its step was made on the book that all sessions
--- share.
+-- The answer to a message of a session, whose step was made on the book that all sessions share.
 use Rattle.std.specs.Prelude.{◌≡◌, ◌⊎◌, Bool, List, ℕ, Option, Some, None}
 use Rattle.ocpp_scalars.specs.declared.instant.Instant.{Instant}
 use Rattle.ocpp_scalars.specs.declared.refusal.Refusal.TheVariants.{OutOfMemory, UnknownRequest}
@@ -21,28 +20,27 @@ use Rattle.session.specs.Perform.{Performs}
 use Rattle.session.specs.Session.{SessionState}
 use Rattle.session.specs.Todo.{TodoState, IsTodo, IsUnnoted, todo_of, answer_text}
 
--- An answer is that of a job: for the request of its number, with the book and the `Ask` that the
--- Take of that request kept. It is right for these.
+-- An answer is that of a job: for the request of the job's number, with the book and the `Ask` that
+-- the Take of that request kept. It is right for these.
 pub record IsAnswerTo (job : RequestedJob) (handed : HandedAnswer) : Type 0 where
   pub number : handed.number ≡ job.number
   pub book : handed.book ≡ job.book
   pub ask : handed.ask ≡ job.ask
   pub right : IsRight job.book job.ask handed.answer
 
--- the outcome of a request that is kept: its own answer, or that it has none for the session
+-- the outcome of a request that is kept: its own answer, or a refusal if the session gets none
 abbrev pub IsOutcomeOfJob : RequestedJob → Outcome → Type 0
 IsOutcomeOfJob job (Made reply) = ⊥
 IsOutcomeOfJob job (Answered handed) = IsAnswerTo job handed
 IsOutcomeOfJob job (Refused refusal) = (refusal ≡ UnknownRequest) ⊎ (refusal ≡ OutOfMemory)
 
--- what the call on the book comes to that was performed for a step
+-- the outcome of the call on the book that was performed for a step
 abbrev pub ComesTo : Performed → Outcome → Type 0
 ComesTo (performs.Job job) outcome = IsOutcomeOfJob job outcome
 ComesTo (performs.Outcome made) outcome = outcome ≡ made
 
--- The one call that a step stands for was made on the book while the session had it. The audit that
--- it replies to, if it does, was read just before. What was recorded of the book ended with the
--- state after it.
+-- The one call on the book that makes a step was made while the session had the lock. The audit that
+-- the step replies to, if it does, was read just before. The record ended with the state after it.
 pub record IsPerformed (was : PassState) (seen : MachineState → Type 0) (step : Step)
     (performed : Performed) (audit : Option OpenAudit) : Type 0 where
   pub old : StoreState
@@ -53,8 +51,8 @@ pub record IsPerformed (was : PassState) (seen : MachineState → Type 0) (step 
   pub audit_is : audit ≡ audit_confirmed old.present step
   pub is_seen : seen new.present
 
--- The outcome of a session's own step: for a request of a schedule, the answer that is right for
--- what its point had at this very Take. A point's reply to its audit is judged.
+-- The outcome of a session's own step. For a request for a schedule it is the answer that is right
+-- for the point's state at this very Take. A point's reply to its audit is judged.
 pub record IsOutcomeOf (was : PassState) (seen : MachineState → Type 0) (text : Sent) (step : Step)
     (outcome : Outcome) : Type 0 where
   pub performed : Performed
@@ -70,25 +68,25 @@ HasOutcome was seen text None None = Unit {0}
 HasOutcome was seen text (Some step) (Some outcome) = IsOutcomeOf was seen text step outcome
 HasOutcome was seen text _ _ = ⊥
 
--- whether what was recorded by a step, if there was one, ended with a state
+-- whether the record by a step, if there was one, ended with a state
 abbrev pub seen_at : Bool → Option (List MachineState) → MachineState → Type 0
 seen_at is_recorded None state = ⊥
 seen_at is_recorded (Some seen) state = IsAt is_recorded seen state
 
--- what a message asks for, or the answer alone where its step can't be noted
+-- the work for a message, or the answer alone if its step can't be noted
 abbrev pub IsTodoOrUnnoted : SessionState → Instant → List ℕ → TodoState → Type 0
 IsTodoOrUnnoted session now text todo =
     IsTodo session now text todo ⊎ IsUnnoted (todo_of session now text).owed todo
 
--- what answers a message whose step can't be noted, by what its sender is owed
+-- the answer to a message whose step can't be noted, by the answer that its sender is owed
 pub record IsUnmade (session : SessionState) (owed : Owed) (answer : Option (List ℕ))
     : Type 0 where
   pub todo : TodoState
   pub unnoted : IsUnnoted owed todo
   pub answer_is : answer ≡ answer_text session todo None
 
--- what answers a message of a session with this pass: the message that is owed for what was asked,
--- with the outcome of the step that was asked for
+-- the answer to a message of a session with this pass: the message that is owed for the request,
+-- with the outcome of the step that was requested
 pub record IsServed (session : SessionState) (was : PassState) (seen : MachineState → Type 0)
     (text : Sent) (answer : Option (List ℕ)) : Type 0 where
   pub todo : TodoState

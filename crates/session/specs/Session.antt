@@ -1,4 +1,4 @@
--- A session: who is at the other end of a socket, and for which point.
+-- A session: the peer at the other end of a socket, and the point that it is for.
 use Rattle.std.specs.Prelude.{ℕ, List, Some, None}
 use Rattle.profile.specs.declared.unit.Unit.{Unit}
 use Rattle.profile.specs.declared.unit.Unit.TheVariants.{A}
@@ -11,13 +11,13 @@ use Rattle.session.specs.declared.session_core.Peer.TheVariants.{Operator, Point
 pub record SessionState : Type 0 where
   -- the identity of the point that an operator's messages are for, or that sends its own
   pub point : List ℕ
-  -- who is at the other end
+  -- the peer at the other end
   pub peer : Peer
 
 abbrev pub operators : List ℕ → Unit → SessionState
 operators id unit = record { point = id; peer = Operator unit }
 
--- a point's, which has no link yet
+-- a point's session, which has no link yet
 abbrev pub points : List ℕ → SessionState
 points id = record { point = id; peer = Point None }
 

@@ -1,4 +1,4 @@
--- What is to be done for a message of a session: at most one step, and an answer.
+-- The work for a message of a session: at most one step, and an answer.
 use Rattle.std.specs.Prelude.{ℕ, ◌≡◌, ◌⊎◌, Bool, List, Option, Some, None, option_map}
 use Rattle.ocpp_scalars.specs.declared.instant.Instant.{Instant}
 use Rattle.ocpp_scalars.specs.declared.refusal.Refusal.TheVariants.{OutOfMemory}
@@ -26,7 +26,7 @@ use Rattle.session.specs.Session.{SessionState, side_of, answer_unit}
 pub record TodoState : Type 0 where
   -- the step that the message asks for, if it asks for one, until it is taken
   pub step : Option Step
-  -- what its sender is owed
+  -- the answer that its sender is owed
   pub owed : Owed
 
 -- a point's reply confirms a call over the point's present link, if it has one
@@ -45,12 +45,12 @@ todo_asked peer (asked.Step id kind step) =
 todo_asked peer (asked.Confirm point call accepted) =
     record { step = confirming peer point call accepted; owed = owed.Nothing }
 
--- what is to be done for a message that comes at a moment
+-- the work for a message that comes at a moment
 abbrev pub todo_of : SessionState → Instant → List ℕ → TodoState
 todo_of session now text =
     todo_asked session.peer (asked_of (sent now (side_of session.peer) session.point text))
 
--- a CALL that memory runs out for is answered so, and asks for no step
+-- a CALL for which memory runs out is answered with OutOfMemory, and asks for no step
 abbrev pub without_memory : List ℕ → TodoState
 without_memory id = record { step = None; owed = owed.Response id (Error (Refused OutOfMemory)) }
 
@@ -62,7 +62,7 @@ pub record IsOutOfMemory (text : List ℕ) (todo : TodoState) : Type 0 where
 abbrev pub IsTodo : SessionState → Instant → List ℕ → TodoState → Type 0
 IsTodo session now text todo = (todo ≡ todo_of session now text) ⊎ IsOutOfMemory text todo
 
--- A step that can't be noted isn't made: its CALL is answered as one that memory ran out for.
+-- A step that can't be noted isn't made: its CALL is answered with OutOfMemory.
 abbrev pub IsUnnoted : Owed → TodoState → Type 0
 IsUnnoted (owed.Outcome id kind) todo = todo ≡ without_memory id
 IsUnnoted other todo = ⊥

@@ -1,4 +1,4 @@
-//! What all sessions have at hand.
+//! The state that all sessions share.
 
 use compile_pool::Jobs;
 use crossbeam_channel::Sender;
@@ -10,18 +10,18 @@ use std::sync::{Mutex, Wait};
 use version_store::{Job, Shared};
 use world::{Unrecorded, World};
 
-/// What all sessions have at hand, and lend to whatever serves one.
+/// The state that all sessions share, borrowed by each function that serves one.
 #[derive(Drop)]
 pub struct Context<'a, W: World> {
     pub rt: &'a W::Runtime,
     pub alloc: Global,
-    /// The book that they share.
+    /// The book of the site.
     pub shared: &'a Shared<W::Changes, W::Answers, W::Name>,
-    /// The ways to those who compile.
+    /// The channels to the workers.
     pub jobs: Jobs<'a>,
     pub clock: &'a W::Clock,
     pub journal: &'a W::Journal,
-    /// Whoever reads a long message has this.
+    /// The lock that a session holds while it reads a long message.
     pub reading: &'a Mutex<()>,
 }
 
@@ -29,7 +29,7 @@ impl<'a, C: Ledger + 'a, A: Ledger + 'a, R: Wait + 'a, M: Moments + 'a> Context<
     'a,
     Unrecorded<C, A, R, M>,
 > {
-    /// What sessions have at hand whose changes aren't noted.
+    /// Returns the context of sessions whose changes aren't noted.
     pub fn unrecorded(
         rt: &'a R,
         alloc: Global,

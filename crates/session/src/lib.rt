@@ -1,5 +1,5 @@
 //! Sessions: the messages of operators and of charge points (OCPP-J 1.6, chapter 4), the steps that
-//! they ask for, and the messages that answer them.
+//! they request, and the messages that answer them.
 #![tactic(auto)]
 
 mod answering;

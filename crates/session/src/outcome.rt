@@ -1,10 +1,10 @@
-//! What comes of a step of a session.
+//! The outcomes of a session's steps.
 
 use ocpp_scalars::Refusal;
 use site_core::Reply;
 use version_store::{Answer, Job};
 
-/// What came of a step, as its CALL is answered.
+/// The outcome of a step, as the answer to its CALL reports it.
 #[derive(Drop)]
 pub enum Outcome {
     /// The step was made, and this is the central system's reply.
@@ -15,10 +15,10 @@ pub enum Outcome {
     Refused(Refusal),
 }
 
-/// What the one call on the book came to that a step stands for.
+/// The result of the one call on the book that makes a step.
 #[derive(Drop)]
 pub enum Performed {
-    /// A request for a schedule is kept, and this is what is to be compiled for it.
+    /// A request for a schedule is kept, and this is the job to compile for it.
     Job(Job),
     /// The step has its outcome.
     Outcome(Outcome),

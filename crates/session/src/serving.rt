@@ -34,11 +34,11 @@ use version_store::{Job, Pass, Shared};
 pub use watched_socket::WatchedSocket;
 use world::{Unrecorded, World};
 
-/// Serves a session over its socket, after its handshake, until that is closed or fails. It makes
-/// the step of each message on the shared book, and answers it. A request for a schedule goes to
-/// the workers, and is compiled here where none of them takes it. Each message of a point is
-/// followed by the call that waits for the point, if one does; and in the end the point's link is
-/// lost. Gives back the pass, which counts no less than before.
+/// Serves a session over its socket, after its handshake, until the socket is closed or fails. It
+/// makes the step of each message on the shared book, and answers it. A request for a schedule goes
+/// to the workers, and is compiled here if none of them takes it. After each message of a point the
+/// call that waits for the point is sent, if one does. In the end the point's link is lost. Returns
+/// the pass, whose counters never decrease.
 pub fn serve_socket<
     S: Read + Write + Drop,
     K: MaskKeys + Drop,
@@ -65,8 +65,8 @@ pub fn serve_socket<
     serve_session(&context, socket, core, pass)
 }
 
-/// Does what `serve_socket` does, in any world: each step that changes something is noted in its
-/// journal, as it is made, and no message leaves before all is kept that was noted by then.
+/// Does the same as `serve_socket` in any world. Each step that changes something is noted in the
+/// journal as it is made. No message leaves before everything noted by then is kept.
 pub fn serve_session<W: World, S: Read + Write + Drop, K: MaskKeys + Drop>(
     context: &Context<'_, W>,
     socket: WebSocket<S, K>,
@@ -85,10 +85,11 @@ pub fn serve_session<W: World, S: Read + Write + Drop, K: MaskKeys + Drop>(
     (ended, pass)
 }
 
-/// Ends a session that has its link: a point's link is lost, and noted so.
+/// Ends a session that has its link: a point's link is lost, and the loss noted.
 pub fn release_link<W: World>(context: &Context<'_, W>, core: SessionCore) {
     lose(context, core);
-    // What couldn't be kept now is kept before the next message that leaves, or none leaves.
+    // A failure here loses nothing: these lines are kept before the next message leaves, or none
+    // leaves.
     let _ = context.journal.write_out();
 }
 
@@ -104,7 +105,8 @@ fn answer_texts<W: World, S: Read + Write + Drop, K: MaskKeys + Drop>(
     for _text in context.rt.forever() {
         match answer_next(context, socket, core, pass) {
             Ok(Heard::Message { .. } | Heard::Control { .. }) => {}
-            // Nobody waits here for a stream that gives up.
+            // This stream has no read timeout that ends a wait, so a read that gives up is a
+            // failure.
             Ok(Heard::Nothing) => return Ended::Broken,
             Err(ended) => return ended,
         }

@@ -1,5 +1,5 @@
-//! A session on its own: from messages to what they ask for, and from outcomes to messages. It
-//! knows no socket and no store.
+//! A session without its socket and store: it turns messages into requests, and outcomes into
+//! messages.
 
 ghost use Rattle.std.specs.Prelude.{◌≡◌, IfOk, IfErr, option_map, string_bytes};
 ghost use Rattle.session.specs.Session.{operators, points, side_of, answer_unit, with_link};
@@ -18,7 +18,7 @@ use std::alloc::{AllocError, Global};
 use std::marker::Model;
 use texts::{SentText, asked_of};
 
-/// Who is at the other end of a session's socket.
+/// The peer at the other end of a session's socket.
 #[derive(Clone, Copy, PartialEq, Eq)]
 pub enum Peer {
     /// An operator, on a site of this unit.
@@ -44,8 +44,8 @@ impl Model for SessionCore {
 }
 
 impl SessionCore {
-    /// An operator's session for the point of this identity, on a site of this unit, in which
-    /// schedules are answered.
+    /// Makes an operator's session for the point of this identity. Schedules are answered in this
+    /// unit, which is the site's.
     pub fn operator(alloc: Global, id: &str, unit: Unit) -> Result<SessionCore, AllocError>
         ensures { IfOk result (λ core. core ≡ operators id.now unit) }
     {
@@ -53,7 +53,7 @@ impl SessionCore {
         SessionCore::new(alloc, id, peer)
     }
 
-    /// The session of the point of this identity, which has no link yet.
+    /// Makes the session of the point of this identity, which has no link yet.
     pub fn point(alloc: Global, id: &str) -> Result<SessionCore, AllocError>
         ensures { IfOk result (λ core. core ≡ points id.now) }
     {
@@ -71,29 +71,28 @@ impl SessionCore {
         })
     }
 
-    /// The identity of its point.
+    /// Returns the identity of the session's point.
     pub fn point_id(&self) -> &PointId
         ensures { result.now ≡ self.now.point }
     {
         &self.point
     }
 
-    /// The identity of its point, by itself.
+    /// Ends the session, and returns the identity of its point.
     pub fn into_point_id(self) -> PointId
         ensures { result ≡ self.point }
     {
         self.point
     }
 
-    /// Who is at the other end.
+    /// Returns the peer.
     pub fn peer(&self) -> Peer
         ensures { result ≡ self.now.peer }
     {
         self.peer
     }
 
-    /// Takes a link as the point's present one, which its replies confirm calls over. An operator
-    /// has none.
+    /// Sets the point's present link, over which its replies confirm calls. An operator has none.
     pub fn attached(&mut self, link: u64)
         ensures { self.new ≡ with_link self.old link }
     {
@@ -102,9 +101,9 @@ impl SessionCore {
         }
     }
 
-    /// What a message asks for that comes at this moment. The message is read into `memory`. The
-    /// refusal is `OutOfMemory`, and no CALL is refused whose id was known by then: it is to be
-    /// answered so.
+    /// Reads a message that comes at this moment into `memory`, and returns the work for it. The
+    /// refusal is `OutOfMemory`. A CALL whose id was read by then isn't refused: the work is to
+    /// answer it with `OutOfMemory`.
     pub fn read_text(
         &self,
         memory: &mut ReadingMemory,
@@ -124,8 +123,8 @@ impl SessionCore {
         }
     }
 
-    /// The answer to a message, once its step has this outcome, if it is answered. A Todo without a
-    /// step has no outcome. The refusal is `OutOfMemory`.
+    /// Returns the answer to a message whose step has this outcome, if it is answered. A Todo
+    /// without a step has no outcome. The refusal is `OutOfMemory`.
     pub fn answer(&self, todo: Todo, outcome: Option<Outcome>) -> Result<Option<String>, Refusal>
         ensures text { IfOk result
             (λ text. option_map string_bytes text ≡ answer_text self.now todo outcome) }
@@ -144,7 +143,7 @@ impl SessionCore {
         }
     }
 
-    /// Who sends its messages.
+    /// Returns the side that sends the session's messages.
     pub(crate) fn side(&self) -> Side
         ensures { result ≡ side_of self.now.peer }
     {
@@ -154,7 +153,7 @@ impl SessionCore {
         }
     }
 
-    /// The unit in which schedules are answered. A point asks for none.
+    /// Returns the unit in which schedules are answered. A point asks for no schedule.
     fn unit(&self) -> Unit
         ensures { result ≡ answer_unit self.now.peer }
     {
@@ -164,7 +163,7 @@ impl SessionCore {
         }
     }
 
-    /// The text of a response to the CALL of this id, if there is one.
+    /// Returns the text of a response to the CALL of this id, if there is one.
     fn response_text(
         &self,
         id: &MessageId,
@@ -184,11 +183,11 @@ impl SessionCore {
     }
 }
 
-/// The text of a response to the CALL of this id.
+/// Returns the text of a response to the CALL of this id.
 fn text_of_response(alloc: Global, id: &str, response: &Response) -> Result<String, AllocError>
     ensures { IfOk result (λ text. string_bytes text ≡ response_text id.now response.now) }
 {
-    // Room from the start for most answers, so that they aren't copied as they grow.
+    // Room from the start for most answers, so that the text isn't copied as it grows.
     let mut text = String::with_capacity(alloc, 128)?;
     push_response(&mut text, id, response)?;
     Ok(text)

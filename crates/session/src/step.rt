@@ -14,8 +14,8 @@ use site_core::{Reply, Step, Take};
 use std::sync::ledger::Ledger;
 use version_store::{Book, Pass};
 
-/// Makes the one call on the book that a step of a message stands for. A request for a schedule has
-/// seen what its session has, whatever the step names.
+/// Makes a message's step by one call on the book. A request for a schedule has seen the changes
+/// that its session has, whatever the step names.
 pub fn perform<C: Ledger, A: Ledger, N: ListName>(
     book: &mut Book<C, A, N>,
     pass: &mut Pass<C, A>,
@@ -43,7 +43,7 @@ pub fn perform<C: Ledger, A: Ledger, N: ListName>(
     }
 }
 
-/// Keeps a request for a schedule, which has seen what its session has.
+/// Keeps a request for a schedule, which has seen the changes that its session has.
 fn perform_take<C: Ledger, A: Ledger, N: ListName>(
     book: &mut Book<C, A, N>,
     pass: &mut Pass<C, A>,

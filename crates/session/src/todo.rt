@@ -1,4 +1,4 @@
-//! What is to be done for a message of a session: at most one step, and an answer.
+//! The work for a message of a session: at most one step, and an answer.
 
 ghost use Rattle.std.specs.Prelude.{◌≡◌, None, IfSome};
 ghost use Rattle.texts.specs.Asked.{AsksByCall};
@@ -13,19 +13,18 @@ use site_core::{PointId, Step};
 use std::marker::Model;
 use texts::Asked;
 
-/// What the sender of a message is owed.
+/// The answer that the sender of a message is owed.
 #[derive(Drop)]
 pub enum Owed {
     /// The message isn't answered.
     Nothing,
-    /// The CALL of this id is answered so.
+    /// The CALL of this id is answered by this response.
     Response { id: MessageId, response: Response },
-    /// The CALL of this id, of an action of this kind, is answered by what comes of its step.
+    /// The CALL of this id, of an action of this kind, is answered by the outcome of its step.
     Outcome { id: MessageId, kind: ActionKind },
 }
 
-/// What is to be done for a message: at most one step, and then an answer, if its sender is owed
-/// one.
+/// The work for a message: at most one step, and then an answer, if its sender is owed one.
 #[derive(Drop)]
 pub struct Todo {
     step: Option<Step>,
@@ -45,7 +44,7 @@ impl Model for Todo {
 }
 
 impl Todo {
-    /// What is to be done for what a message asks.
+    /// Returns the work for the request of a message.
     #[tactic(auto, using(crate::proofs::TodoLemmas::of_call))]
     pub(crate) fn asked(peer: Peer, asked: Asked) -> Todo
         requires { AsksByCall asked }
@@ -71,7 +70,7 @@ impl Todo {
         }
     }
 
-    /// The CALL of this id is answered that memory ran out.
+    /// Returns the work that answers the CALL of this id with `OutOfMemory`.
     pub(crate) fn without_memory(id: MessageId) -> Todo
         ensures { result ≡ without_memory id }
     {
@@ -81,8 +80,8 @@ impl Todo {
         })
     }
 
-    /// What is to be done where its step can't be noted: its CALL is answered that memory ran out.
-    /// None where no CALL asks for a step.
+    /// Returns the work if the step can't be noted: the CALL is answered with `OutOfMemory`.
+    /// Returns none if no CALL asks for a step.
     pub(crate) fn into_unnoted(self) -> Option<Todo>
         ensures { IfSome result (IsUnnoted self.owed) }
     {
@@ -98,7 +97,7 @@ impl Todo {
         Todo { step: None, owed }
     }
 
-    /// Takes its step out, if it has one, so that nobody makes it twice.
+    /// Takes the step out, if there is one, so that it can't be made twice.
     pub fn take_step(&mut self) -> Option<Step>
         ensures step { result ≡ self.old.step }
         ensures of_text { IfSome result IsOfText }
@@ -107,7 +106,7 @@ impl Todo {
         self.step.take()
     }
 
-    /// Whether it answers a BootNotification.
+    /// Returns whether this answers a BootNotification.
     pub(crate) fn is_of_boot(&self) -> bool {
         matches!(
             self.owed,
@@ -118,7 +117,7 @@ impl Todo {
         )
     }
 
-    /// What the message's sender is owed.
+    /// Returns the answer that the message's sender is owed.
     pub fn into_owed(self) -> Owed
         ensures { result ≡ self.owed }
     {
@@ -126,7 +125,7 @@ impl Todo {
     }
 }
 
-/// The step that a point's reply to the call of this number asks for, if the point has a link.
+/// Returns the step for a point's reply to the call of this number, if the point has a link.
 fn confirming(peer: Peer, point: PointId, call: u64, accepted: bool) -> Option<Step>
     ensures step { result ≡ confirming peer point call accepted }
     ensures of_text { IfSome result IsOfText }

@@ -11,6 +11,24 @@ use replay::Held;
 use site_core::{Machine, Outbox, PointAudit, WaitingStart};
 use std::alloc::{AllocError, Global};
 
+/// The column headings of the table of profiles.
+const PROFILE_HEADINGS: [&str; 8] = [
+    "id",
+    "connector",
+    "purpose",
+    "level",
+    "kind",
+    "from",
+    "until",
+    "periods",
+];
+
+/// The column headings of the table of remote starts that wait.
+const START_HEADINGS: [&str; 5] = ["connector", "idTag", "profile", "call", "its state"];
+
+/// The column headings of the table of held requests.
+const HELD_HEADINGS: [&str; 6] = ["number", "id", "point", "connector", "start", "seconds"];
+
 /// The state of a site after the lines of a script or a journal.
 #[derive(Clone, Copy)]
 pub struct Standing<'a> {
@@ -61,21 +79,20 @@ fn push_point(
     }
     write!(out, "{id}\n")?;
     push_profiles(alloc, out, book)?;
-    match transactions {
-        Some(table) => {
-            out.push_str("  transactions\n")?;
-            table.push_to(out, 4)?;
-        }
-        None => out.push_str("  no transaction\n")?,
-    }
+    push_transactions(out, transactions)?;
     push_audit(out, audit)?;
     push_starts(alloc, out, outbox, starts)?;
-    let calls_line = calls_text(alloc, outbox, calls.len())?;
-    write!(out, "  {calls_line}\n")?;
-    if !calls.is_empty() {
-        call_table(alloc, &calls)?.push_to(out, 4)?;
-    }
+    push_calls(alloc, out, outbox, &calls)?;
     push_rejected(alloc, out, rejected)
+}
+
+/// Appends the table of a point's active transactions, if there are any.
+fn push_transactions(out: &mut String, transactions: Option<Table>) -> Result<(), AllocError> {
+    let Some(table) = transactions else {
+        return out.push_str("  no transaction\n");
+    };
+    out.push_str("  transactions\n")?;
+    table.push_to(out, 4)
 }
 
 /// Appends the point's last audit, and its outcome.
@@ -104,10 +121,7 @@ fn push_starts(
     if starts.is_empty() {
         return Ok(());
     }
-    let mut table = Table::new(
-        alloc,
-        &["connector", "idTag", "profile", "call", "its state"],
-    )?;
+    let mut table = Table::new(alloc, &START_HEADINGS)?;
     for start in starts {
         let profile = match &start.profile {
             Some(profile) => profile.id.to_string(alloc)?,
@@ -123,6 +137,21 @@ fn push_starts(
     }
     out.push_str("  remote starts that wait\n")?;
     table.push_to(out, 4)
+}
+
+/// Appends the numbers of a point's calls, and a table of the unconfirmed ones.
+fn push_calls(
+    alloc: Global,
+    out: &mut String,
+    outbox: &Outbox,
+    calls: &[WaitingCall],
+) -> Result<(), AllocError> {
+    let calls_line = calls_text(alloc, outbox, calls.len())?;
+    write!(out, "  {calls_line}\n")?;
+    if !calls.is_empty() {
+        call_table(alloc, calls)?.push_to(out, 4)?;
+    }
+    Ok(())
 }
 
 /// Appends the calls that the point replied to without doing them, if there are any.
@@ -174,35 +203,32 @@ fn push_profiles(alloc: Global, out: &mut String, book: &PointBook) -> Result<()
     if rows.is_empty() {
         return out.push_str("  no profile\n");
     }
-    let mut table = Table::new(
-        alloc,
-        &[
-            "id",
-            "connector",
-            "purpose",
-            "level",
-            "kind",
-            "from",
-            "until",
-            "periods",
-        ],
-    )?;
+    let mut table = Table::new(alloc, &PROFILE_HEADINGS)?;
     for row in rows {
-        let profile = &row.profile;
         let started = book.view().active_since(row.connector as usize);
-        table.push([
-            profile.id.to_string(alloc)?,
-            row.connector.to_string(alloc)?,
-            text(alloc, purpose_name(profile.purpose))?,
-            profile.stack_level.to_string(alloc)?,
-            kind_text(alloc, profile.kind)?,
-            from_text(alloc, row, started)?,
-            until_text(alloc, row, started)?,
-            periods_text(alloc, profile)?,
-        ])?;
+        table.push(profile_cells(alloc, row, started)?)?;
     }
     out.push_str("  profiles\n")?;
     table.push_to(out, 4)
+}
+
+/// Returns the cells of a profile whose connector's transaction started at this moment.
+fn profile_cells(
+    alloc: Global,
+    row: &Row,
+    started: Option<Instant>,
+) -> Result<[String; 8], AllocError> {
+    let profile = &row.profile;
+    Ok([
+        profile.id.to_string(alloc)?,
+        row.connector.to_string(alloc)?,
+        text(alloc, purpose_name(profile.purpose))?,
+        profile.stack_level.to_string(alloc)?,
+        kind_text(alloc, profile.kind)?,
+        from_text(alloc, row, started)?,
+        until_text(alloc, row, started)?,
+        periods_text(alloc, profile)?,
+    ])
 }
 
 /// Returns the active transactions of a point, if there are any.
@@ -270,10 +296,7 @@ fn push_held(
     if requests.is_empty() {
         return Ok(());
     }
-    let mut table = Table::new(
-        alloc,
-        &["number", "id", "point", "connector", "start", "seconds"],
-    )?;
+    let mut table = Table::new(alloc, &HELD_HEADINGS)?;
     for held in requests {
         if let Some((place, ask)) = machine.request_asked(held.number) {
             let point = machine.site().point(place).map_or("-", |point| point.id);

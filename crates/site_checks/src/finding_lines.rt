@@ -140,14 +140,7 @@ fn push_counted(
     finding: &Finding,
     rest: &[Finding],
 ) -> Result<(), AllocError> {
-    let mut count = 0usize;
-    let mut last = finding;
-    for other in rest {
-        if are_alike(finding, other) {
-            count = count.saturating_add(1);
-            last = other;
-        }
-    }
+    let (count, last) = count_alike(finding, rest);
     if count < 2 {
         return push_finding(page, name, finding);
     }
@@ -166,4 +159,17 @@ fn push_counted(
         Ok(()) => Ok(()),
         Err(_) => Err(AllocError),
     }
+}
+
+/// Counts the findings that are like this one. Returns the last of them too.
+fn count_alike<'a>(finding: &'a Finding, others: &'a [Finding]) -> (usize, &'a Finding) {
+    let mut count = 0usize;
+    let mut last = finding;
+    for other in others {
+        if are_alike(finding, other) {
+            count = count.saturating_add(1);
+            last = other;
+        }
+    }
+    (count, last)
 }

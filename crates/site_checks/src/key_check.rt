@@ -71,9 +71,19 @@ fn found_in_line<'a>(
         }
         Err(KeysFault::OutOfMemory) => return Err(AllocError),
     }
-    let Some((role, name)) = user_of(line) else {
-        return Ok(None);
-    };
+    match user_of(line) {
+        Some((role, name)) => Ok(Some(found_for_client(alloc, role, name, site)?)),
+        None => Ok(None),
+    }
+}
+
+/// Returns the finding that a line lets in a client.
+fn found_for_client<'a>(
+    alloc: Global,
+    role: &str,
+    name: &'a str,
+    site: Option<&Site>,
+) -> Result<InLine<'a>, AllocError> {
     let is_point = role == "point";
     let is_missing = is_point && site.is_some_and(|site| site.place_of(name).is_none());
     let (severity, behind) = if is_missing {
@@ -81,11 +91,11 @@ fn found_in_line<'a>(
     } else {
         (Severity::Remark, "")
     };
-    Ok(Some(InLine {
+    Ok(InLine {
         severity,
         message: format!(in alloc; "it lets in {role} {name}{behind}")?,
         point: if is_point { Some(name) } else { None },
-    }))
+    })
 }
 
 /// Returns the role and the name of a line with a key, or none if the line is skipped.

@@ -11,6 +11,16 @@ pub(crate) fn fuse_at(machine: &Machine, point: &str) -> Option<u32> {
     fuse_limit(machine.book_of(point)?)
 }
 
+/// Returns the identity of the point that a line changed, if it changed one.
+fn changed_point<'a>(played: &'a PlayedLine<'_>) -> Option<&'a str> {
+    match &played.said {
+        Some(Ok(ScriptLine::Text(sent))) if played.outcome.change != PointChange::Nothing => {
+            Some(sent.point())
+        }
+        _ => None,
+    }
+}
+
 /// The fuse limit of a point.
 #[derive(Clone, Copy)]
 struct MaxProfileLimit {
@@ -46,16 +56,11 @@ impl MaxProfileLimits {
         machine: &Machine,
         played: &PlayedLine<'_>,
     ) -> Result<Option<Finding>, AllocError> {
-        let Some(Ok(ScriptLine::Text(sent))) = &played.said else {
+        let Some(point) = changed_point(played) else {
             return Ok(None);
         };
-        if played.outcome.change == PointChange::Nothing {
-            return Ok(None);
-        }
-        let (Some(place), Some(book)) = (
-            machine.site().place_of(sent.point()),
-            machine.book_of(sent.point()),
-        ) else {
+        let (Some(place), Some(book)) = (machine.site().place_of(point), machine.book_of(point))
+        else {
             return Ok(None);
         };
         let Some(fuse) = self.fuses.get_mut(place) else {

@@ -47,15 +47,11 @@ pub fn push_played<R: Clock + Eprint>(
     let mut findings = find_in_lines(rt, alloc, played.script, &mut trace)?;
     find_in_changes(alloc, &trace, 0, &mut findings)?;
     find_at_the_end(alloc, &trace, &mut findings)?;
-    find_in_boots(
-        alloc,
-        trace.playing().machine(),
-        played.boots,
-        &mut findings,
-    )?;
+    let machine = trace.playing().machine();
+    find_in_boots(alloc, machine, played.boots, &mut findings)?;
     // `LinePoints` only moves forward, and each pass above begins at the first line.
     sort_by_line(&mut findings)?;
-    let mut lines = LinePoints::new(played.script, trace.playing().machine().site());
+    let mut lines = LinePoints::new(played.script, machine.site());
     push_script_findings(page, &mut lines, findings.as_slice())?;
     if played.with_trace {
         page.push_str(trace_text(alloc, &trace)?.as_str())?;

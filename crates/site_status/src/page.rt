@@ -141,6 +141,13 @@ fn push_state(out: &mut String, point: &PointSummary<'_>) -> Result<(), AllocErr
         None => None,
     };
     push_seen(out, "Booted", booted, NOT_SEEN)?;
+    push_calls(out, point)?;
+    out.push_str("</dl>\n")?;
+    push_warnings(out, point)
+}
+
+/// Appends the state of the calls to a point.
+fn push_calls(out: &mut String, point: &PointSummary<'_>) -> Result<(), AllocError> {
     push_seen(
         out,
         "Call in flight since",
@@ -155,8 +162,11 @@ fn push_state(out: &mut String, point: &PointSummary<'_>) -> Result<(), AllocErr
         "none is",
     )?;
     push_count(out, "Calls confirmed", point.calls.confirmed)?;
-    push_count(out, "Calls rejected", point.news.rejections)?;
-    out.push_str("</dl>\n")?;
+    push_count(out, "Calls rejected", point.news.rejections)
+}
+
+/// Appends what an operator has to do about a point, if anything.
+fn push_warnings(out: &mut String, point: &PointSummary<'_>) -> Result<(), AllocError> {
     if let Some(rejection) = &point.news.rejection {
         push_rejection(out, rejection)?;
     }

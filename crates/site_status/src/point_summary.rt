@@ -66,10 +66,7 @@ fn calls_at(
         waiting_since: waiting_since_at(report, place),
         in_flight: in_flight_calls(outbox),
         in_flight_since: in_flight_since(outbox, news.sent),
-        audit: match audit {
-            Some(audit) => audit.outcome(),
-            None => AuditOutcome::NoAudit,
-        },
+        audit: audit.map_or(AuditOutcome::NoAudit, |audit| audit.outcome()),
         may_have_forgotten: may_have_forgotten(reboot),
     })
 }

@@ -1,11 +1,12 @@
-//! What a client sends, all of it from the beginning, and what it reads in the end.
+//! The bytes that a client sends, all from the beginning, and the messages that it reads in the
+//! end.
 
 use crate::named_texts::{name_of, text_of};
 use std::alloc::Global;
 use std::process::Abort;
 use tungstenite::{Duplex, MaskKeys, Message, Role, WebSocket};
 
-/// A client's masking keys, which are all the same.
+/// The masking keys of a client, which are all the same.
 #[derive(Clone, Copy)]
 struct OneKey;
 
@@ -23,8 +24,8 @@ fn client_of<'a>(alloc: Global, bytes: &'a [u8]) -> WebSocket<Duplex<&'a [u8], V
     WebSocket::from_raw_socket(alloc, stream, OneKey, Role::Client, None)
 }
 
-/// The bytes of a client that sends messages of these names, and a close frame for `close`. For `end` it
-/// sends nothing.
+/// Returns the bytes of a client that sends the messages of these names, and a close frame for
+/// `close`. For `end` it sends nothing.
 pub(crate) fn client_bytes(rt: &impl Abort, alloc: Global, names: &str) -> Vec<u8> {
     let mut socket = client_of(alloc, &[]);
     for name in names.split(' ') {
@@ -42,8 +43,8 @@ fn message_of(rt: &impl Abort, alloc: Global, name: &str) -> Message {
     Message::text(alloc, text_of(name)).expect(rt, "error")
 }
 
-/// The names of what a client reads from a server's bytes. It is read twice, in case memory was refused to
-/// one reading.
+/// Returns the names of the messages that a client reads from a server's bytes. It reads them
+/// twice, in case an allocation of one reading is refused.
 pub(crate) fn heard(alloc: Global, bytes: &[u8]) -> String {
     let (one, other) = (heard_once(alloc, bytes), heard_once(alloc, bytes));
     if one.len() < other.len() { other } else { one }

@@ -1,4 +1,5 @@
-//! Sessions that are served one after another on a shared book without workers, a line each.
+//! Serves sessions one after another on a shared book without workers, one for each line of a
+//! story.
 
 ghost use Rattle.std.specs.Prelude.{◌≡◌};
 
@@ -22,7 +23,7 @@ use tungstenite::{NoMask, Role, WebSocket};
 use version_store::{Job, Pass, Shared};
 use world::Unrecorded;
 
-/// A clock that tells one moment, or none.
+/// A clock that is always at one moment, or has none.
 #[derive(Clone, Copy)]
 pub(crate) struct Fixed(Option<Instant>);
 
@@ -34,20 +35,22 @@ impl Moments for Fixed {
 
 type Desk<'a, C, A, R> = Context<'a, Unrecorded<C, A, R, Fixed>>;
 
-/// A story, and what is enough of it.
+/// A story, and the results after which it may end.
 #[derive(Clone, Copy)]
 pub(crate) struct Tale<'a> {
     pub(crate) story: &'a str,
     pub(crate) enough: &'a str,
 }
 
-/// Plays a story's lines, such as `operator 5 450 install ask close`: who is served; after how many calls the
-/// stream fails; behind how many of its client's bytes it ends; and what the client sends. A session that is
-/// `watched`, or compiles a `small` request itself, gets what is behind `|` once it looks at its stream. A
-/// job goes to nobody where there is one of these, and else comes back. `other` is a job of another session.
-/// `timeless` is an operator's session without a clock. Returns for each how it ended, and what its client
-/// read; then the changes and answers of the book, the calls that wait, the requests that are kept, and the jobs
-/// on their way. A story that came to `enough` ends there.
+/// Plays a story's lines, such as `operator 5 450 install ask close`: the client that is served;
+/// the calls after which its stream fails; the bytes of the client after which it ends; and the
+/// messages that the client sends. A session that is `watched`, or compiles a `small` request
+/// itself, gets the messages after `|` once it polls its stream. In a story with `|` no worker
+/// takes a job from the queue; in any other story jobs come back. `other` is a job of another
+/// session. `timeless` is an operator's session without a clock. Returns for each session how it
+/// ended, and the messages that its client read; then the changes and answers of the book, the
+/// calls that wait, the requests that are kept, and the jobs in the queue. A story whose results
+/// are `enough` ends there.
 pub(crate) fn play<C: Ledger, A: Ledger, R: Abort + Wait + Clock>(
     rt: &R,
     alloc: Global,
@@ -147,8 +150,8 @@ fn serve<C: Ledger, A: Ledger, R: Abort + Wait + Clock>(
     }
 }
 
-/// Serves messages over a stream that is looked at, until none comes or the session ends. How it ended, if it
-/// did.
+/// Serves messages over a stream that is polled, until none comes or the session ends. Returns how
+/// the session ended, if it did.
 fn watch<C: Ledger, A: Ledger, R: Abort + Wait + Clock>(
     desk: &Desk<'_, C, A, R>,
     socket: WebSocket<Stream<'_>, NoMask>,
@@ -185,7 +188,8 @@ fn send_other<C: Ledger, A: Ledger, R: Abort + Wait>(
     pass
 }
 
-/// Adds what the book has, whose point has no link. The pass counts all of it.
+/// Appends the counts of the book. Checks that its point has no link, and that the pass counts all
+/// of the book.
 fn put_book<C: Ledger, A: Ledger, R: Abort + Wait>(
     desk: &Desk<'_, C, A, R>,
     jobs: &Sender<Job>,

@@ -17,7 +17,7 @@ moment [3,"1",{"currentTime":"2025-01-01T00:00:10Z"}]
 heartbeat-short [4,"1","InternalError","OutOfMemory",{}]
 clear [2,"0","ClearChargingProfile",{}]"#;
 
-/// The message of a name. Another name is a text that is no frame.
+/// Returns the message of a name. Any other name is itself the text, which is no OCPP-J frame.
 pub(crate) fn text_of(name: &str) -> &str {
     for line in TEXTS.lines() {
         let (its, text) = line.split_once(' ').unwrap_or((line, ""));

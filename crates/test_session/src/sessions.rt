@@ -1,5 +1,5 @@
-//! Stories of sessions, of which `play` has the form: sockets that fail or end anywhere, requests that are
-//! given up, and memory that is refused.
+//! Stories of sessions, in the form of `play`: sockets that fail or end anywhere, requests that are
+//! given up, and allocations that are refused.
 
 use crate::desk::{Tale, play};
 use std::alloc::Global;
@@ -9,14 +9,15 @@ use std::rt::Clock;
 use std::sync::Wait;
 use std::sync::ledger::Blank;
 
-/// What comes of a story.
+/// Returns the results of a story.
 fn played<R: Abort + Wait + Clock>(rt: &R, alloc: Global, story: &str, enough: &str) -> String {
     let tale = Tale { story, enough };
     play::<Brand, Brand, R>(rt, alloc, Blank::new(1), Blank::new(1), &tale)
 }
 
-/// Nobody compiles a job. Where its client leaves, a request is kept no longer, and is counted; one that finds
-/// no room is answered at once, one that is small too; another one waits. Without a clock no message is read.
+/// No worker compiles a job. If its client leaves, a request is kept no longer, and is counted. A
+/// request that finds no room is answered at once, and so is a small one. Any other one waits.
+/// Without a clock no message is read.
 const STORIES: &str = "watched 100 450 ask | close = closed close/0 1 1 0 1;
 watched 100 450 ask | end = broken/0 1 1 0 1;
 other; watched 100 450 ask | end = /0 0 1 1 1;open ask-short/0 1 1 1 1;
@@ -34,21 +35,22 @@ fn each_story_comes_to_its_end(rt: HostRuntime) {
     }
 }
 
-/// What an operator's session that fails later and later comes to, and the next session. First nothing is read;
-/// then the install is made and not answered; then the schedule is counted and not told; then the close.
+/// The results of an operator's session that fails later and later, and of the next session. First
+/// nothing is read; then the install is made and not answered; then the schedule is counted and not
+/// sent; then the close frame isn't sent.
 const CALLS_OF_OPERATOR: &str = "broken/0 0 1 0 0;closed accepted schedule close/1 1 2 0 0;
 broken/1 0 2 0 0;closed accepted schedule close/2 1 3 0 0;
 broken accepted/1 1 2 0 0;closed accepted schedule close/2 2 3 0 0;
 broken accepted schedule/1 1 2 0 0;closed accepted schedule close/2 2 3 0 0;
 closed accepted schedule close/1 1 2 0 0;closed accepted schedule close/2 2 3 0 0;";
 
-/// The same with a client whose bytes end.
+/// The same results with a client whose bytes end.
 const BYTES_OF_OPERATOR: &str = "broken/0 0 1 0 0;closed accepted schedule close/1 1 2 0 0;
 broken accepted/1 0 2 0 0;closed accepted schedule close/2 1 3 0 0;
 broken accepted schedule/1 1 2 0 0;closed accepted schedule close/2 2 3 0 0;
 closed accepted schedule close/1 1 2 0 0;closed accepted schedule close/2 2 3 0 0;";
 
-/// A point's call that was in flight waits again.
+/// The results of a point's session. A call that was in flight waits again.
 const CALLS_OF_POINT: &str = "broken/0 0 1 0 0;closed moment clear moment close/0 0 1 0 0;
 broken moment/0 0 1 0 0;closed moment clear moment close/0 0 1 0 0;
 broken moment clear/0 0 1 0 0;closed moment clear moment close/0 0 1 0 0;
@@ -60,7 +62,8 @@ broken moment clear/0 0 1 0 0;closed moment clear moment close/0 0 1 0 0;
 broken moment clear moment/0 0 1 0 0;closed moment clear moment close/0 0 1 0 0;
 closed moment clear moment close/0 0 1 0 0;closed moment clear moment close/0 0 1 0 0;";
 
-/// Plays a story with each number up to this for `#`. They come to each of these rows, in this order.
+/// Plays a story with each number below `most` for `#`. Checks that the results are these rows, in
+/// this order, and that no row is missing.
 fn come_to(rt: &(impl Abort + Wait + Clock), alloc: Global, story: &str, most: u32, rows: &str) {
     let (mut row, mut left) = rows.split_once('\n').expect(rt, rows);
     for number in 0..most {
@@ -94,8 +97,8 @@ fn bytes_may_end_anywhere(rt: HostRuntime) {
     come_to(&rt, rt.alloc(), story, 100, BYTES_OF_POINT);
 }
 
-/// What a session may come to of which an allocation is refused, with its book: it says so to its client, or
-/// ends. No request is left, and a point's call waits again.
+/// The possible results of a session with a refused allocation, and of its book: it reports that to
+/// its client, or ends. No request is left, and a point's call waits again.
 const SHORT_OPERATOR: &str = "closed accepted ask-short close/1 0 2 0 0
 closed accepted ask-short close/1 1 2 0 0
 closed install-short schedule-without close/0 1 1 0 0
@@ -113,8 +116,8 @@ out-of-memory moment/0 0 1 0 0
 out-of-memory moment clear/0 0 1 0 0
 out-of-memory moment clear close/0 0 1 0 0";
 
-/// Plays two sessions, of the first of which `tests/program.py` refuses an allocation. It comes to this, or to one
-/// of these, and then the next one isn't short of anything.
+/// Plays two sessions. `tests/program.py` refuses an allocation of the first one. That comes to
+/// `whole`, or to a row of `short`, and then the next session has all that it needs.
 fn may_be_refused(
     rt: &(impl Abort + Wait + Clock),
     alloc: Global,

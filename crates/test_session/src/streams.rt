@@ -1,17 +1,17 @@
-//! A server's end of a stream in memory, which fails, ends, or is looked at.
+//! A server's end of a stream in memory, which fails, ends, or is polled.
 
 use std::io::{self, ErrorKind, Read, Write};
 use world::Watched;
 
 #[derive(Drop)]
 pub(crate) struct Stream<'a> {
-    /// What has come.
+    /// The bytes that have come.
     pub(crate) first: &'a [u8],
-    /// What comes then, before the stream ends.
+    /// The bytes that come after those, before the stream ends.
     pub(crate) later: &'a [u8],
-    /// Whether that comes only once the stream is looked at.
+    /// Whether the later bytes come only once the stream is polled.
     pub(crate) waits: bool,
-    /// How many calls are left before one fails, and each later one.
+    /// The number of calls left before one fails, and each later one.
     pub(crate) calls: usize,
     pub(crate) output: &'a mut Vec<u8>,
 }

@@ -1,4 +1,4 @@
-//! A point's reply to its audit: which audit that is, and the verdict on it.
+//! A point's reply to an audit: finds the audit, and judges the reply.
 
 ghost use Rattle.std.specs.Prelude.{◌≡◌, false, None, Ok, IfOk, IsTrue, OnOk};
 ghost use Rattle.session.specs.Audit.{BringsVerdict, IsJudgedBy, IsVerdictNoted, MakesOrRefuses, audit_confirmed, audit_to_judge, reply_noted};
@@ -40,7 +40,7 @@ impl Model for OpenAudit {
     ghost view = { λ a. record { point = a.point; call = a.call; asked = a.job } };
 }
 
-/// The audit that a step replies to, if it does: the step confirms its call. Nothing is changed.
+/// Returns the open audit whose call a step confirms, if it does. Nothing is changed.
 pub(crate) fn audit_confirmed<C: Ledger, A: Ledger, N: ListName>(
     alloc: Global,
     book: &Book<C, A, N>,
@@ -63,7 +63,7 @@ pub(crate) fn audit_confirmed<C: Ledger, A: Ledger, N: ListName>(
     }
 }
 
-/// The audit whose reply is to be judged: its call was confirmed.
+/// Returns the audit whose reply is to be judged, if its call was confirmed.
 pub(crate) fn audit_to_judge(performed: &Performed, audit: Option<OpenAudit>) -> Option<OpenAudit>
     ensures { result ≡ audit_to_judge performed.now audit }
 {
@@ -75,18 +75,18 @@ pub(crate) fn audit_to_judge(performed: &Performed, audit: Option<OpenAudit>) ->
 
 /// Judges the reply to an audit whose call is confirmed, and keeps the verdict.
 ///
-/// Nobody has the book while the reply is judged. It is locked once more to keep the verdict. Other
-/// sessions may have had it since the Confirm:
+/// The book isn't locked while the reply is judged. It is locked once more to keep the verdict.
+/// Other sessions may have changed it since the Confirm:
 /// - A Start or a Stop at the point changed its transactions. Then Agrees or Differs becomes
 ///   Unsettled.
 /// - An AuditPoint began another audit. Then the verdict is refused, as late.
 /// - An Install or a Clear, or a new link, changes nothing: the book of the audit is kept.
 /// - A Finish stopped the store. Then the verdict is refused.
 ///
-/// A refused verdict is dropped, for lack of memory too: the audit then has none. The journal has a
-/// line for the reply, where its call is confirmed, and one for the verdict, where that is kept. The
-/// latter has a reply that isn't read where memory ran out for this one: a restore comes to the same
-/// verdict then. Where the verdict couldn't be noted the audit has none, and the session ends.
+/// A refused verdict is dropped, for lack of memory too: the audit then has none. The journal has
+/// a line for the reply, at the Confirm, and one for the verdict, if it is kept. If memory ran out
+/// for the reply, the latter has a reply that can't be read as a schedule, so that a restore comes
+/// to the same verdict. If the verdict can't be noted, the audit has none, and the session ends.
 pub(crate) fn judge_reply<W: World>(
     context: &Context<'_, W>,
     sent: &SentText<'_>,
@@ -118,15 +118,15 @@ pub(crate) fn judge_reply<W: World>(
     Ok(())
 }
 
-/// The reply that is noted with its verdict: as it came, or, where memory ran out, one that isn't read.
+/// Returns the reply to note with its verdict: as it came or, if memory ran out, an unreadable one.
 fn reply_to_note<'s>(sent: &'s SentText<'_>, is_short: bool) -> &'s str
     ensures { result.now ≡ reply_noted is_short sent.now.frame }
 {
     if is_short { UNREAD_REPLY } else { sent.frame() }
 }
 
-/// Keeps a verdict on the audit of a point whose call has this number. What is refused is dropped.
-/// Returns whether it is kept.
+/// Keeps a verdict on the audit of a point whose call has this number. A refused verdict is
+/// dropped. Returns whether it is kept.
 fn bring_verdict<C: Ledger, A: Ledger, N: ListName>(
     book: &mut Book<C, A, N>,
     point: PointId,
@@ -144,8 +144,8 @@ fn bring_verdict<C: Ledger, A: Ledger, N: ListName>(
     }
 }
 
-/// The verdict on what a message says, and whether memory ran out for it. What can't be read for
-/// lack of memory is judged as unread.
+/// Judges a reply. Returns the verdict, and whether memory ran out for it. A reply that can't be
+/// read for lack of memory is judged as unread.
 fn judged_by<W: World>(
     context: &Context<'_, W>,
     sent: &SentText<'_>,

@@ -21,7 +21,8 @@ use tungstenite::{MaskKeys, WebSocket};
 use version_store::{Pass, RecordedStates};
 use world::World;
 
-/// Gives a point's session its link, before its first message, and notes it. Without one it ends.
+/// Gives a point's session its link, before its first message, and notes it. Without a link the
+/// session ends.
 pub fn claim_link<W: World>(
     context: &Context<'_, W>,
     core: &mut SessionCore,
@@ -59,8 +60,8 @@ pub fn claim_link<W: World>(
     }
 }
 
-/// Sends the call that waits for a point over its link, if one does and none is in flight. Returns
-/// which.
+/// Sends the call that waits for a point over its link, if one waits and none is in flight. Returns
+/// the call that was sent.
 pub fn send_call<W: World, S: Read + Write + Drop, K: MaskKeys + Drop>(
     context: &Context<'_, W>,
     socket: &mut WebSocket<S, K>,
@@ -70,7 +71,8 @@ pub fn send_call<W: World, S: Read + Write + Drop, K: MaskKeys + Drop>(
     let Peer::Point { link: Some(link) } = core.peer() else {
         return Ok(None);
     };
-    // Most often there is nothing to send, or the point has a later link.
+    // Most often there is nothing to send, or the point has a later link. This check spares them
+    // the journal entry.
     let book = context.shared.lock(context.rt);
     let link_to_send = book.link_to_send(core.point_id().as_str());
     drop(book);
@@ -92,8 +94,8 @@ pub fn send_call<W: World, S: Read + Write + Drop, K: MaskKeys + Drop>(
     }))
 }
 
-/// The first call that waits for a point, which is in flight from then on, and noted so, and what was
-/// recorded of the book by that. None where the point has a later link by now.
+/// Makes the first waiting call of a point the one in flight, and notes that. Returns the call, and
+/// the states of the book recorded by then. Returns none if the point has a later link by now.
 fn next_call<W: World>(
     context: &Context<'_, W>,
     point: &PointId,
@@ -129,7 +131,7 @@ fn next_call<W: World>(
     }
 }
 
-/// The text of a call.
+/// Returns the text of a call.
 fn text_of_call(alloc: Global, call: &Call) -> Result<String, AllocError>
     ensures { IfOk result (λ text. string_bytes text ≡ call_text call.now) }
 {
@@ -138,9 +140,9 @@ fn text_of_call(alloc: Global, call: &Call) -> Result<String, AllocError>
     Ok(text)
 }
 
-/// The link of a point's session is lost, and noted so: a call that was in flight over it waits
-/// again. What the book refuses is dropped: the point has a later link. Where it can't be noted the
-/// point keeps the link, until it has a later one.
+/// Loses the link of a point's session, and notes that: a call in flight over it waits again. If
+/// the book refuses, nothing happens: the point has a later link. If the loss can't be noted, the
+/// point keeps the link until it has a later one.
 pub(crate) fn lose<W: World>(context: &Context<'_, W>, core: SessionCore) {
     let Peer::Point { link: Some(link) } = core.peer() else {
         return;

@@ -1,4 +1,4 @@
-//! How sessions end.
+//! The ways in which sessions end.
 
 use journal::JournalFault;
 use tungstenite::Error;
@@ -9,14 +9,14 @@ use websocket::error::ProtocolError;
 pub enum Ended {
     /// The socket was closed, by a close frame and its answer.
     Closed,
-    /// The socket failed or ended without a close frame, or no clock could be read. Or the answer to
-    /// another request came for one of the session.
+    /// The socket failed or ended without a close frame, or no clock could be read, or the session
+    /// got the answer to another request.
     Broken,
     /// Its peer broke the protocol.
     Breach(Breach),
-    /// Memory ran out where no answer could say so.
+    /// Memory ran out, and no answer could report that.
     OutOfMemory,
-    /// What the next message depends on couldn't be noted or kept, so it wasn't sent.
+    /// A step that the next message depends on couldn't be noted or kept, so it wasn't sent.
     Unsaved,
 }
 
@@ -25,11 +25,12 @@ pub enum Ended {
 pub enum Breach {
     TooLong,
     NotUtf8,
-    /// By a frame that may not come so.
+    /// A frame that the WebSocket protocol forbids.
     Frame,
 }
 
-/// How a session ends whose step can't be noted, or whose message depends on what isn't kept.
+/// Returns the end of a session whose step can't be noted, or whose message depends on an unkept
+/// step.
 pub(crate) fn ended_unsaved(fault: JournalFault) -> Ended {
     match fault {
         JournalFault::OutOfMemory => Ended::OutOfMemory,
@@ -37,7 +38,7 @@ pub(crate) fn ended_unsaved(fault: JournalFault) -> Ended {
     }
 }
 
-/// How a session ends with an error of its socket.
+/// Returns the end of a session with this error of its socket.
 pub(crate) fn ended_by(error: Error) -> Ended {
     match error {
         Error::ConnectionClosed | Error::AlreadyClosed => Ended::Closed,
@@ -49,7 +50,7 @@ pub(crate) fn ended_by(error: Error) -> Ended {
     }
 }
 
-/// Whether the peer broke the protocol by a frame, and not by its leaving.
+/// Returns whether the peer broke the protocol by a frame, and not by leaving.
 fn is_of_peer(error: ProtocolError) -> bool {
     match error {
         ProtocolError::ResetWithoutClosingHandshake

@@ -1,16 +1,16 @@
-//! What a session hears.
+//! The messages and events that a session receives.
 
 use messages::ActionKind;
 use tungstenite::Utf8Bytes;
 
-/// What came of waiting for the next message of a session.
+/// The result of waiting for the next message of a session.
 #[derive(Drop)]
 pub enum Heard {
-    /// A message came, and was served: what it told, and the call that followed it, if one did.
+    /// A message came and was served: its event, and the call that was sent after it, if one was.
     Message { told: Told, sent: Option<SentCall> },
-    /// A control frame came with so many bytes. The socket itself answers pings and closes.
+    /// A control frame came, with a payload of `bytes` bytes. The socket answers pings and closes.
     Control { bytes: usize },
-    /// None came for as long as the stream lets a read wait.
+    /// The read timed out.
     Nothing,
 }
 
@@ -21,33 +21,33 @@ pub struct SentCall {
     pub action: ActionKind,
 }
 
-/// What a message told, for whoever watches its session.
+/// The event in a message, for the observer of its session.
 #[derive(Drop)]
 pub enum Told {
-    /// A BootNotification: the point has begun anew.
+    /// A BootNotification: the point has restarted.
     Boot,
-    /// The reply to the call of this number, which is confirmed by it. Where the point didn't accept
-    /// it, with what it said instead, in at most [`texts::MAX_REJECTION_BYTES`]: its status, such as `Rejected`,
-    /// or `Unknown` where no profile matched.
+    /// The reply that confirms the call of this number. If the point didn't accept the call, the
+    /// rejection is the reply's status in at most [`texts::MAX_REJECTION_BYTES`], such as
+    /// `Rejected`, or `Unknown` if no profile matched.
     Reply {
         call: u64,
         rejection: Option<String>,
     },
-    /// A change by an operator, which added a call.
+    /// A request of an operator, which added a call.
     Added,
     /// Anything else.
     Other,
 }
 
-/// What came over a socket.
+/// A message or frame that came over a socket.
 #[derive(Drop)]
 pub enum Incoming {
     /// A text message.
     Text(Utf8Bytes),
-    /// A binary one, which says nothing.
+    /// A binary message, which OCPP-J doesn't use.
     Binary,
-    /// A control frame of so many bytes.
+    /// A control frame, with the bytes of its payload.
     Control(usize),
-    /// Nothing, for as long as the stream lets a read wait.
+    /// No message: the read timed out.
     Nothing,
 }

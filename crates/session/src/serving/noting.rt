@@ -1,4 +1,4 @@
-//! What is noted of a session's steps: those that change something.
+//! The journal entries of a session's steps: of those that change something.
 
 ghost use Rattle.std.specs.Prelude.{◌≡◌, IfOk, IfSome};
 ghost use Rattle.journal.specs.Line.{noted_state};
@@ -20,7 +20,7 @@ use version_store::{Book, RecordedStates};
 use world::World;
 
 /// Makes the entry of a message whose step may change something, or none. A request for a schedule
-/// or for a status changes nothing.
+/// or a status changes nothing.
 pub(crate) fn prepare_message<W: World>(
     context: &Context<'_, W>,
     sent: &SentText<'_>,
@@ -38,7 +38,7 @@ pub(crate) fn prepare_message<W: World>(
     context.journal.prepare(sent.moment(), sent.point(), noted)
 }
 
-/// Makes the entry of what becomes of a point's link.
+/// Makes the entry of a change of a point's link.
 pub(crate) fn prepare_link<W: World>(
     context: &Context<'_, W>,
     point: &str,
@@ -53,8 +53,8 @@ pub(crate) fn prepare_link<W: World>(
     context.journal.prepare(moment, point, noted)
 }
 
-/// Notes the step of a message, if it was made and changed something. Nobody else has had the book
-/// since before it.
+/// Notes the step of a message, if it was made and changed something. The caller has held the lock
+/// of the book since before the step.
 pub(crate) fn note_performed<W: World>(
     context: &Context<'_, W>,
     book: &Book<W::Changes, W::Answers, W::Name>,
@@ -78,7 +78,8 @@ pub(crate) fn note_performed<W: World>(
     }
 }
 
-/// Notes a step that led from a state, before which this was recorded, to the present one.
+/// Notes a step to the present state of the book. `before` is the record that ends with the state
+/// before the step.
 pub(crate) fn note_made<W: World>(
     context: &Context<'_, W>,
     book: &Book<W::Changes, W::Answers, W::Name>,
@@ -93,7 +94,7 @@ pub(crate) fn note_made<W: World>(
         .note(entry, number, &before, &book.recorded());
 }
 
-/// The reply of a step that was made.
+/// Returns the reply of a step that was made.
 fn reply_made(performed: &Performed) -> Option<&Reply>
     ensures { IfSome result (λ reply. performed.now ≡ Performed.Outcome (Outcome.Made reply.now)) }
 {

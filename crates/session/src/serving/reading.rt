@@ -1,4 +1,4 @@
-//! How a message is read into memory, of which a long one takes many times its size.
+//! Reads messages into memory. A long message takes many times its size.
 
 ghost use Rattle.std.specs.Prelude.{◌≡◌, IfErr, IfOk};
 ghost use Rattle.session.specs.Todo.{IsTodo};
@@ -14,15 +14,16 @@ use std::alloc::AllocError;
 use texts::{SentText, said_of};
 use world::World;
 
-/// While a message of more bytes is read, no other such one is: that takes up to 150 times as much.
+/// The longest message in bytes that is read beside others. Longer ones are read one at a time,
+/// since reading takes up to 150 times their size in memory.
 const LONGEST_BESIDE_OTHERS: usize = 4_096;
 
-/// Whether a message is read while no other long one is.
+/// Returns whether a message is long: no other long one is read at the same time.
 pub(crate) fn is_long(frame: &str) -> bool {
     frame.len() > LONGEST_BESIDE_OTHERS
 }
 
-/// What a message asks for. What reading it takes is given back at once.
+/// Reads a message, and returns the work for it. The memory for reading it is freed at once.
 pub(crate) fn read_message<W: World>(
     context: &Context<'_, W>,
     core: &SessionCore,
@@ -41,7 +42,7 @@ pub(crate) fn read_message<W: World>(
     todo
 }
 
-/// What a message says in reply to an audit, read in the same way.
+/// Reads a message that replies to an audit, in the same way.
 pub(crate) fn read_reply<W: World>(
     context: &Context<'_, W>,
     sent: &SentText<'_>,

@@ -1,4 +1,4 @@
-//! One message of a session: its step, its answer, and the call that follows a point's message.
+//! Serves one message of a session: its step, its answer, and the call after a point's message.
 
 ghost use Rattle.std.specs.Prelude.{◌≡◌, ◌↔◌, IsTrue, IfErr, IfOk, IfSome, option_map, string_bytes};
 ghost use Rattle.ocpp_scalars.specs.declared.refusal.Refusal.{Refusal};
@@ -35,9 +35,9 @@ use texts::SentText;
 use version_store::{Answer, Job, Pass, RecordedStates};
 use world::World;
 
-/// Waits for the next WebSocket message, and serves it if it is a text message. Where nothing comes
-/// for as long as the stream lets a read wait, says so. An error ends the session. The client of a
-/// socket that is looked at meanwhile may be gone before the answer is there: then none is sent.
+/// Waits for the next WebSocket message, and serves it if it is a text message. Returns `Nothing`
+/// if the read times out. An error ends the session. The client of a watched socket may be gone
+/// before the answer is there: then none is sent.
 pub fn answer_next<W: World, S: SessionSocket>(
     context: &Context<'_, W>,
     socket: &mut S,
@@ -69,22 +69,22 @@ pub fn answer_next<W: World, S: SessionSocket>(
     Ok(Heard::Message { told, sent })
 }
 
-/// What came of a message.
+/// The results of a message.
 #[derive(Drop)]
 pub struct Served<N: ListName> {
     /// The message that answers it, if one does.
     pub answer: Option<String>,
-    /// What it told.
+    /// The event in it.
     pub told: Told,
-    /// What was recorded of the book by its step, if it has one.
+    /// The states of the book recorded up to its step, if it has one.
     pub seen: Option<RecordedStates<N>>,
 }
 
-/// Makes the step of a message of this session that comes at this moment, if it has one, and gives
-/// the message that answers it. A request for a schedule is answered by what is right for what its
-/// point had when this very request was taken, and for what was asked. The answer to another request
-/// is never handed on: it ends the session. A step that couldn't be noted isn't made: the message is
-/// answered as one that memory ran out for.
+/// Makes the step of a message of this session that comes at this moment, if it has one, and
+/// returns the message that answers it. A request for a schedule gets the schedule that is right
+/// for its arguments and for the point's profiles when this very request was taken. The answer to
+/// another request is never handed on: it ends the session. A step that can't be noted isn't made:
+/// the message is answered with `OutOfMemory`.
 pub fn answer_message<W: World, Q: Waiting>(
     context: &Context<'_, W>,
     waiting: &mut Q,
@@ -120,9 +120,9 @@ pub fn answer_message<W: World, Q: Waiting>(
     Ok(Served { answer, told, seen })
 }
 
-/// The answer to a message whose step isn't made, since it couldn't be noted: that of a CALL that
-/// memory ran out for. A reply has none, and the session ends: its call goes out again over the
-/// point's next link.
+/// Returns the answer to a message whose step isn't made because it couldn't be noted: a CALL is
+/// answered with `OutOfMemory`. A reply has no answer, so the session ends, and its call goes out
+/// again over the point's next link.
 fn served_unmade<N: ListName>(
     core: &SessionCore,
     todo: Todo,
@@ -144,7 +144,8 @@ fn served_unmade<N: ListName>(
     }
 }
 
-/// The outcome of the step of a message, if it has one, and what was recorded of the book by it.
+/// Makes the step of a message, if it has one. Returns its outcome, and the states of the book
+/// recorded by then.
 fn outcome_of<W: World, Q: Waiting>(
     context: &Context<'_, W>,
     waiting: &mut Q,
@@ -169,7 +170,7 @@ fn outcome_of<W: World, Q: Waiting>(
 }
 
 /// Makes the step of a message. A request for a schedule is compiled, and its answer collected. A
-/// reply to the point's audit is judged, once its call is confirmed.
+/// reply to an audit of the point is judged, once the call of the audit is confirmed.
 fn outcome_of_step<W: World, Q: Waiting>(
     context: &Context<'_, W>,
     waiting: &mut Q,
@@ -197,10 +198,10 @@ fn outcome_of_step<W: World, Q: Waiting>(
     }
 }
 
-/// Makes the one call on the shared book that the step of a message stands for, and notes it behind
-/// that, if it changed something. In a reply to the point's audit, what that asked is read before:
-/// nobody else has the book in between, so it is the audit whose call is confirmed. If there is no
-/// memory for it, the call isn't confirmed, nothing is noted, and the session ends.
+/// Makes the step of a message by one call on the shared book, and then notes it, if it changed
+/// something. For a reply to an audit of the point, the audit is read first. The lock is held in
+/// between, so it is the audit whose call is confirmed. If there is no memory for it, the call
+/// isn't confirmed, nothing is noted, and the session ends.
 fn perform_noted<W: World>(
     context: &Context<'_, W>,
     pass: &mut Pass<W::Changes, W::Answers>,
@@ -232,9 +233,9 @@ fn is_confirm(step: &Step) -> bool
     matches!(step, Step::Confirm { .. })
 }
 
-/// The answer to a request that is kept, which a worker compiles, or the session itself. No lock
-/// tells that what is handed out in the end is for the book and the `Ask` of this request, so they
-/// are compared.
+/// Returns the answer to a request that is kept, which a worker compiles, or the session itself.
+/// No contract of the lock says that the collected answer has the book and the `Ask` of this
+/// request, so they are compared.
 fn answer_of<W: World, Q: Waiting>(
     context: &Context<'_, W>,
     waiting: &mut Q,
@@ -260,8 +261,8 @@ fn answer_of<W: World, Q: Waiting>(
 }
 
 /// Has a job compiled by a worker, or compiles it, and collects the answer to its request. If too
-/// many jobs wait, or the client is gone before the answer is there, the request is answered without
-/// a schedule, so that no worker begins it any more.
+/// many jobs wait, or the client is gone before the answer is there, it posts an answer without a
+/// schedule, so that no worker starts the job any more.
 fn compile_and_collect<W: World, Q: Waiting>(
     context: &Context<'_, W>,
     waiting: &mut Q,

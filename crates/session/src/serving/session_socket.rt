@@ -18,13 +18,13 @@ pub trait SessionSocket: Waiting {
     /// Masks the frames that a client sends.
     type Keys: MaskKeys + Drop;
 
-    /// What messages leave through.
+    /// Returns the WebSocket through which messages leave.
     fn websocket(&mut self) -> &mut WebSocket<Self::Stream, Self::Keys>;
 
-    /// What comes next.
+    /// Waits for the next message or frame.
     fn next(&mut self) -> Result<Incoming, Ended>;
 
-    /// Fails where it is known that the client is gone.
+    /// Fails if the client is known to be gone.
     fn still_there(&self) -> Result<(), Ended>;
 }
 
@@ -46,7 +46,7 @@ impl<S: Read + Write + Drop, K: MaskKeys + Drop> SessionSocket for WebSocket<S, 
     }
 }
 
-/// A socket that isn't looked at while its session waits.
+/// A socket that its session doesn't poll while it waits.
 impl<S, K> Waiting for WebSocket<S, K> {
     fn send_job<R: Wait>(&mut self, rt: &R, jobs: Jobs<'_>, job: Job) -> Sending {
         match jobs.send(rt, job) {

@@ -1,4 +1,4 @@
-//! Messages from a socket and to it.
+//! Reads messages from a socket, and sends messages to it.
 
 ghost use Rattle.std.specs.Prelude.{◌≡◌, IfOk};
 ghost use Rattle.session.specs.Leaving.{IsAnswerOrCall};
@@ -13,7 +13,7 @@ use std::marker::Model;
 use tungstenite::{Error, MaskKeys, Message, WebSocket};
 use version_store::RecordedStates;
 
-/// The next message.
+/// Reads the next message.
 pub(crate) fn read_next<S: Read + Write + Drop, K: MaskKeys + Drop>(
     socket: &mut WebSocket<S, K>,
 ) -> Result<Incoming, Ended> {
@@ -31,8 +31,8 @@ fn incoming_of(message: Message) -> Incoming {
     }
 }
 
-/// Nothing came where the stream gave up waiting, or was stopped in it, as a process is that is
-/// suspended. Any other error ends the session.
+/// Returns `Nothing` if the read timed out, or was interrupted, as in a process that is suspended
+/// and continued. Any other error ends the session.
 fn nothing_or_ended(error: Error) -> Result<Incoming, Ended> {
     match &error {
         Error::Io(cause) if is_of_waiting(cause.kind()) => Ok(Incoming::Nothing),
@@ -44,12 +44,12 @@ fn is_of_waiting(kind: ErrorKind) -> bool {
     matches!(kind, ErrorKind::WouldBlock | ErrorKind::Interrupted)
 }
 
-/// A message that may leave, an answer or a call: all is kept that its step depends on, as the receipt
-/// shows.
+/// A message that may leave, an answer or a call: everything that its step depends on is kept, as
+/// the receipt shows.
 #[derive(Drop)]
 pub(crate) struct Cleared<'a, N: ListName> {
     text: &'a str,
-    /// What was recorded of the book by its step, if it has one.
+    /// The states of the book recorded up to its step, if it has one.
     seen: &'a Option<RecordedStates<N>>,
     receipt: Option<Receipt<N>>,
 }
@@ -65,8 +65,9 @@ impl<'a, N: ListName> Model for Cleared<'a, N> {
     ghost invariant = { λ c. IsCleared N.is_recorded c.text.now c.receipt c.seen.now };
 }
 
-/// Waits until all is kept that a message depends on: its own step, and what others did before.
-/// Nobody has the book meanwhile. Where it isn't kept, the session ends without the message.
+/// Waits until all steps are kept that a message depends on: its own, and those of others before
+/// it. The book isn't locked meanwhile. If they can't be kept, the session ends without the
+/// message.
 pub(crate) fn clear_to_leave<'a, J: Journal<N>, N: ListName>(
     journal: &J,
     text: &'a str,

@@ -1,4 +1,4 @@
-//! What a message tells whoever watches its session.
+//! The events in messages, for the observer of a session.
 
 use crate::outcome::Outcome;
 use crate::serving::heard::Told;
@@ -7,16 +7,16 @@ use site_core::{Reply, Step};
 use std::alloc::Global;
 use texts::rejection_in;
 
-/// What a message is about, as far as its step says that.
+/// The subject of a message, as far as its step shows it.
 #[derive(Clone, Copy, PartialEq, Eq)]
 pub(crate) enum Subject {
     Boot,
-    /// It is a reply to the call of this number, and accepts it or doesn't.
+    /// A reply to the call of this number, and whether it accepts the call.
     Reply { call: u64, accepted: bool },
     Other,
 }
 
-/// What a message is about that asks for this step.
+/// Returns the subject of a message that asks for this step.
 pub(crate) fn subject_of(todo: &Todo, step: &Option<Step>) -> Subject {
     match step {
         Some(Step::Confirm { call, accepted, .. }) => Subject::Reply {
@@ -28,7 +28,7 @@ pub(crate) fn subject_of(todo: &Todo, step: &Option<Step>) -> Subject {
     }
 }
 
-/// What a message told, once its step has its outcome.
+/// Returns the event in a message whose step has its outcome.
 pub(crate) fn told_by(
     alloc: Global,
     frame: &str,
@@ -42,7 +42,7 @@ pub(crate) fn told_by(
             rejection: if accepted {
                 None
             } else {
-                // Without memory it isn't said why.
+                // Without memory the rejection has no reason, but is still reported.
                 Some(rejection_in(alloc, frame).unwrap_or_else(|_| String::new(alloc)))
             },
         },
@@ -51,7 +51,7 @@ pub(crate) fn told_by(
     }
 }
 
-/// Whether a step with this reply adds a call to the point's outbox.
+/// Returns whether a step with this reply adds a call to the point's outbox.
 fn adds_call(reply: &Reply) -> bool {
     matches!(
         reply,

@@ -1,4 +1,4 @@
-//! How a session waits for the answer to its request.
+//! The wait of a session for the answer to its request.
 
 ghost use Rattle.std.specs.Prelude.{◌≡◌, false, IfSome};
 ghost use Rattle.std.specs.Sync.Mutex.{mutex_guard_value};
@@ -15,19 +15,19 @@ use version_store::{Book, Job, Shared};
 #[derive(Drop)]
 pub enum Sending {
     Sent,
-    /// The session compiles it itself: no worker takes it, or it takes less time than to wake one.
+    /// The session compiles the job itself: no worker takes it, or waking one would take longer.
     Own(Job),
     /// Too many jobs wait for the workers.
     NoRoom(Job),
 }
 
-/// How a session waits for the answer to its request.
+/// A way for a session to wait for the answer to its request.
 pub trait Waiting {
     /// Sends a job to the workers.
     fn send_job<R: Wait>(&mut self, rt: &R, jobs: Jobs<'_>, job: Job) -> Sending;
 
-    /// Returns the book once the request of this number has its answer or isn't kept, and `None` if
-    /// the client is gone before.
+    /// Returns the book once the request of this number has its answer or isn't kept, or `None` if
+    /// the client is gone before that.
     fn until_answered<'s, R: Wait, C: Ledger, A: Ledger, N: ListName>(
         &mut self,
         rt: &R,

@@ -1,4 +1,4 @@
-//! A socket that its session looks at while it waits for a schedule.
+//! A socket that its session polls while it waits for a schedule.
 
 ghost use Rattle.std.specs.Prelude.{◌≡◌, None, IfSome, Some};
 
@@ -18,33 +18,32 @@ use tungstenite::{MaskKeys, WebSocket};
 use version_store::{Book, Job, Shared};
 use world::Watched;
 
-/// After so many milliseconds the socket is looked at for the first time: most answers are there by
-/// then.
+/// The time until the first poll of the socket, in milliseconds. Most answers are there by then.
 const FIRST_WAIT: u64 = 500;
 
-/// And after so many again and again.
+/// The time between two polls, in milliseconds.
 const NEXT_WAIT: u64 = 200;
 
-/// At most so many frames are read in a look, so that the answer doesn't wait for its client.
+/// The most frames that one poll reads, so that a client's frames can't hold up its answer.
 const MOST_FRAMES: usize = 64;
 
-/// A socket that its session looks at while it waits for a schedule: its client's pings are answered,
-/// and it is noticed when that leaves. A message that comes meanwhile is kept, and is the next one;
-/// then the socket isn't read until the answer has left.
+/// A socket that its session polls while it waits for a schedule: it answers the client's pings,
+/// and notices when the client leaves. The first message that comes meanwhile is kept as the next
+/// one. From then on the socket isn't read until the answer has left.
 #[derive(Drop)]
 pub struct WatchedSocket<'s, S, K, R> {
     rt: &'s R,
     socket: &'s mut WebSocket<S, K>,
-    /// What takes no more changes of limits than these the session compiles itself, if there is such
-    /// a number.
+    /// The most changes of limits in a schedule that the session compiles itself. With none, it
+    /// leaves each schedule to the workers.
     most_of_own: Option<u64>,
-    /// What came while the session waited: a message, or the end.
+    /// The message that came while the session waited, or the end of the socket.
     kept: Option<Result<Incoming, Ended>>,
 }
 
 impl<'s, S: Read + Write + Watched + Drop, K: MaskKeys + Drop, R> WatchedSocket<'s, S, K, R> {
-    /// The session compiles what takes no more changes of limits than `most_of_own` itself, and
-    /// nothing where that is none.
+    /// Makes the watched socket. The session compiles schedules of at most `most_of_own` changes of
+    /// limits itself.
     pub fn new(
         rt: &'s R,
         socket: &'s mut WebSocket<S, K>,
@@ -58,17 +57,17 @@ impl<'s, S: Read + Write + Watched + Drop, K: MaskKeys + Drop, R> WatchedSocket<
         }
     }
 
-    /// The socket itself.
+    /// Returns the socket itself.
     pub fn websocket(&mut self) -> &mut WebSocket<S, K> {
         self.socket
     }
 
-    /// Whether something came that isn't served yet.
+    /// Returns whether a message or the end is kept that isn't served yet.
     pub fn has_kept(&self) -> bool {
         self.kept.is_some()
     }
 
-    /// What comes next: what is kept, once, or what is read.
+    /// Returns the next message: the kept one, once, or the next that is read.
     fn next_in_order(&mut self) -> Result<Incoming, Ended>
         ensures in_order { IfSome self.old.kept (λ kept. result ≡ kept) }
         ensures once { self.new.kept ≡ None }
@@ -79,7 +78,7 @@ impl<'s, S: Read + Write + Watched + Drop, K: MaskKeys + Drop, R> WatchedSocket<
         self.read()
     }
 
-    /// What is read next.
+    /// Reads the next message, and reports its end to the stream.
     fn read(&mut self) -> Result<Incoming, Ended>
         ensures { self.new.kept ≡ self.old.kept }
     {
@@ -92,7 +91,7 @@ impl<'s, S: Read + Write + Watched + Drop, K: MaskKeys + Drop, R> WatchedSocket<
         Ok(incoming)
     }
 
-    /// Reads what has come, unless something is kept. False where the client is gone.
+    /// Polls the socket, unless a message is kept. Returns false if the client is gone.
     fn look(&mut self) -> bool
         ensures { IfSome self.old.kept (λ kept. self.new.kept ≡ Some kept) }
     {
@@ -102,7 +101,7 @@ impl<'s, S: Read + Write + Watched + Drop, K: MaskKeys + Drop, R> WatchedSocket<
         !matches!(self.kept, Some(Err(_)))
     }
 
-    /// The first message that has come, or the end, if either has.
+    /// Reads the first message that has come, or the end, if either has.
     fn seen(&mut self) -> Option<Result<Incoming, Ended>> {
         if !self.socket.get_mut().begin_look() {
             return None;
@@ -118,7 +117,7 @@ impl<'s, S: Read + Write + Watched + Drop, K: MaskKeys + Drop, R> WatchedSocket<
                 }
             }
         }
-        // Pongs leave. Where they can't, the next read or write says so.
+        // Sends the pongs. If that fails, the next read or write reports the error.
         let _ = self.socket.flush();
         if self.socket.get_mut().end_look() {
             seen

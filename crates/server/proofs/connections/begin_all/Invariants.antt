@@ -1,4 +1,4 @@
--- A session for each pass so far, and room for one for each that is to come.
+-- There is a session for each pass so far, and room for one for each pass to come.
 use Rattle.std.proofs.Common.{◌≡◌, ◌≤◌, length, vec_len, vec_capacity}
 use Rattle.server.proofs.connections.begin_all.Given as goal
 

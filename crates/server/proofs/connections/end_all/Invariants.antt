@@ -1,4 +1,4 @@
--- A pass for each session so far, and room for one for each that is to come.
+-- There is a pass for each session so far, and room for one for each session to come.
 use Rattle.std.proofs.Common.{◌≡◌, ◌≤◌, length, vec_len, vec_capacity}
 use Rattle.server.proofs.connections.end_all.Given as goal
 

@@ -1,4 +1,4 @@
--- What the seat counts so far is no less than what it counted before its first connection.
+-- The seat's counters so far are no less than before its first connection.
 use Rattle.session.specs.Serving.{KeepsPass}
 use Rattle.server.proofs.seat.keep_seat.Given as goal
 

@@ -1,4 +1,4 @@
--- No more seats so far than passes.
+-- There are no more seats so far than passes.
 use Rattle.std.proofs.Common.{◌≤◌, length}
 use Rattle.server.proofs.seats.begin_seats.Given as goal
 

@@ -1,4 +1,4 @@
--- The ledgers are those of the two blanks, and the ghost_lists are those that have no name yet.
+-- The ledgers are those of the two blanks, and the ghost lists are those that have no name yet.
 use Rattle.std.specs.Prelude.{true}
 use Rattle.server_commands.proofs.running.run_file.Given as goal
 

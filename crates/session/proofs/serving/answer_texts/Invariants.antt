@@ -1,4 +1,4 @@
--- What the session counts so far is no less than what it counted before its first message.
+-- The session's counters so far are no less than before its first message.
 use Rattle.session.specs.Serving.{KeepsPass}
 use Rattle.session.proofs.serving.answer_texts.Given as goal
 

@@ -1,4 +1,4 @@
--- A step that is neither a Take nor a Confirm is the call that it stands for.
+-- A step that is neither a Take nor a Confirm has the result of its call on the book.
 use Rattle.std.proofs.Common.{rules}
 use Rattle.session.proofs.PerformLemmas.{performs_call}
 use Rattle.session.proofs.step.perform.Goals as goal

@@ -1,4 +1,4 @@
--- What was performed is noted.
+-- A performed step is noted.
 use Rattle.std.proofs.Common.{rules}
 use Rattle.session.proofs.NotingLemmas.{change_noted, confirm_noted}
 use Rattle.session.proofs.serving.noting.note_performed.Goals as goal

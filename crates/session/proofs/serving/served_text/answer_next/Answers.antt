@@ -1,4 +1,4 @@
--- What answers a message is what was served for it.
+-- The message that leaves is the answer that was served.
 use Rattle.std.proofs.Common.{ℕ, List, sym, ap, subst, option_map, string_bytes}
 use Rattle.session.specs.Leaving.{IsAnswerOrCall}
 use Rattle.session.proofs.LeavingLemmas.{answer_leaves}
