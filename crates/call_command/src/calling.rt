@@ -25,12 +25,7 @@ pub fn call_site<R: ClientRuntime + Files<File = File> + Input>(
     calling: Calling<'_>,
 ) -> Result<u8, ProgramFault> {
     check_url(rt.alloc(), calling)?;
-    let sending = SendOptions {
-        url: calling.url,
-        login: read_login(rt, calling.login)?,
-        force: calling.force,
-        dry_run: calling.dry_run,
-    };
+    let sending = send_options(rt, calling)?;
     let mut undo = undo_in(rt, calling)?;
     let mut given = undo_calls(rt.alloc(), &mut undo);
     given.append(&mut given_calls(rt, calling)?)?;
@@ -48,6 +43,19 @@ pub fn call_site<R: ClientRuntime + Files<File = File> + Input>(
     send_calls(&mut caller, calls.as_slice(), visits.as_slice())?;
     say_waiting(rt, calling, visits.as_slice())?;
     Ok(caller.status())
+}
+
+/// Returns the options for sending messages. Reads the login from its file.
+fn send_options<'a, R: Files<File = File> + Eprint + AllocGlobal>(
+    rt: &R,
+    calling: Calling<'a>,
+) -> Result<SendOptions<'a>, ProgramFault> {
+    Ok(SendOptions {
+        url: calling.url,
+        login: read_login(rt, calling.login)?,
+        force: calling.force,
+        dry_run: calling.dry_run,
+    })
 }
 
 /// Returns which calls go to which points: to the point of the undone line, to every point of the

@@ -23,9 +23,7 @@ pub fn given_calls<R: Files<File = File> + Eprint + AllocGlobal>(
     };
     let mut calls = Vec::new(alloc);
     if let Some(path) = calling.set_profile {
-        let payload = read_payload_file(rt, path)?;
-        let frame = set_profile_call(alloc, payload.as_str())?;
-        calls.push(GivenCall::with_json("set-profile", payload, frame))?;
+        calls.push(set_profile_of(rt, path)?)?;
     }
     if let Some(payload) = calling.clear {
         let frame = clear_call(alloc, payload)?;
@@ -37,6 +35,16 @@ pub fn given_calls<R: Files<File = File> + Eprint + AllocGlobal>(
     }
     push_questions(alloc, calling, &mut calls)?;
     Ok(calls)
+}
+
+/// Returns the SetChargingProfile with the payload of a file.
+fn set_profile_of<R: Files<File = File> + Eprint + AllocGlobal>(
+    rt: &R,
+    path: &str,
+) -> Result<GivenCall, ProgramFault> {
+    let payload = read_payload_file(rt, path)?;
+    let frame = set_profile_call(rt.alloc(), payload.as_str())?;
+    Ok(GivenCall::with_json("set-profile", payload, frame))
 }
 
 /// Adds the calls of the options that change nothing.

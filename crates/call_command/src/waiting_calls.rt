@@ -3,7 +3,7 @@
 use command_io::{ProgramFault, read_digested_site};
 use jobs::Calling;
 use journal_file::ScriptEnd;
-use journal_reader::{FollowRequest, follow_journal};
+use journal_reader::{FollowRequest, FollowedJournal, follow_journal};
 use operator_calls::Visit;
 use site_core::Outbox;
 use std::alloc::AllocGlobal;
@@ -23,8 +23,25 @@ pub fn say_waiting<R: Files<File = File> + Clock + Eprint + AllocGlobal>(
     if calling.dry_run {
         return Ok(());
     }
+    let following = quiet_request(rt, folder, path)?;
+    match follow_journal(rt, following) {
+        Ok(followed) => say_of_points(rt, &followed, visits),
+        // The calls are sent by now, so this fault doesn't change the exit status.
+        Err(fault) => {
+            let _ = eprintln!(rt; "central: which calls wait isn't known: {fault}");
+        }
+    }
+    Ok(())
+}
+
+/// Reads the site file of this path. Returns the request to follow its journal without notes.
+fn quiet_request<'a, R: Files<File = File> + AllocGlobal>(
+    rt: &R,
+    folder: &'a str,
+    path: &str,
+) -> Result<FollowRequest<'a>, ProgramFault> {
     let (site, digest) = read_digested_site(rt, path)?;
-    let following = FollowRequest {
+    Ok(FollowRequest {
         site,
         digest,
         folder,
@@ -32,22 +49,17 @@ pub fn say_waiting<R: Files<File = File> + Clock + Eprint + AllocGlobal>(
         point: "",
         counted_from: None,
         is_quiet: true,
-    };
-    match follow_journal(rt, following) {
-        Ok(followed) => {
-            for visit in visits {
-                let outbox = followed.machine().outbox_of(visit.id.as_str());
-                if let (Some(outbox), false) = (outbox, visit.calls.is_empty()) {
-                    say_of_point(rt, visit.id.as_str(), outbox);
-                }
-            }
-        }
-        // The calls are sent by now, so this fault doesn't change the exit status.
-        Err(fault) => {
-            let _ = eprintln!(rt; "central: which calls wait isn't known: {fault}");
+    })
+}
+
+/// Prints which of the points with calls aren't connected, or have calls that wait.
+fn say_of_points<R: Eprint>(rt: &R, followed: &FollowedJournal, visits: &[Visit]) {
+    for visit in visits {
+        let outbox = followed.machine().outbox_of(visit.id.as_str());
+        if let (Some(outbox), false) = (outbox, visit.calls.is_empty()) {
+            say_of_point(rt, visit.id.as_str(), outbox);
         }
     }
-    Ok(())
 }
 
 /// Prints whether a point isn't connected, or has calls that wait behind the one in flight.

@@ -46,19 +46,25 @@ pub fn status_table(alloc: Global, state: &str) -> Result<StatusTable, ProgramFa
         return Err(ProgramFault::NoStatus);
     };
     let mut text = String::new(alloc);
-    let mut table = Table::new(alloc, &HEADINGS)?;
-    for point in points {
-        table.push(cells_of(alloc, point)?)?;
-    }
-    table.push_to(&mut text, 0)?;
-    for point in points {
-        push_warning(&mut text, point)?;
-    }
+    push_points(alloc, &mut text, points)?;
     let is_healthy = health == "ok";
     if !is_healthy {
         write!(text, "the site: {health}\n")?;
     }
     Ok(StatusTable { text, is_healthy })
+}
+
+/// Appends the table of points, and their warnings.
+fn push_points(alloc: Global, out: &mut String, points: &[Value<'_>]) -> Result<(), AllocError> {
+    let mut table = Table::new(alloc, &HEADINGS)?;
+    for point in points {
+        table.push(cells_of(alloc, point)?)?;
+    }
+    table.push_to(out, 0)?;
+    for point in points {
+        push_warning(out, point)?;
+    }
+    Ok(())
 }
 
 /// Returns the cells of a point.

@@ -230,23 +230,22 @@ impl<R: Wait + Clock + Eprint + AllocGlobal + Drop, N: ListName> JournalFile<R, 
                 self.turn(JournalState::Full, &error);
                 Ok(())
             }
-            Err(SyncError::OutOfMemory) => Err(JournalFault::OutOfMemory),
-            Err(SyncError::Log(LogFault::FailedBefore)) => Err(JournalFault::Unwritable),
-            Err(SyncError::Log(LogFault::Full(error))) => {
-                self.turn(JournalState::Full, &error);
-                Err(JournalFault::Unwritable)
-            }
-            Err(SyncError::Log(LogFault::Failed(error))) => {
-                // A failed write or sync leaves the contents of the file unknown, so it is never
-                // retried.
-                self.turn(JournalState::Broken, &error);
-                Err(JournalFault::Unwritable)
-            }
-            Err(SyncError::StepMissing) => {
-                self.turn(JournalState::Broken, &STEP_MISSING);
-                Err(JournalFault::Unwritable)
-            }
+            Err(error) => Err(self.turn_by(error)),
         }
+    }
+
+    /// Sets the state of the journal after a failed attempt. Returns the fault of the attempt.
+    fn turn_by(&self, error: SyncError) -> JournalFault {
+        match error {
+            SyncError::OutOfMemory => return JournalFault::OutOfMemory,
+            SyncError::Log(LogFault::FailedBefore) => {}
+            SyncError::Log(LogFault::Full(error)) => self.turn(JournalState::Full, &error),
+            // A failed write or sync leaves the contents of the file unknown, so it is never
+            // retried.
+            SyncError::Log(LogFault::Failed(error)) => self.turn(JournalState::Broken, &error),
+            SyncError::StepMissing => self.turn(JournalState::Broken, &STEP_MISSING),
+        }
+        JournalFault::Unwritable
     }
 
     /// Writes and syncs everything noted by now.

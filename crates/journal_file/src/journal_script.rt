@@ -7,7 +7,7 @@ use crate::folder_fault::FolderFault;
 use crate::journal_lines::{JournalLines, JournalPart};
 use crate::named_file::NamedFile;
 use crate::opening::open_to_read;
-use journal::{Line, Noted, RestoreFault, LineFault, Unrestored, read_bytes, split_line};
+use journal::{Line, LineFault, Noted, RestoreFault, Unrestored, read_bytes, split_line};
 use messages::Side;
 use ocpp_scalars::push_instant;
 use replay::{LONGEST_FRAME, MAX_SCRIPT_BYTES};

@@ -39,14 +39,7 @@ pub fn open_journal<R: Files<File = File> + Eprint + AllocGlobal>(
         .mode(OWN_FILE)
         .open(rt, path.as_str());
     let file = report_error(rt, path.as_str(), opened, FolderFault::Write)?;
-    // The kernel releases this lock when the process ends, so a killed one leaves none behind.
-    match file.try_lock() {
-        Ok(()) => {}
-        Err(TryLockError::WouldBlock) => return Err(FolderFault::InUse),
-        Err(TryLockError::Error(error)) => {
-            report_error(rt, path.as_str(), Err(error), FolderFault::Write)?
-        }
-    }
+    lock_journal(rt, &file, path.as_str())?;
     // Without this a power cut can lose a new file's entry in the folder.
     let synced = sync_folder(rt, folder);
     report_error(rt, folder, synced, FolderFault::Write)?;
@@ -55,6 +48,16 @@ pub fn open_journal<R: Files<File = File> + Eprint + AllocGlobal>(
         lines: NamedFile { file, path },
         reserve: ReserveFile::make(rt, reserve.as_str()),
     })
+}
+
+/// Locks the journal of this path for this process alone.
+fn lock_journal<R: Eprint>(rt: &R, file: &File, path: &str) -> Result<(), FolderFault> {
+    // The kernel releases this lock when the process ends, so a killed one leaves none behind.
+    match file.try_lock() {
+        Ok(()) => Ok(()),
+        Err(TryLockError::WouldBlock) => Err(FolderFault::InUse),
+        Err(TryLockError::Error(error)) => report_error(rt, path, Err(error), FolderFault::Write),
+    }
 }
 
 /// Creates a folder if needed. Syncs the one above it, so that a power cut can't lose the new one.

@@ -76,23 +76,30 @@ impl<'a> PointFollower<'a> {
         // The lists are compared since a line has more effects than it names: an install replaces
         // others, and a transaction ends TxProfiles.
         let now = installed_profiles(self.alloc, machine, self.point)?;
-        for profile in without(self.alloc, now.as_slice(), self.kept.as_slice())? {
-            self.changes.push(LaterChange {
-                line: played.number,
-                moment: sent.moment(),
-                profile,
-                is_install: true,
-            })?;
-        }
-        for profile in without(self.alloc, self.kept.as_slice(), now.as_slice())? {
-            self.changes.push(LaterChange {
-                line: played.number,
-                moment: sent.moment(),
-                profile,
-                is_install: false,
-            })?;
-        }
+        let installed = without(self.alloc, now.as_slice(), self.kept.as_slice())?;
+        self.add_changes(played.number, sent.moment(), installed, true)?;
+        let removed = without(self.alloc, self.kept.as_slice(), now.as_slice())?;
+        self.add_changes(played.number, sent.moment(), removed, false)?;
         self.kept = now;
+        Ok(())
+    }
+
+    /// Adds the changes of a line that installed these profiles, or removed them.
+    fn add_changes(
+        &mut self,
+        line: u64,
+        moment: Instant,
+        profiles: Vec<PrevailingProfile>,
+        is_install: bool,
+    ) -> Result<(), AllocError> {
+        for profile in profiles {
+            self.changes.push(LaterChange {
+                line,
+                moment,
+                profile,
+                is_install,
+            })?;
+        }
         Ok(())
     }
 

@@ -21,8 +21,8 @@ use std::time::Instant;
 use tungstenite::{Message, NoMask, WebSocket};
 use version_store::Pass;
 
-/// The most changes of limits in a schedule that a session compiles itself. That takes at most some
-/// 0.3 milliseconds, mostly less than waking a worker.
+/// The most changes of limits in a schedule that a session compiles itself.
+// They take at most some 0.3 milliseconds, mostly less than waking a worker.
 const MOST_OF_OWN: u64 = 1_000;
 
 /// The state of a session's client, as its seat sees it.
@@ -125,10 +125,12 @@ fn attend_next<C: Ledger, A: Ledger, R: Wait + Clock, J: Journal<N>, N: ListName
         watch.send(call);
     }
     if let Some(call) = attention.overdue(context, core) {
+        // The machine has no clock, so only the loss of the link queues the call again.
         watch.give_up(core, call);
         let _ = socket.close(None);
         return Err(Ended::Broken);
     }
+    // A message that came while a schedule was awaited is served first.
     if is_last && socket.get_ref().is_in_the_way() {
         let _ = socket.close(None);
         return Err(Ended::Broken);

@@ -52,6 +52,8 @@ pub(crate) fn admit<W: World>(
     let (PathPeer::Operator(id) | PathPeer::Point(id)) = peer;
     let book = context.shared.lock(context.rt);
     let site = book.present().site();
+    // An unknown point is refused after the handshake as well, and not with HTTP 404: a missing
+    // subprotocol has to be, and one way is enough.
     let (true, Some(place)) = (asked.offers_ocpp, site.place_of(id)) else {
         return Ok(None);
     };

@@ -26,9 +26,11 @@ use tungstenite::{NoMask, WebSocket, WebSocketConfig};
 use version_store::Pass;
 
 /// The longest message in bytes. A longer one is refused while it comes in.
+// Such a message ends the connection, to bound the memory of each seat.
 const LONGEST_MESSAGE_BYTES: usize = 1_048_576;
 
 /// The read buffer of each connection, in bytes.
+// Each connection keeps this room, however idle.
 const READ_BYTES: usize = 2_048;
 
 /// The socket of a seat.
@@ -143,9 +145,9 @@ fn shake_in_time<'a, C: Ledger, A: Ledger, R: Threads + Wait + Clock + Sync, J, 
     shaken
 }
 
-/// Does the handshake on a thread of its own, or on this one if none can be made. A handshake
-/// takes far more stack than a waiting session, and the stack that a thread once used stays in
-/// memory until the thread ends.
+/// Does the handshake on a thread of its own, or on this one if none can be made.
+// A handshake takes far more stack than a waiting session, and the stack that a thread once used
+// stays in memory until the thread ends.
 fn shake_apart<'a, R: Threads + Wait + Clock + Sync>(
     rt: &R,
     alloc: Global,

@@ -130,7 +130,7 @@ fn begin_writer<
     }
 }
 
-/// Starts a seat for each pass. Returns the number of seats for which a thread could be made.
+/// Starts a seat for each pass. Returns the number of seats that have a thread.
 fn begin_seats<
     C: Ledger + Shareable,
     A: Ledger + Shareable,

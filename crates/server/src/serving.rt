@@ -146,6 +146,7 @@ fn run_beside_workers<
             let served = run_connections(&context, listener, passes);
             shared.lock(rt).finish();
             shared.wake();
+            // The scope joins the workers, which end once the last sender is dropped.
             drop(jobs);
             served
         },

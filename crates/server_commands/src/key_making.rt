@@ -22,6 +22,7 @@ pub fn make_key<R: RandomSource + AllocGlobal + Print + Eprint>(
         Role::Point
     };
     let KeyText { digits, line } = write_key(rt.alloc(), role, making.name, &salt, &key)?;
+    // The key is shown only here: the file of keys has its salt and digest.
     let _ = eprintln!(rt; "{}:{digits}", making.name);
     match println!(rt; "{line}") {
         Ok(()) => Ok(()),

@@ -209,6 +209,7 @@ fn run_counted<
         restoring,
         seats,
     } = book;
+    // Before the restore, which may take long: until then /health answers 503.
     let port = begin_port(rt, status, status_address)?;
     let (journal, resumed) = restore_shared(rt, opened, &digest, &shared, restoring, syncs)?;
     print_resumed(rt, &resumed)?;
@@ -223,6 +224,7 @@ fn run_counted<
     if println!(rt; "listening {listen}").is_err() {
         return Err(ProgramFault::Write);
     }
+    // Without its journal no answer may leave, so the program ends, and its unit restarts it.
     context.journal().until_broken();
     Err(ProgramFault::Folder(FolderFault::Write))
 }

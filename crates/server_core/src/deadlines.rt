@@ -15,8 +15,8 @@ pub const TICK: u64 = 1;
 /// The silence of a client after which it is pinged.
 pub const SILENCE_BEFORE_PING: u64 = 150;
 
-/// The silence of a client after which its connection is closed. A charge point sends a Heartbeat
-/// every 300 seconds.
+/// The silence of a client after which its connection is closed.
+// Two Heartbeats and a minute: the answer to a BootNotification asks for one every 300 seconds.
 pub const LONGEST_SILENCE: u64 = 660;
 
 /// The time that a charge point has for its first message before it is sent a call all the same. It

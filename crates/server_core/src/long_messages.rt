@@ -2,8 +2,8 @@
 
 use std::sync::{Mutex, Wait};
 
-/// The most connections with long messages at a time. Each takes up to four times the longest
-/// message in memory, and keeps some of it until it ends.
+/// The most connections with long messages at a time.
+// Each takes up to four times the longest message in memory, and keeps some of it until it ends.
 const MAX_PLACES: u64 = 16;
 
 /// The places for connections with long messages: how many are free, and how many connections wait
@@ -46,6 +46,7 @@ impl LongMessages {
     pub fn ask<R: Wait>(&self, rt: &R, place: LongMessagePlace) -> LongMessagePlace {
         let mut places = self.places.lock(rt);
         if places.free == 0 {
+            // A waiting connection asks again at each tick, and is counted once.
             if place == LongMessagePlace::Unasked {
                 places.waiting = places.waiting.saturating_add(1);
             }
@@ -71,6 +72,7 @@ impl LongMessages {
     /// Returns whether more connections wait for a place than places are free.
     pub fn are_wanted<R: Wait>(&self, rt: &R) -> bool {
         let places = self.places.lock(rt);
+        // A waiting connection may take a second to ask again, so a free place counts as given.
         places.waiting > places.free
     }
 }

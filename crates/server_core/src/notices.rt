@@ -7,6 +7,7 @@ use std::mem;
 use std::sync::{Condvar, Mutex, Wait};
 
 /// The most lines that wait to be written. Further ones are left out, and counted.
+// Standard error may be a pipe without a reader, and then lines would fill the memory.
 const MAX_WAITING: usize = 1_024;
 
 /// The lines that wait to be written to standard error. A session that adds one never waits for a
@@ -115,6 +116,7 @@ fn line_of(alloc: Global, moment: Instant, who: &str, what: &str) -> Result<Stri
     let mut line = String::from_str(alloc, "central: ")?;
     push_instant(&mut line, moment)?;
     line.push(' ')?;
+    // Both texts may come from a client: a line break would forge another line.
     push_without_controls(&mut line, who)?;
     line.push_str(": ")?;
     push_without_controls(&mut line, what)?;

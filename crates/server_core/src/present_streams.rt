@@ -8,9 +8,9 @@ use std::alloc::{AllocError, Global};
 use std::marker::Model;
 use std::sync::{Mutex, Wait};
 
-/// A point's newest link, and the stream of that link while it is connected. The link stays when
-/// the stream goes. Otherwise an earlier connection that enters late would be taken for the newest,
-/// and the point would get no calls over it.
+/// A point's newest link, and the stream of that link while it is connected.
+// The link stays when the stream goes. Otherwise an earlier connection that enters late would be
+// taken for the newest, and the point would get no calls over it.
 #[derive(Drop)]
 struct Present {
     link: u64,
@@ -46,6 +46,8 @@ impl Present {
         ensures later { self.new ≡ entered self.old link }
         ensures shut { link < self.old.link → IsSome result }
     {
+        // A link is drawn under the lock of the book, and enters later under this one. So a session
+        // with a later link may have come first.
         if link < self.link {
             return Some(stream);
         }

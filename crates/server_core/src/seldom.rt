@@ -4,6 +4,7 @@ use std::rt::Clock;
 use std::time::Instant;
 
 /// The shortest time between two reports of the same line, in seconds.
+// Its events may come many times a second: a failed accept is tried again after 100 milliseconds.
 const SECONDS_BETWEEN: u64 = 60;
 
 /// The time of a line's last report, which limits how often it repeats.

@@ -173,6 +173,7 @@ impl SiteWatch {
         let rejection = rejection_of(news.sent, call, rejection);
         let is_rejected = rejection.is_some();
         let action = news.reply(call, rejection, moment);
+        // A boot is kept until its point confirms an install, which this reply may do.
         let is_new = boot_to_keep(news) != kept;
         drop(seen);
         if is_new {
@@ -224,6 +225,7 @@ impl SiteWatch {
 }
 
 /// Returns since when a call to the point at a place waits, if one does.
+// The state may have changed since these moments: a call has one only if both have its number.
 fn waiting_at(machine: &Machine, place: usize, moments: &CallMoments) -> Option<Instant> {
     let point = machine.site().point(place)?;
     moments.waiting_since(machine.outbox_of(point.id)?)

@@ -27,6 +27,8 @@ impl<R: Clock> StatusStream<'_, R> {
 
 impl<R: Clock> Read for StatusStream<'_, R> {
     fn read(&mut self, buf: &mut [u8]) -> io::Result<usize> {
+        // Set for each read: with one timeout for all, a client could send a byte now and then and
+        // never meet the deadline.
         let left = self.left()?;
         self.stream.set_read_timeout(Some(left))?;
         let mut stream = self.stream;

@@ -20,6 +20,7 @@ pub struct UnfinishedHandshakes {
 struct BegunHandshakes {
     /// In the order in which they began.
     handshakes: Vec<BegunHandshake>,
+    // Positions change as others end, so each handshake has a number.
     next_number: u64,
 }
 
@@ -62,6 +63,7 @@ impl UnfinishedHandshakes {
     /// Removes the handshake of this number, which is complete or has failed.
     pub fn end<R: Wait>(&self, rt: &R, number: u64) {
         let mut unfinished = self.begun.lock(rt);
+        // None is found if the handshake has given way meanwhile.
         let found = unfinished
             .handshakes
             .iter()

@@ -64,10 +64,12 @@ fn take_seat<C: Ledger, A: Ledger, R: Wait + Clock, J, N: ListName>(
     if seats.free.take(rt) {
         return true;
     }
+    // A handshake gives way and no session, whose end would cost its client the link.
     if !seats.handshakes.shut_longest(rt) {
         return false;
     }
     seats.watch.refuse(rt);
+    // The seat is free only when its thread has noticed that the stream is shut.
     for _look in 0..LOOKS {
         thread::sleep(rt, Duration::from_millis(LOOK));
         if seats.free.take(rt) {

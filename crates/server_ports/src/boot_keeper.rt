@@ -17,6 +17,7 @@ use std::{io, thread};
 use world::Shareable;
 
 /// The shortest time between two writes of the boots, in seconds.
+// Each write syncs a file, and keeps all boots that changed since the last one.
 const SECONDS_BETWEEN: u64 = 1;
 
 /// A place that keeps the boots of points.

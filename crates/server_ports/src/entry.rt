@@ -41,6 +41,7 @@ impl Access<'_> {
             return Ok(None);
         };
         let headers = request.headers();
+        // Browsers let each web page open a WebSocket to any host, also to this machine.
         if headers.contains_key(ORIGIN) {
             return Ok(Some(StatusCode::FORBIDDEN));
         }

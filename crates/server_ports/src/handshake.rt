@@ -85,6 +85,8 @@ fn accepted(
     ) else {
         return response;
     };
+    // Without OCPP 1.6 the handshake is completed too, before the socket is closed: OCPP-J 1.6,
+    // chapter 3.2, demands it.
     if offers_ocpp {
         let name = HeaderName::from_static(SUBPROTOCOLS);
         let value = HeaderValue::from_static(OCPP_16);
@@ -140,6 +142,7 @@ pub fn shake_hands<S: Read + Write + Drop>(
     entry: Access<'_>,
     stream: S,
 ) -> Result<(WebSocket<S, NoMask>, ClientRequest), Unshaken> {
+    // The callback is consumed, and returns only a response: its findings come out through these.
     let (mut asked, mut refused) = (None, None);
     let reading = RequestReader {
         alloc,

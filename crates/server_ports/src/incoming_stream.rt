@@ -27,6 +27,7 @@ const CONTROL_HEAD: usize = 6;
 const LOOK: u64 = 1;
 
 /// The most reads in one poll.
+// A client that sends without pause would otherwise keep its session in the poll.
 const READS_OF_LOOK: u32 = 64;
 
 /// The most times that a read of a handshake is repeated because a signal interrupted it.
@@ -98,6 +99,7 @@ impl<'a, R: Clock + Wait> IncomingStream<'a, R> {
     /// the system doesn't allow that.
     pub fn end_handshake(&mut self) -> bool {
         self.handshake = None;
+        // The bytes of the handshake were counted as those of a message.
         self.unfinished = None;
         let tick = Duration::from_secs(TICK);
         self.stream.set_read_timeout(Some(tick)).is_ok()
@@ -154,6 +156,8 @@ impl<'a, R: Clock + Wait> IncomingStream<'a, R> {
         if self.place == LongMessagePlace::Taken {
             return Ok(());
         }
+        // Nothing is read meanwhile, so the rest of the message takes no memory here. Its deadline
+        // moves on, since its client doesn't cause this wait.
         let before = Instant::now(self.rt)?;
         thread::sleep(self.rt, Duration::from_secs(TICK));
         let waited = Instant::now(self.rt)?.checked_duration_since(before);
@@ -250,6 +254,8 @@ impl<R: Clock + Wait> Watched for IncomingStream<'_, R> {
         let bytes = message
             .bytes
             .saturating_sub(payload.saturating_add(CONTROL_HEAD));
+        // Control frames may come between the fragments of a message (RFC 6455, section 5.4), and
+        // must not end its deadline.
         self.unfinished = if bytes == 0 {
             None
         } else {

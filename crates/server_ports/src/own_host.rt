@@ -26,6 +26,7 @@ pub fn is_for_this_machine(headers: &HeaderMap<HeaderValue>, address: &str) -> b
 /// own name resolves to this machine sends that name (DNS rebinding), so it is refused.
 pub fn is_own_host(host: &str, address: &str) -> bool {
     let name = name_of(host);
+    // A web page can rebind its own name to this machine, but no address.
     name.parse::<IpAddr>().is_ok()
         || name.eq_ignore_ascii_case(LOCALHOST)
         || name.eq_ignore_ascii_case(name_of(address))

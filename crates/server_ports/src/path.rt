@@ -17,6 +17,7 @@ pub fn peer_of_path(path: &str) -> PathPeer<'_> {
     }
 }
 
+// A charge point appends its identity to the URL that it is given, whatever path that has.
 fn last_segment(path: &str) -> &str {
     match path.rsplit_once('/') {
         Some((_, last)) => last,

@@ -54,8 +54,8 @@ pub fn push_path(said: &mut String, path: &str) -> Result<(), AllocError> {
     Ok(())
 }
 
-/// Appends a user, or only its beginning if it is long. A user that looks like a key isn't printed:
-/// a client may have sent its key in the place of the user.
+/// Appends a user, or only its beginning if it is long.
+// A client may send its key in the place of its user, and keys must not get into the log.
 fn push_user(said: &mut String, user: &Option<String>) -> Result<(), AllocError> {
     let Some(user) = user else {
         return said.push_str(", no user");

@@ -68,6 +68,7 @@ impl<
         let machine = copied?;
         let points = machine.site().len();
         let watch = SiteWatch::make(alloc, points)?;
+        // The moments of calls don't survive a restart, so calls from before it count from now.
         if let Some(moment) = clock.now() {
             watch.see_all_calls(&rt, &machine, moment);
         }

@@ -15,8 +15,8 @@ use std::thread::Threads;
 use version_store::Job;
 use world::Shareable;
 
-/// The most long jobs that wait for workers: half of the requests that may be open at a time. The
-/// other half is left to short jobs.
+/// The most long jobs that wait for workers: half of the requests that may be open at a time.
+// The other half is left to short jobs, which long ones would otherwise keep out.
 const MAX_LONG_JOBS: usize = MAX_JOBS / 2;
 
 /// The senders of jobs to the workers: to those of short jobs, and to those of long ones.
@@ -56,6 +56,7 @@ pub fn begin_workers<
 ) -> Result<JobSenders, ServeFault>
     requires { 1 ≤ workers }
 {
+    // With one worker there are two threads, so that short jobs never wait for a long one.
     let for_long = (workers / 2).max(1);
     let for_short = (workers - workers / 2).max(1);
     Ok(JobSenders {
@@ -87,6 +88,7 @@ fn begin_pool<
             requires { 1 ≤ workers }
         { run_pool(&rt, alloc, workers, &queue, &shared, &Open) },
     );
+    // If no thread could be made, the queue was dropped with its closure, and each send fails.
     drop(pool);
     Ok(jobs)
 }

@@ -105,8 +105,7 @@ fn answer_texts<W: World, S: Read + Write + Drop, K: MaskKeys + Drop>(
     for _text in context.rt.forever() {
         match answer_next(context, socket, core, pass) {
             Ok(Heard::Message { .. } | Heard::Control { .. }) => {}
-            // This stream has no read timeout that ends a wait, so a read that gives up is a
-            // failure.
+            // `serve` sets no read timeout, so a read that gives up counts as a failure.
             Ok(Heard::Nothing) => return Ended::Broken,
             Err(ended) => return ended,
         }

@@ -99,6 +99,7 @@ pub(crate) fn judge_reply<W: World>(
     equal_books_are_one();
     verdicts_are_computed();
     let OpenAudit { point, call, job } = audit;
+    // `Judged` can hold only a right verdict, so the session needn't be trusted.
     let (judged, is_short) = judged_by(context, sent, job);
     let frame = reply_to_note(sent, is_short);
     let noted = Noted::Verdict { call, frame };

@@ -33,6 +33,7 @@ pub fn claim_link<W: World>(
     if let Peer::Operator { .. } = core.peer() {
         return Ok(());
     }
+    // The entry is complete except for the number of the link: no line is built under the lock.
     let noted = Noted::Attached { link: 0 };
     let entry = match prepare_link(context, core.point_id().as_str(), noted) {
         Ok(entry) => entry,
@@ -86,6 +87,8 @@ pub fn send_call<W: World, S: Read + Write + Drop, K: MaskKeys + Drop>(
         return Err(Ended::OutOfMemory);
     };
     let seen = Some(seen);
+    // A call waits for the journal as an answer does. If the Confirm before it were lost in a
+    // crash, a restart would send the confirmed call again, after this one.
     let cleared = clear_to_leave(context.journal, text.as_str(), &seen)?;
     send_text(context.alloc, socket, cleared)?;
     Ok(Some(SentCall {

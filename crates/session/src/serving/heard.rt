@@ -26,9 +26,10 @@ pub struct SentCall {
 pub enum Told {
     /// A BootNotification: the point has restarted.
     Boot,
-    /// The reply that confirms the call of this number. If the point didn't accept the call, the
-    /// rejection is the reply's status in at most [`texts::MAX_REJECTION_BYTES`], such as
-    /// `Rejected`, or `Unknown` if no profile matched.
+    /// A reply that confirms the call of this number. If the point didn't accept the call, the
+    /// rejection is the status of the reply, such as `Rejected`, or `Unknown` if no profile
+    /// matched. For any other reply it is the beginning, in at most
+    /// [`texts::MAX_REJECTION_BYTES`].
     Reply {
         call: u64,
         rejection: Option<String>,

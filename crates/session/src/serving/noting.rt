@@ -46,7 +46,7 @@ pub(crate) fn prepare_link<W: World>(
 ) -> Result<Option<Entry>, JournalFault>
     ensures { IfOk result (λ entry. IfSome entry (IsEntryAt point.now (noted_state noted.entry))) }
 {
-    // Moments are noted and never compared, so one is as good as none.
+    // Moments in the journal are never compared, so without a clock any moment will do.
     let Some(moment) = context.clock.now().or(Instant::try_new(0)) else {
         unreachable!()
     };

@@ -14,8 +14,8 @@ use std::alloc::AllocError;
 use texts::{SentText, said_of};
 use world::World;
 
-/// The longest message in bytes that is read beside others. Longer ones are read one at a time,
-/// since reading takes up to 150 times their size in memory.
+/// The longest message in bytes that is read beside others. Longer ones are read one at a time.
+// Reading takes up to 150 times the size of a message in memory, so many at once could exhaust it.
 const LONGEST_BESIDE_OTHERS: usize = 4_096;
 
 /// Returns whether a message is long: no other long one is read at the same time.
@@ -36,6 +36,7 @@ pub(crate) fn read_message<W: World>(
     if !is_long(frame) {
         return core.read_text(&mut ReadingMemory::new(context.alloc), moment, frame);
     }
+    // The memory is a temporary of the next statement, so it is freed before the lock.
     let alone = context.reading.lock(context.rt);
     let todo = core.read_text(&mut ReadingMemory::new(context.alloc), moment, frame);
     drop(alone);

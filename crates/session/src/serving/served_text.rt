@@ -65,6 +65,8 @@ pub fn answer_next<W: World, S: SessionSocket>(
         let cleared = clear_to_leave(context.journal, answer.as_str(), &seen)?;
         send_text(context.alloc, socket.websocket(), cleared)?;
     }
+    // Only now: a call that was taken before the answer left would be in flight and never sent if
+    // the answer failed.
     let sent = send_call(context, socket.websocket(), core, now)?;
     Ok(Heard::Message { told, sent })
 }
@@ -114,6 +116,7 @@ pub fn answer_message<W: World, Q: Waiting>(
     let Ok(answer) = core.answer(todo, outcome) else {
         return Err(Ended::OutOfMemory);
     };
+    // A reply has no answer that could report it. The end of the session queues its call again.
     if is_short && answer.is_none() {
         return Err(Ended::OutOfMemory);
     }
@@ -253,6 +256,8 @@ fn answer_of<W: World, Q: Waiting>(
     let Ok(book) = book else {
         return Ok(Outcome::Refused(Refusal::OutOfMemory));
     };
+    // If equal numbers alone tied the answer to the request, a body that hands out the schedule of
+    // another session would be proved too.
     if book.same(answer.book()) && is_same(&ask, answer.ask()) {
         Ok(Outcome::Answered(answer))
     } else {

@@ -24,7 +24,8 @@ const FIRST_WAIT: u64 = 500;
 /// The time between two polls, in milliseconds.
 const NEXT_WAIT: u64 = 200;
 
-/// The most frames that one poll reads, so that a client's frames can't hold up its answer.
+/// The most frames that one poll reads.
+// Otherwise a client that sends pings without pause would hold up its own answer.
 const MOST_FRAMES: usize = 64;
 
 /// A socket that its session polls while it waits for a schedule: it answers the client's pings,
@@ -34,16 +35,15 @@ const MOST_FRAMES: usize = 64;
 pub struct WatchedSocket<'s, S, K, R> {
     rt: &'s R,
     socket: &'s mut WebSocket<S, K>,
-    /// The most changes of limits in a schedule that the session compiles itself. With none, it
-    /// leaves each schedule to the workers.
+    /// The most changes of limits in a schedule that the session compiles without asking a worker.
     most_of_own: Option<u64>,
     /// The message that came while the session waited, or the end of the socket.
     kept: Option<Result<Incoming, Ended>>,
 }
 
 impl<'s, S: Read + Write + Watched + Drop, K: MaskKeys + Drop, R> WatchedSocket<'s, S, K, R> {
-    /// Makes the watched socket. The session compiles schedules of at most `most_of_own` changes of
-    /// limits itself.
+    /// Makes the watched socket. The session compiles a schedule of at most `most_of_own` changes
+    /// of limits itself. With none, it first tries to send each schedule to a worker.
     pub fn new(
         rt: &'s R,
         socket: &'s mut WebSocket<S, K>,
@@ -95,6 +95,8 @@ impl<'s, S: Read + Write + Watched + Drop, K: MaskKeys + Drop, R> WatchedSocket<
     fn look(&mut self) -> bool
         ensures { IfSome self.old.kept (λ kept. self.new.kept ≡ Some kept) }
     {
+        // One message is kept and no more: the client's next bytes wait in its socket, and take no
+        // memory here.
         if self.kept.is_none() {
             self.kept = self.seen();
         }
