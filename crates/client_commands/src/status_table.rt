@@ -2,6 +2,7 @@
 
 use command_io::ProgramFault;
 use json::{Error, Scratch, Value};
+use page_text::Page;
 use show_pages::Table;
 use site_status::push_without_controls;
 use std::alloc::{AllocError, Global};
@@ -45,50 +46,46 @@ pub fn status_table(alloc: Global, state: &str) -> Result<StatusTable, ProgramFa
     ) else {
         return Err(ProgramFault::NoStatus);
     };
-    let mut text = String::new(alloc);
-    push_points(alloc, &mut text, points)?;
+    let mut page = Page::new(alloc);
+    push_points(&mut page, points);
     let is_healthy = health == "ok";
     if !is_healthy {
-        write!(text, "the site: {health}\n")?;
+        write!(page, "the site: {health}\n");
     }
-    Ok(StatusTable { text, is_healthy })
+    Ok(StatusTable {
+        text: page.finish()?,
+        is_healthy,
+    })
 }
 
 /// Appends the table of points, and their warnings.
-fn push_points(alloc: Global, out: &mut String, points: &[Value<'_>]) -> Result<(), AllocError> {
-    let mut table = Table::new(alloc, &HEADINGS)?;
+fn push_points(page: &mut Page, points: &[Value<'_>]) {
+    let mut table = Table::new(page.allocator(), &HEADINGS);
     for point in points {
-        table.push(cells_of(alloc, point)?)?;
+        push_row(&mut table, page.allocator(), point);
     }
-    table.push_to(out, 0)?;
+    table.push_to(page, 0);
     for point in points {
-        push_warning(out, point)?;
+        push_warning(page, point);
     }
-    Ok(())
 }
 
-/// Returns the cells of a point.
-fn cells_of(alloc: Global, point: &Value<'_>) -> Result<[String; 9], AllocError> {
-    Ok([
-        cell(alloc, text_in(point, "id"))?,
-        cell(alloc, text_in(point, "connectedSince"))?,
-        cell(alloc, text_in(point, "lastText"))?,
-        cell(alloc, text_in(point, "booted"))?,
-        cell(alloc, number_in(point, "confirmed"))?,
-        cell(alloc, text_in(point, "inFlightSince"))?,
-        cell(alloc, number_in(point, "waiting"))?,
-        cell(alloc, text_in(point, "waitingSince"))?,
-        rejected_cell(alloc, point)?,
-    ])
-}
-
-fn cell(alloc: Global, text: Option<&str>) -> Result<String, AllocError> {
-    String::from_str(alloc, text.unwrap_or(NONE))
+/// Appends the row of a point.
+fn push_row(table: &mut Table, alloc: Global, point: &Value<'_>) {
+    table.begin_row();
+    for key in ["id", "connectedSince", "lastText", "booted"] {
+        table.cell(text_in(point, key).unwrap_or(NONE));
+    }
+    table.cell(number_in(point, "confirmed").unwrap_or(NONE));
+    table.cell(text_in(point, "inFlightSince").unwrap_or(NONE));
+    table.cell(number_in(point, "waiting").unwrap_or(NONE));
+    table.cell(text_in(point, "waitingSince").unwrap_or(NONE));
+    table.made_cell(rejected_cell(alloc, point));
 }
 
 /// Returns the number of calls that a point rejected, and the last of them with its reason.
 fn rejected_cell(alloc: Global, point: &Value<'_>) -> Result<String, AllocError> {
-    let mut cell = cell(alloc, number_in(point, "rejections"))?;
+    let mut cell = String::from_str(alloc, number_in(point, "rejections").unwrap_or(NONE))?;
     let Some(rejected) = point.get("rejected") else {
         return Ok(cell);
     };
@@ -105,14 +102,14 @@ fn rejected_cell(alloc: Global, point: &Value<'_>) -> Result<String, AllocError>
 }
 
 /// Appends a warning for a point, if it needs one.
-fn push_warning(out: &mut String, point: &Value<'_>) -> Result<(), AllocError> {
+fn push_warning(page: &mut Page, point: &Value<'_>) {
     let (Some(true), Some(id)) = (flag_in(point, "mayHaveForgotten"), text_in(point, "id")) else {
-        return Ok(());
+        return;
     };
     write!(
-        out,
+        page,
         "{id}: it booted, and may have forgotten its profiles: audit it, or install them anew\n"
-    )
+    );
 }
 
 fn text_in<'a>(object: &Value<'a>, key: &str) -> Option<&'a str> {

@@ -3,10 +3,11 @@
 use crate::drawing::{PictureInput, push_letter};
 use crate::entries::{LimitEntry, place_of};
 use crate::explained_request::ExplainedRequest;
-use crate::markup::push_escaped;
+use crate::markup::{push_escaped, push_made_escaped};
 use crate::scale::{BOTTOM, LEFT, Scale};
 use crate::steps::MAX_INTERVALS;
 use crate::words::{push_length, push_limit, push_short_cause, push_why};
+use page_text::Page;
 use std::alloc::{AllocError, Global};
 use sweep_compiler::Interval;
 
@@ -19,20 +20,20 @@ pub(crate) const LOWER: u64 = UPPER + 26;
 /// the name doesn't fit. Each field has a title that a pointing device shows.
 pub(crate) fn push_causes(
     alloc: Global,
-    out: &mut String,
+    out: &mut Page,
     sketch: PictureInput<'_>,
 ) -> Result<(), AllocError> {
     let (x, base) = (LEFT - 10, UPPER + 17);
     write!(
         out,
         "<text class=\"end soft\" x=\"{x}\" y=\"{base}\">set by</text>\n"
-    )?;
+    );
     let mut is_odd = false;
     for interval in sketch.explained.intervals.iter().take(MAX_INTERVALS) {
         let field = IntervalBand::of(sketch.scale, interval, is_odd);
         // A field without width can't be seen.
         if field.breadth > 0 {
-            push_field(alloc, out, sketch.explained, field)?;
+            push_field(alloc, out, sketch.explained, field);
             push_name(alloc, out, field, sketch.entries)?;
         }
         is_odd = !is_odd;
@@ -63,49 +64,50 @@ impl<'a> IntervalBand<'a> {
 
 fn push_field(
     alloc: Global,
-    out: &mut String,
+    out: &mut Page,
     explained: &ExplainedRequest<'_>,
     field: IntervalBand<'_>,
-) -> Result<(), AllocError> {
+) {
     let (x, width, height) = (field.left, field.breadth, LOWER - UPPER);
     let class = if field.is_odd { "cause odd" } else { "cause" };
-    write!(out, "<rect class=\"{class}\" x=\"{x}\" y=\"{UPPER}\"")?;
-    write!(out, " width=\"{width}\" height=\"{height}\"><title>")?;
+    write!(out, "<rect class=\"{class}\" x=\"{x}\" y=\"{UPPER}\"");
+    write!(out, " width=\"{width}\" height=\"{height}\"><title>");
     let reason = &field.interval.reason;
-    let mut title = String::new(alloc);
-    push_limit(&mut title, reason.limit, explained.unit)?;
-    title.push_str(" for ")?;
+    let mut title = Page::new(alloc);
+    push_limit(&mut title, reason.limit, explained.unit);
+    title.push_str(" for ");
     let length = field.interval.end.saturating_sub(field.interval.start);
-    push_length(&mut title, length)?;
-    title.push_str(": ")?;
-    push_why(&mut title, reason, explained.unit)?;
-    push_escaped(out, title.as_str())?;
-    out.push_str("</title></rect>\n")
+    push_length(&mut title, length);
+    title.push_str(": ");
+    push_why(&mut title, reason, explained.unit);
+    push_made_escaped(out, title.finish());
+    out.push_str("</title></rect>\n");
 }
 
 /// Appends the name of a cause if its field has room for it, or else the letter if that fits.
 fn push_name(
     alloc: Global,
-    out: &mut String,
+    out: &mut Page,
     field: IntervalBand<'_>,
     entries: &[LimitEntry],
 ) -> Result<(), AllocError> {
     let Some(place) = place_of(entries, field.interval.reason.cause) else {
         return Ok(());
     };
-    let mut letter = String::new(alloc);
-    push_letter(&mut letter, place)?;
-    let mut name = String::new(alloc);
-    push_letter(&mut name, place)?;
-    name.push(' ')?;
-    push_short_cause(&mut name, field.interval.reason.cause)?;
+    let mut name = Page::new(alloc);
+    push_letter(&mut name, place);
+    name.push(' ');
+    push_short_cause(&mut name, field.interval.reason.cause);
+    let name = name.finish()?;
+    let mut letter = Page::new(alloc);
+    push_letter(&mut letter, place);
+    let letter = letter.finish()?;
     if has_room(field, name.as_str()) {
-        push_middle(out, field, name.as_str())
+        push_middle(out, field, name.as_str());
     } else if has_room(field, letter.as_str()) {
-        push_middle(out, field, letter.as_str())
-    } else {
-        Ok(())
+        push_middle(out, field, letter.as_str());
     }
+    Ok(())
 }
 
 /// Returns whether an ASCII text fits into a field, at 7 units a character and a margin of 4.
@@ -113,9 +115,9 @@ fn has_room(field: IntervalBand<'_>, text: &str) -> bool {
     (text.len() as u64).saturating_mul(7).saturating_add(4) <= field.breadth
 }
 
-fn push_middle(out: &mut String, field: IntervalBand<'_>, text: &str) -> Result<(), AllocError> {
+fn push_middle(out: &mut Page, field: IntervalBand<'_>, text: &str) {
     let (x, base) = (field.left.saturating_add(field.breadth / 2), UPPER + 17);
-    write!(out, "<text class=\"name\" x=\"{x}\" y=\"{base}\">")?;
-    push_escaped(out, text)?;
-    out.push_str("</text>\n")
+    write!(out, "<text class=\"name\" x=\"{x}\" y=\"{base}\">");
+    push_escaped(out, text);
+    out.push_str("</text>\n");
 }

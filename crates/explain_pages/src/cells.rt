@@ -4,6 +4,7 @@ use crate::clock::{ClockTime, needs_seconds, push_date, push_time};
 use crate::explained_request::ExplainedRequest;
 use crate::words::{push_length, push_limit, push_why};
 use crate::zone_clock::ZoneClock;
+use page_text::Page;
 use std::alloc::{AllocError, Global};
 use sweep_compiler::Interval;
 
@@ -55,30 +56,30 @@ impl<'a> CellMaker<'a> {
         let to = ClockTime::shown(self.zone, self.explained.moment(interval.end));
         let dates = (self.day != Some(from.day), to.day != from.day);
         self.day = Some(from.day);
-        let mut length = String::new(alloc);
-        push_length(&mut length, interval.end.saturating_sub(interval.start))?;
-        let mut limit = String::new(alloc);
-        push_limit(&mut limit, interval.reason.limit, self.explained.unit)?;
-        let mut why = String::new(alloc);
-        push_why(&mut why, &interval.reason, self.explained.unit)?;
+        let mut length = Page::new(alloc);
+        push_length(&mut length, interval.end.saturating_sub(interval.start));
+        let mut limit = Page::new(alloc);
+        push_limit(&mut limit, interval.reason.limit, self.explained.unit);
+        let mut why = Page::new(alloc);
+        push_why(&mut why, &interval.reason, self.explained.unit);
         Ok(Cells {
             from: self.time(alloc, from, dates.0)?,
             to: self.time(alloc, to, dates.1)?,
-            length,
-            limit,
+            length: length.finish()?,
+            limit: limit.finish()?,
             tenths: interval.reason.limit,
-            why,
+            why: why.finish()?,
         })
     }
 
     fn time(&self, alloc: Global, time: ClockTime, dated: bool) -> Result<String, AllocError> {
-        let mut out = String::new(alloc);
+        let mut out = Page::new(alloc);
         if dated {
-            push_date(alloc, &mut out, time.day)?;
-            out.push(' ')?;
+            push_date(alloc, &mut out, time.day);
+            out.push(' ');
         }
-        push_time(&mut out, time.second, self.with_seconds)?;
-        Ok(out)
+        push_time(&mut out, time.second, self.with_seconds);
+        out.finish()
     }
 }
 

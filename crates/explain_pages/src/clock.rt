@@ -3,6 +3,7 @@
 use crate::explained_request::ExplainedRequest;
 use crate::zone_clock::{ZoneClock, shown_at};
 use ocpp_scalars::{Instant, LAST_SECOND, push_instant};
+use page_text::Page;
 use std::alloc::{AllocError, Global};
 
 /// Seconds in a day.
@@ -40,43 +41,48 @@ impl ClockTime {
 }
 
 /// Appends a time of day, `hh:mm` or `hh:mm:ss`.
-pub(crate) fn push_time(
-    out: &mut String,
-    second: u64,
-    with_seconds: bool,
-) -> Result<(), AllocError> {
-    push_two_digits(out, second / 3600)?;
-    out.push(':')?;
-    push_two_digits(out, second / 60 % 60)?;
+pub(crate) fn push_time(out: &mut Page, second: u64, with_seconds: bool) {
+    push_two_digits(out, second / 3600);
+    out.push(':');
+    push_two_digits(out, second / 60 % 60);
     if with_seconds {
-        out.push(':')?;
-        push_two_digits(out, second % 60)?;
+        out.push(':');
+        push_two_digits(out, second % 60);
     }
-    Ok(())
 }
 
 /// Appends the last two digits of a number.
-pub(crate) fn push_two_digits(out: &mut String, number: u64) -> Result<(), AllocError> {
-    push_digit(out, number / 10 % 10)?;
-    push_digit(out, number % 10)
+pub(crate) fn push_two_digits(out: &mut Page, number: u64) {
+    push_digit(out, number / 10 % 10);
+    push_digit(out, number % 10);
 }
 
-fn push_digit(out: &mut String, digit: u64) -> Result<(), AllocError> {
+fn push_digit(out: &mut Page, digit: u64) {
     let digit = char::from_digit((digit % 10) as u32, 10);
-    out.push(digit.unwrap_or('0'))
+    out.push(digit.unwrap_or('0'));
 }
 
 /// Appends the date of a day, `YYYY-MM-DD`.
-pub(crate) fn push_date(alloc: Global, out: &mut String, day: u64) -> Result<(), AllocError> {
-    let Some(instant) = Instant::try_new(day.saturating_mul(DAY)) else {
-        return Ok(());
-    };
+pub(crate) fn push_date(alloc: Global, out: &mut Page, day: u64) {
+    if let Some(instant) = Instant::try_new(day.saturating_mul(DAY)) {
+        out.push_made(date_text(alloc, instant));
+    }
+}
+
+/// Returns the date of an instant.
+fn date_text(alloc: Global, instant: Instant) -> Result<String, AllocError> {
+    let text = instant_text(alloc, instant)?;
+    match text.as_str().split_once('T') {
+        Some((date, _)) => String::from_str(alloc, date),
+        None => Ok(String::new(alloc)),
+    }
+}
+
+/// Returns an instant as `YYYY-MM-DDThh:mm:ssZ`.
+pub(crate) fn instant_text(alloc: Global, instant: Instant) -> Result<String, AllocError> {
     let mut text = String::new(alloc);
     push_instant(&mut text, instant)?;
-    match text.as_str().split_once('T') {
-        Some((date, _)) => out.push_str(date),
-        None => Ok(()),
-    }
+    Ok(text)
 }
 
 /// Returns the day of the week, such as `Mon`.

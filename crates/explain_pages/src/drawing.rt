@@ -6,11 +6,12 @@ use crate::explained_request::ExplainedRequest;
 use crate::scale::{BOTTOM, LEFT, RIGHT, Scale, TOP};
 use crate::steps::Steps;
 use crate::ticks::{MOST_DATES, MOST_LIMITS, MOST_TIMES, date_step, time_step};
+use crate::words::push_limit;
 use meaning::Cause;
 use messages::unit_name;
-use ocpp_scalars::{push_integer, push_tenths};
+use page_text::Page;
 use profile::Unit;
-use std::alloc::{AllocError, Global};
+use std::alloc::Global;
 
 /// The input of a picture's drawing.
 #[derive(Clone, Copy)]
@@ -23,66 +24,56 @@ pub(crate) struct PictureInput<'a> {
 }
 
 /// Appends the data of a path along steps.
-pub(crate) fn push_path(out: &mut String, scale: Scale, steps: &Steps) -> Result<(), AllocError> {
+pub(crate) fn push_path(out: &mut Page, scale: Scale, steps: &Steps) {
     let mut is_down = false;
     for step in &steps.items {
         let x = scale.x(step.second);
         if is_down {
-            write!(out, "H{x}")?;
+            write!(out, "H{x}");
         }
         if let Some(limit) = step.limit {
             let y = scale.y(limit);
             if is_down {
-                write!(out, "V{y}")?;
+                write!(out, "V{y}");
             } else {
-                write!(out, "M{x} {y}")?;
+                write!(out, "M{x} {y}");
             }
         }
         is_down = step.limit.is_some();
     }
     if is_down {
         let x = scale.x(steps.end);
-        write!(out, "H{x}")?;
+        write!(out, "H{x}");
     }
-    Ok(())
 }
 
 /// Appends the limit as a thick line, with the area below it.
-pub(crate) fn push_limit_line(
-    out: &mut String,
-    scale: Scale,
-    steps: &Steps,
-) -> Result<(), AllocError> {
-    out.push_str("<path class=\"area\" d=\"")?;
-    push_path(out, scale, steps)?;
+pub(crate) fn push_limit_line(out: &mut Page, scale: Scale, steps: &Steps) {
+    out.push_str("<path class=\"area\" d=\"");
+    push_path(out, scale, steps);
     let end = scale.x(steps.end);
-    write!(out, "L{end} {BOTTOM}L{LEFT} {BOTTOM}Z\"/>\n")?;
-    out.push_str("<path class=\"limit\" d=\"")?;
-    push_path(out, scale, steps)?;
-    out.push_str("\"/>\n")
+    write!(out, "L{end} {BOTTOM}L{LEFT} {BOTTOM}Z\"/>\n");
+    out.push_str("<path class=\"limit\" d=\"");
+    push_path(out, scale, steps);
+    out.push_str("\"/>\n");
 }
 
 /// Appends the line of an entry, styled by the entry's place.
-pub(crate) fn push_entry_line(
-    out: &mut String,
-    scale: Scale,
-    place: usize,
-    entry: &LimitEntry,
-) -> Result<(), AllocError> {
+pub(crate) fn push_entry_line(out: &mut Page, scale: Scale, place: usize, entry: &LimitEntry) {
     match &entry.line {
         LimitLine::Steps(steps) => {
-            out.push_str("<path class=\"line ")?;
-            push_style(out, place)?;
-            out.push_str("\" d=\"")?;
-            push_path(out, scale, steps)?;
-            out.push_str("\"/>\n")
+            out.push_str("<path class=\"line ");
+            push_style(out, place);
+            out.push_str("\" d=\"");
+            push_path(out, scale, steps);
+            out.push_str("\"/>\n");
         }
-        LimitLine::Level(_) if scale.is_passed_by(&entry.line) => Ok(()),
+        LimitLine::Level(_) if scale.is_passed_by(&entry.line) => {}
         LimitLine::Level(limit) => {
             let (class, y) = (ceiling_class(entry), scale.y(*limit));
-            write!(out, "<path class=\"{class}\" d=\"M{LEFT} {y}H{RIGHT}\"/>\n")
+            write!(out, "<path class=\"{class}\" d=\"M{LEFT} {y}H{RIGHT}\"/>\n");
         }
-        LimitLine::Nothing => Ok(()),
+        LimitLine::Nothing => {}
     }
 }
 
@@ -95,63 +86,52 @@ pub(crate) fn ceiling_class(entry: &LimitEntry) -> &'static str {
 }
 
 /// Appends the CSS classes of a profile's colour and dash pattern, by the profile's place.
-pub(crate) fn push_style(out: &mut String, place: usize) -> Result<(), AllocError> {
+pub(crate) fn push_style(out: &mut Page, place: usize) {
     // Six colours and eight dashes give 24 different lines before one repeats.
     let (colour, dash) = (place % 6, place % 8);
-    write!(out, "c{colour} d{dash}")
+    write!(out, "c{colour} d{dash}");
 }
 
 /// Appends the letter of an entry by its place: A to Z, then A1, B1 and so on.
-pub(crate) fn push_letter(out: &mut String, place: usize) -> Result<(), AllocError> {
-    out.push((b'A' + (place % 26) as u8) as char)?;
+pub(crate) fn push_letter(out: &mut Page, place: usize) {
+    out.push((b'A' + (place % 26) as u8) as char);
     if place >= 26 {
-        push_integer(out, place / 26)?;
+        let round = place / 26;
+        write!(out, "{round}");
     }
-    Ok(())
 }
 
 /// Appends the ticks of the limit axis, each with a grid line.
-pub(crate) fn push_limit_axis(
-    out: &mut String,
-    scale: Scale,
-    unit: Unit,
-) -> Result<(), AllocError> {
+pub(crate) fn push_limit_axis(out: &mut Page, scale: Scale, unit: Unit) {
     for count in 0..=MOST_LIMITS {
         let limit = scale.step.saturating_mul(count);
         if u64::from(limit) <= scale.top {
-            push_limit_tick(out, scale, limit, unit)?;
+            push_limit_tick(out, scale, limit, unit);
         }
     }
-    Ok(())
 }
 
-fn push_limit_tick(
-    out: &mut String,
-    scale: Scale,
-    limit: u32,
-    unit: Unit,
-) -> Result<(), AllocError> {
+fn push_limit_tick(out: &mut Page, scale: Scale, limit: u32, unit: Unit) {
     let y = scale.y(limit);
-    write!(out, "<path class=\"grid\" d=\"M{LEFT} {y}H{RIGHT}\"/>")?;
+    write!(out, "<path class=\"grid\" d=\"M{LEFT} {y}H{RIGHT}\"/>");
     let (x, base) = (LEFT - 10, y + 4);
-    write!(out, "<text class=\"end soft\" x=\"{x}\" y=\"{base}\">")?;
+    write!(out, "<text class=\"end soft\" x=\"{x}\" y=\"{base}\">");
     if scale.step % 10 == 0 {
-        push_integer(out, limit / 10)?;
+        let (whole, unit) = (limit / 10, unit_name(unit));
+        write!(out, "{whole} {unit}");
     } else {
-        push_tenths(out, limit)?;
+        push_limit(out, limit, unit);
     }
-    out.push(' ')?;
-    out.push_str(unit_name(unit))?;
-    out.push_str("</text>\n")
+    out.push_str("</text>\n");
 }
 
 /// Appends the ticks of the time axis, and the dates.
 pub(crate) fn push_time_axis(
     alloc: Global,
-    out: &mut String,
+    out: &mut Page,
     explained: &ExplainedRequest<'_>,
     scale: Scale,
-) -> Result<(), AllocError> {
+) {
     let step = u64::from(time_step(explained.ask.duration).max(1));
     let start = explained.moment(0);
     let first = start.div_ceil(step).saturating_mul(step);
@@ -159,10 +139,10 @@ pub(crate) fn push_time_axis(
         let moment = first.saturating_add(step.saturating_mul(count));
         if moment <= explained.end() {
             let x = scale.x(second_at(explained, moment));
-            push_time_tick(out, x, moment, step)?;
+            push_time_tick(out, x, moment, step);
         }
     }
-    push_dates(alloc, out, explained, scale)
+    push_dates(alloc, out, explained, scale);
 }
 
 /// Returns the second of a request at which a moment is, at most the request's duration.
@@ -171,52 +151,46 @@ fn second_at(explained: &ExplainedRequest<'_>, moment: u64) -> u32 {
     second.min(u64::from(explained.ask.duration)) as u32
 }
 
-fn push_time_tick(out: &mut String, x: u64, moment: u64, step: u64) -> Result<(), AllocError> {
+fn push_time_tick(out: &mut Page, x: u64, moment: u64, step: u64) {
     let (foot, base) = (BOTTOM + 5, BOTTOM + 20);
     let has_seconds = step % 60 != 0;
     // A label with seconds is wider, and would go past the right edge of the picture.
     let middle = if has_seconds { x.min(RIGHT - 8) } else { x };
-    write!(out, "<path class=\"grid\" d=\"M{x} {TOP}V{foot}\"/>")?;
+    write!(out, "<path class=\"grid\" d=\"M{x} {TOP}V{foot}\"/>");
     write!(
         out,
         "<text class=\"middle soft\" x=\"{middle}\" y=\"{base}\">"
-    )?;
-    push_time(out, moment % DAY, has_seconds)?;
-    out.push_str("</text>\n")
+    );
+    push_time(out, moment % DAY, has_seconds);
+    out.push_str("</text>\n");
 }
 
 /// Appends the date at the start of the request, and at each midnight in it. In more than 8 days
 /// only each second or fourth midnight has one.
-fn push_dates(
-    alloc: Global,
-    out: &mut String,
-    explained: &ExplainedRequest<'_>,
-    scale: Scale,
-) -> Result<(), AllocError> {
+fn push_dates(alloc: Global, out: &mut Page, explained: &ExplainedRequest<'_>, scale: Scale) {
     let (start, end) = (explained.moment(0), explained.end());
     let step = u64::from(date_step(explained.ask.duration).max(1));
     let first_midnight = (start / step).saturating_add(1).saturating_mul(step);
     let room = scale.x(second_at(explained, first_midnight)) - LEFT;
     // The first date is left out if the one of the next midnight would overlap it.
     if start % step == 0 || end <= first_midnight || room >= 100 {
-        push_day(alloc, out, start / DAY, LEFT)?;
+        push_day(alloc, out, start / DAY, LEFT);
     }
     for count in 0..u64::from(MOST_DATES) {
         let midnight = first_midnight.saturating_add(step.saturating_mul(count));
         let x = scale.x(second_at(explained, midnight));
         if midnight < end && x + 90 <= RIGHT {
-            push_day(alloc, out, midnight / DAY, x)?;
+            push_day(alloc, out, midnight / DAY, x);
         }
     }
-    Ok(())
 }
 
-fn push_day(alloc: Global, out: &mut String, day: u64, x: u64) -> Result<(), AllocError> {
+fn push_day(alloc: Global, out: &mut Page, day: u64, x: u64) {
     let (upper, lower, text) = (BOTTOM + 27, BOTTOM + 42, x.saturating_add(5));
-    write!(out, "<path class=\"day\" d=\"M{x} {upper}V{lower}\"/>")?;
-    write!(out, "<text class=\"soft\" x=\"{text}\" y=\"{lower}\">")?;
-    out.push_str(weekday(day))?;
-    out.push(' ')?;
-    push_date(alloc, out, day)?;
-    out.push_str("</text>\n")
+    write!(out, "<path class=\"day\" d=\"M{x} {upper}V{lower}\"/>");
+    write!(out, "<text class=\"soft\" x=\"{text}\" y=\"{lower}\">");
+    out.push_str(weekday(day));
+    out.push(' ');
+    push_date(alloc, out, day);
+    out.push_str("</text>\n");
 }

@@ -4,11 +4,12 @@ use crate::causes::LOWER;
 use crate::drawing::{PictureInput, ceiling_class, push_letter, push_style};
 use crate::entries::{LimitEntry, LimitLine};
 use crate::explained_request::ExplainedRequest;
-use crate::markup::push_escaped;
+use crate::markup::push_made_escaped;
 use crate::scale::{LEFT, Scale};
 use crate::steps::Steps;
 use crate::table::push_moment;
 use crate::words::{push_cause, push_limit};
+use page_text::Page;
 use std::alloc::{AllocError, Global};
 
 /// The middle of the legend's first line, and the distance between its lines.
@@ -24,22 +25,15 @@ pub(crate) fn lower_edge(entries: usize) -> u64 {
 }
 
 /// Appends the legend: the limit, and each entry with its letter, a piece of its line and its name.
-pub(crate) fn push_legend(
-    alloc: Global,
-    out: &mut String,
-    sketch: PictureInput<'_>,
-) -> Result<(), AllocError> {
-    let mut text = String::from_str(alloc, "the limit")?;
-    push_cut(alloc, &mut text, sketch.explained, sketch.limit)?;
-    push_sample(out, "limit", FIRST)?;
-    push_text(out, text.as_str(), FIRST)?;
+pub(crate) fn push_legend(alloc: Global, out: &mut Page, sketch: PictureInput<'_>) {
+    push_sample(out, "limit", FIRST);
+    push_text(out, limit_text(alloc, sketch), FIRST);
     for (place, entry) in sketch.entries.iter().enumerate() {
         let middle = middle_of(place);
-        push_entry(out, place, entry, middle)?;
-        let text = entry_text(alloc, sketch.explained, sketch.scale, entry)?;
-        push_text(out, text.as_str(), middle)?;
+        push_entry(out, place, entry, middle);
+        let text = entry_text(alloc, sketch.explained, sketch.scale, entry);
+        push_text(out, text, middle);
     }
-    Ok(())
 }
 
 /// Returns the middle of an entry's line, by the entry's place.
@@ -50,39 +44,42 @@ fn middle_of(place: usize) -> u64 {
 }
 
 /// Appends the letter of an entry and a piece of its line.
-fn push_entry(
-    out: &mut String,
-    place: usize,
-    entry: &LimitEntry,
-    middle: u64,
-) -> Result<(), AllocError> {
+fn push_entry(out: &mut Page, place: usize, entry: &LimitEntry, middle: u64) {
     let base = middle.saturating_add(4);
-    write!(out, "<text class=\"letter\" x=\"{LEFT}\" y=\"{base}\">")?;
-    push_letter(out, place)?;
-    out.push_str("</text>")?;
+    write!(out, "<text class=\"letter\" x=\"{LEFT}\" y=\"{base}\">");
+    push_letter(out, place);
+    out.push_str("</text>");
     match entry.line {
         LimitLine::Steps(_) => {
             let (from, to) = (LEFT + 28, LEFT + 88);
-            out.push_str("<path class=\"line ")?;
-            push_style(out, place)?;
-            write!(out, "\" d=\"M{from} {middle}H{to}\"/>")
+            out.push_str("<path class=\"line ");
+            push_style(out, place);
+            write!(out, "\" d=\"M{from} {middle}H{to}\"/>");
         }
         LimitLine::Level(_) => push_sample(out, ceiling_class(entry), middle),
-        LimitLine::Nothing => Ok(()),
+        LimitLine::Nothing => {}
     }
 }
 
 /// Appends a piece of a line with a CSS class.
-fn push_sample(out: &mut String, class: &str, middle: u64) -> Result<(), AllocError> {
+fn push_sample(out: &mut Page, class: &str, middle: u64) {
     let (from, to) = (LEFT + 28, LEFT + 88);
-    write!(out, "<path class=\"{class}\" d=\"M{from} {middle}H{to}\"/>")
+    write!(out, "<path class=\"{class}\" d=\"M{from} {middle}H{to}\"/>");
 }
 
-fn push_text(out: &mut String, text: &str, middle: u64) -> Result<(), AllocError> {
+fn push_text(out: &mut Page, made: Result<String, AllocError>, middle: u64) {
     let (x, base) = (LEFT + 100, middle.saturating_add(4));
-    write!(out, "<text x=\"{x}\" y=\"{base}\">")?;
-    push_escaped(out, text)?;
-    out.push_str("</text>\n")
+    write!(out, "<text x=\"{x}\" y=\"{base}\">");
+    push_made_escaped(out, made);
+    out.push_str("</text>\n");
+}
+
+/// Returns the name of the limit, with a note if the picture cuts its line.
+fn limit_text(alloc: Global, sketch: PictureInput<'_>) -> Result<String, AllocError> {
+    let mut text = Page::new(alloc);
+    text.push_str("the limit");
+    push_cut(alloc, &mut text, sketch.explained, sketch.limit);
+    text.finish()
 }
 
 /// Returns the name of an entry, with a note if the picture cuts its line or leaves it out.
@@ -92,35 +89,35 @@ fn entry_text(
     scale: Scale,
     entry: &LimitEntry,
 ) -> Result<String, AllocError> {
-    let mut text = String::new(alloc);
-    push_cause(&mut text, entry.cause)?;
+    let mut text = Page::new(alloc);
+    push_cause(&mut text, entry.cause);
     if let LimitLine::Level(limit) = entry.line {
-        text.push_str(", ")?;
-        push_limit(&mut text, limit, explained.unit)?;
+        text.push_str(", ");
+        push_limit(&mut text, limit, explained.unit);
     }
     if scale.is_passed_by(&entry.line) {
-        text.push_str(", above the picture")?;
+        text.push_str(", above the picture");
     }
     if let LimitLine::Steps(steps) = &entry.line {
         if scale.is_passed_by(&entry.line) {
-            text.push_str(" where it is at its upper edge")?;
+            text.push_str(" where it is at its upper edge");
         }
-        push_cut(alloc, &mut text, explained, steps)?;
+        push_cut(alloc, &mut text, explained, steps);
     }
-    Ok(text)
+    text.finish()
 }
 
 /// Appends until when a line is drawn, if it is cut.
 pub(crate) fn push_cut(
     alloc: Global,
-    out: &mut String,
+    out: &mut Page,
     explained: &ExplainedRequest<'_>,
     steps: &Steps,
-) -> Result<(), AllocError> {
+) {
     if steps.end >= explained.ask.duration {
-        return Ok(());
+        return;
     }
-    out.push_str(", drawn up to ")?;
-    push_moment(alloc, out, explained, None, steps.end)?;
-    out.push_str(" alone: it has too many steps")
+    out.push_str(", drawn up to ");
+    push_moment(alloc, out, explained, None, steps.end);
+    out.push_str(" alone: it has too many steps");
 }

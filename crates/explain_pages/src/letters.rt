@@ -3,6 +3,7 @@
 use crate::drawing::push_letter;
 use crate::entries::{LimitEntry, LimitLine};
 use crate::scale::{LEFT, RIGHT, Scale};
+use page_text::Page;
 use std::alloc::{AllocError, Global};
 
 /// The minimum distance between letters, horizontally and vertically.
@@ -14,7 +15,7 @@ const TRIES: usize = 12;
 /// Appends the letter of each entry above the beginning of its line.
 pub(crate) fn push_letters(
     alloc: Global,
-    out: &mut String,
+    out: &mut Page,
     scale: Scale,
     entries: &[LimitEntry],
 ) -> Result<(), AllocError> {
@@ -24,9 +25,9 @@ pub(crate) fn push_letters(
             if let Some(spot) = free_spot(spots.as_slice(), spot) {
                 spots.push(spot)?;
                 let (x, y) = spot;
-                write!(out, "<text class=\"letter\" x=\"{x}\" y=\"{y}\">")?;
-                push_letter(out, place)?;
-                out.push_str("</text>\n")?;
+                write!(out, "<text class=\"letter\" x=\"{x}\" y=\"{y}\">");
+                push_letter(out, place);
+                out.push_str("</text>\n");
             }
         }
     }

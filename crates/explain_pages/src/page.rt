@@ -1,40 +1,38 @@
 //! The HTML page: the picture with the table below it.
 
 use crate::cells::{CellMaker, Cells};
+use crate::clock::instant_text;
 use crate::explained_request::{ExplainedRequest, NotCounted};
-use crate::markup::{push_element, push_escaped};
+use crate::markup::{push_element, push_escaped, push_made_escaped};
 use crate::picture::{push_more, push_picture};
 use crate::steps::MAX_INTERVALS;
 use crate::styles::PAGE;
 use crate::table::{heading, place};
 use crate::words::{push_profile, sentence};
-use ocpp_scalars::{Instant, push_instant};
+use ocpp_scalars::Instant;
+use page_text::Page;
 use std::alloc::{AllocError, Global};
 
 /// Formats an explained schedule as a whole HTML file that loads nothing: the picture, the
 /// intervals in a table, and the profiles that never set the limit. The table has the first
 /// `MAX_INTERVALS`; a note counts the others.
 pub fn write_page(alloc: Global, explained: &ExplainedRequest<'_>) -> Result<String, AllocError> {
-    let mut out = String::new(alloc);
-    let title = heading(alloc, explained, None)?;
-    out.push_str("<!DOCTYPE html>\n<html lang=\"en\">\n<head>\n<meta charset=\"utf-8\">\n")?;
-    out.push_str("<meta name=\"viewport\" content=\"width=device-width, initial-scale=1\">\n")?;
-    push_element(
-        &mut out,
-        "<title>The limit of ",
-        title.as_str(),
-        "</title>\n",
-    )?;
-    out.push_str(PAGE)?;
-    out.push_str("</head>\n<body>\n<main>\n")?;
-    let shown = place(alloc, explained)?;
-    push_element(&mut out, "<h1>", shown.as_str(), "</h1>\n<figure>\n")?;
+    let mut out = Page::new(alloc);
+    out.push_str("<!DOCTYPE html>\n<html lang=\"en\">\n<head>\n<meta charset=\"utf-8\">\n");
+    out.push_str("<meta name=\"viewport\" content=\"width=device-width, initial-scale=1\">\n");
+    out.push_str("<title>The limit of ");
+    push_made_escaped(&mut out, heading(alloc, explained, None));
+    out.push_str("</title>\n");
+    out.push_str(PAGE);
+    out.push_str("</head>\n<body>\n<main>\n<h1>");
+    push_made_escaped(&mut out, place(alloc, explained));
+    out.push_str("</h1>\n<figure>\n");
     push_picture(alloc, &mut out, explained)?;
-    out.push_str("</figure>\n")?;
+    out.push_str("</figure>\n");
     push_table(alloc, &mut out, explained)?;
-    push_not_counted(alloc, &mut out, explained.not_counted)?;
-    out.push_str("</main>\n</body>\n</html>\n")?;
-    Ok(out)
+    push_not_counted(alloc, &mut out, explained.not_counted);
+    out.push_str("</main>\n</body>\n</html>\n");
+    out.finish()
 }
 
 // A table wider than the screen scrolls in this region, and a keyboard reaches it as a tab stop.
@@ -48,61 +46,67 @@ const HEAD: &str = r#"<h2 id="intervals">Each limit, and why</h2>
 
 fn push_table(
     alloc: Global,
-    out: &mut String,
+    out: &mut Page,
     explained: &ExplainedRequest<'_>,
 ) -> Result<(), AllocError> {
-    out.push_str(HEAD)?;
+    out.push_str(HEAD);
     let mut maker = CellMaker::new(explained, None);
     for interval in explained.intervals.iter().take(MAX_INTERVALS) {
         let cells = maker.cells(alloc, interval)?;
-        out.push_str("<tr><th scope=\"row\">")?;
-        push_clock(out, explained.moment(interval.start), cells.from.as_str())?;
-        out.push_str("</th><td>")?;
-        push_clock(out, explained.moment(interval.end), cells.to.as_str())?;
-        push_cells(out, &cells)?;
+        out.push_str("<tr><th scope=\"row\">");
+        push_clock(out, explained.moment(interval.start), cells.from.as_str());
+        out.push_str("</th><td>");
+        push_clock(out, explained.moment(interval.end), cells.to.as_str());
+        push_cells(out, &cells);
     }
-    out.push_str("</tbody>\n</table>\n</div>\n")?;
-    push_note(out, explained.intervals.len())
+    out.push_str("</tbody>\n</table>\n</div>\n");
+    push_note(out, explained.intervals.len());
+    Ok(())
 }
 
 /// Appends the number of intervals that the table leaves out, if there are any.
-fn push_note(out: &mut String, count: usize) -> Result<(), AllocError> {
+fn push_note(out: &mut Page, count: usize) {
     if count <= MAX_INTERVALS {
-        return Ok(());
+        return;
     }
-    out.push_str("<p>")?;
-    push_more(out, count, MAX_INTERVALS)?;
-    out.push_str("</p>\n")
+    out.push_str("<p>");
+    push_more(out, count, MAX_INTERVALS);
+    out.push_str("</p>\n");
 }
 
 /// Appends the length, the limit and the cause, and ends the row.
-fn push_cells(out: &mut String, cells: &Cells) -> Result<(), AllocError> {
-    push_element(out, "</td><td>", cells.length.as_str(), "</td>")?;
-    push_element(out, "<td class=\"number\">", cells.limit.as_str(), "</td>")?;
-    push_element(out, "<td>", cells.why.as_str(), "</td></tr>\n")
+fn push_cells(out: &mut Page, cells: &Cells) {
+    push_element(out, "</td><td>", cells.length.as_str(), "</td>");
+    push_element(out, "<td class=\"number\">", cells.limit.as_str(), "</td>");
+    push_element(out, "<td>", cells.why.as_str(), "</td></tr>\n");
 }
 
 /// Appends a clock time as an element `time`, with its instant for programs.
-fn push_clock(out: &mut String, moment: u64, text: &str) -> Result<(), AllocError> {
+fn push_clock(out: &mut Page, moment: u64, text: &str) {
     // The end of the calendar's last day has no `Instant`.
     let Some(instant) = Instant::try_new(moment) else {
-        return push_escaped(out, text);
+        push_escaped(out, text);
+        return;
     };
-    out.push_str("<time datetime=\"")?;
-    push_instant(out, instant)?;
-    push_element(out, "\">", text, "</time>")
+    let datetime = instant_text(out.allocator(), instant);
+    out.push_str("<time datetime=\"");
+    out.push_made(datetime);
+    push_element(out, "\">", text, "</time>");
 }
 
-fn push_not_counted(alloc: Global, out: &mut String, all: &[NotCounted]) -> Result<(), AllocError> {
+fn push_not_counted(alloc: Global, out: &mut Page, all: &[NotCounted]) {
     if all.is_empty() {
-        return Ok(());
+        return;
     }
-    out.push_str("<h2>Profiles that never set the limit in this time</h2>\n<ul>\n")?;
+    out.push_str("<h2>Profiles that never set the limit in this time</h2>\n<ul>\n");
     for one in all {
-        let mut name = String::new(alloc);
-        push_profile(&mut name, one.profile)?;
-        push_element(out, "<li>", name.as_str(), ": ")?;
-        push_element(out, "", sentence(one.reason), "</li>\n")?;
+        let mut line = Page::new(alloc);
+        push_profile(&mut line, one.profile);
+        line.push_str(": ");
+        line.push_str(sentence(one.reason));
+        out.push_str("<li>");
+        push_made_escaped(out, line.finish());
+        out.push_str("</li>\n");
     }
-    out.push_str("</ul>\n")
+    out.push_str("</ul>\n");
 }

@@ -9,14 +9,14 @@ use crate::entries::entries_of;
 use crate::explained_request::ExplainedRequest;
 use crate::legend::{lower_edge, push_legend};
 use crate::letters::push_letters;
-use crate::markup::{push_element, push_escaped};
+use crate::markup::{push_element, push_made_escaped};
 use crate::scale::{BREADTH, LEFT, Scale};
 use crate::steps::interval_steps;
 use crate::styles::PICTURE;
 use crate::table::{heading, place, push_moment};
 use crate::words::push_length;
 use messages::unit_name;
-use ocpp_scalars::push_integer;
+use page_text::Page;
 use std::alloc::{AllocError, Global};
 
 /// The maximum number of intervals in a picture's description.
@@ -30,28 +30,29 @@ pub fn write_picture(
     alloc: Global,
     explained: &ExplainedRequest<'_>,
 ) -> Result<String, AllocError> {
-    let mut out = String::from_str(alloc, "<?xml version=\"1.0\" encoding=\"UTF-8\"?>\n")?;
+    let mut out = Page::new(alloc);
+    out.push_str("<?xml version=\"1.0\" encoding=\"UTF-8\"?>\n");
     push_picture(alloc, &mut out, explained)?;
-    Ok(out)
+    out.finish()
 }
 
 /// Appends the element `svg`.
 pub(crate) fn push_picture(
     alloc: Global,
-    out: &mut String,
+    out: &mut Page,
     explained: &ExplainedRequest<'_>,
 ) -> Result<(), AllocError> {
     let entries = entries_of(alloc, explained)?;
     let limit = interval_steps(alloc, explained)?;
     let height = lower_edge(entries.len());
-    push_opening(out, height)?;
+    push_opening(out, height);
     push_description(alloc, out, explained)?;
-    out.push_str(PICTURE)?;
+    out.push_str(PICTURE);
     write!(
         out,
         "<rect class=\"paper\" width=\"{BREADTH}\" height=\"{height}\"/>\n"
-    )?;
-    push_head(alloc, out, explained)?;
+    );
+    push_head(alloc, out, explained);
     let sketch = PictureInput {
         explained,
         scale: Scale::of(explained, entries.as_slice()),
@@ -59,92 +60,81 @@ pub(crate) fn push_picture(
         limit: &limit,
     };
     push_drawing(alloc, out, sketch)?;
-    out.push_str("</svg>\n")
+    out.push_str("</svg>\n");
+    Ok(())
 }
 
-fn push_opening(out: &mut String, height: u64) -> Result<(), AllocError> {
-    out.push_str("<svg xmlns=\"http://www.w3.org/2000/svg\" class=\"hilfrogwy\" role=\"img\"")?;
+fn push_opening(out: &mut Page, height: u64) {
+    out.push_str("<svg xmlns=\"http://www.w3.org/2000/svg\" class=\"hilfrogwy\" role=\"img\"");
     // A screen reader takes the picture as one image, and reads out these two elements for it.
-    out.push_str(" aria-labelledby=\"picture-title picture-description\"")?;
-    write!(out, " viewBox=\"0 0 {BREADTH} {height}\"")?;
-    write!(out, " width=\"{BREADTH}\" height=\"{height}\">\n")
+    out.push_str(" aria-labelledby=\"picture-title picture-description\"");
+    write!(out, " viewBox=\"0 0 {BREADTH} {height}\"");
+    write!(out, " width=\"{BREADTH}\" height=\"{height}\">\n");
 }
 
 /// Appends the title and the description.
 fn push_description(
     alloc: Global,
-    out: &mut String,
+    out: &mut Page,
     explained: &ExplainedRequest<'_>,
 ) -> Result<(), AllocError> {
-    let title = heading(alloc, explained, None)?;
-    push_element(
-        out,
-        "<title id=\"picture-title\">The limit of ",
-        title.as_str(),
-        "</title>\n",
-    )?;
-    out.push_str("<desc id=\"picture-description\">Times in UTC.")?;
+    out.push_str("<title id=\"picture-title\">The limit of ");
+    push_made_escaped(out, heading(alloc, explained, None));
+    out.push_str("</title>\n");
+    out.push_str("<desc id=\"picture-description\">Times in UTC.");
     let mut maker = CellMaker::new(explained, None);
     for interval in explained.intervals.iter().take(DESCRIBED) {
         let cells = maker.cells(alloc, interval)?;
-        push_element(out, " ", cells.from.as_str(), " to ")?;
-        push_element(out, "", cells.to.as_str(), ": ")?;
-        push_element(out, "", cells.limit.as_str(), ", ")?;
-        push_element(out, "", cells.why.as_str(), ".")?;
+        push_element(out, " ", cells.from.as_str(), " to ");
+        push_element(out, "", cells.to.as_str(), ": ");
+        push_element(out, "", cells.limit.as_str(), ", ");
+        push_element(out, "", cells.why.as_str(), ".");
     }
-    push_more(out, explained.intervals.len(), DESCRIBED)?;
-    out.push_str("</desc>\n")
+    push_more(out, explained.intervals.len(), DESCRIBED);
+    out.push_str("</desc>\n");
+    Ok(())
 }
 
 /// Appends the number of intervals that aren't shown, if there are any.
-pub(crate) fn push_more(out: &mut String, count: usize, shown: usize) -> Result<(), AllocError> {
-    if count <= shown {
-        return Ok(());
+pub(crate) fn push_more(out: &mut Page, count: usize, shown: usize) {
+    if count > shown {
+        let more = count - shown;
+        write!(out, " Further intervals: {more}.");
     }
-    out.push_str(" Further intervals: ")?;
-    push_integer(out, count - shown)?;
-    out.push('.')
 }
 
 /// Appends the heading above the plot: the point, the connector, the unit and the time.
-fn push_head(
-    alloc: Global,
-    out: &mut String,
-    explained: &ExplainedRequest<'_>,
-) -> Result<(), AllocError> {
-    let head = place(alloc, explained)?;
-    write!(out, "<text class=\"head\" x=\"{LEFT}\" y=\"30\">")?;
-    push_escaped(out, head.as_str())?;
-    out.push_str("</text>\n")?;
-    let mut text = String::from_str(alloc, "limit in ")?;
-    text.push_str(unit_name(explained.unit))?;
-    text.push_str(", ")?;
-    push_moment(alloc, &mut text, explained, None, 0)?;
-    text.push_str(" to ")?;
-    push_moment(alloc, &mut text, explained, None, explained.ask.duration)?;
-    text.push_str(" UTC (")?;
-    push_length(&mut text, explained.ask.duration)?;
-    text.push(')')?;
-    write!(out, "<text class=\"soft\" x=\"{LEFT}\" y=\"52\">")?;
-    push_escaped(out, text.as_str())?;
-    out.push_str("</text>\n")
+fn push_head(alloc: Global, out: &mut Page, explained: &ExplainedRequest<'_>) {
+    write!(out, "<text class=\"head\" x=\"{LEFT}\" y=\"30\">");
+    push_made_escaped(out, place(alloc, explained));
+    out.push_str("</text>\n");
+    let mut text = Page::new(alloc);
+    text.push_str("limit in ");
+    text.push_str(unit_name(explained.unit));
+    text.push_str(", ");
+    push_moment(alloc, &mut text, explained, None, 0);
+    text.push_str(" to ");
+    push_moment(alloc, &mut text, explained, None, explained.ask.duration);
+    text.push_str(" UTC (");
+    push_length(&mut text, explained.ask.duration);
+    text.push(')');
+    write!(out, "<text class=\"soft\" x=\"{LEFT}\" y=\"52\">");
+    push_made_escaped(out, text.finish());
+    out.push_str("</text>\n");
 }
 
 /// Appends the axes, the lines, the letters, the causes and the legend.
-fn push_drawing(
-    alloc: Global,
-    out: &mut String,
-    sketch: PictureInput<'_>,
-) -> Result<(), AllocError> {
+fn push_drawing(alloc: Global, out: &mut Page, sketch: PictureInput<'_>) -> Result<(), AllocError> {
     let scale = sketch.scale;
-    push_limit_axis(out, scale, sketch.explained.unit)?;
-    push_time_axis(alloc, out, sketch.explained, scale)?;
+    push_limit_axis(out, scale, sketch.explained.unit);
+    push_time_axis(alloc, out, sketch.explained, scale);
     for (place, entry) in sketch.entries.iter().enumerate() {
-        push_entry_line(out, scale, place, entry)?;
+        push_entry_line(out, scale, place, entry);
     }
     // Drawn after the other lines, so that none of them covers it.
-    push_limit_line(out, scale, sketch.limit)?;
+    push_limit_line(out, scale, sketch.limit);
     push_letters(alloc, out, scale, sketch.entries)?;
     push_causes(alloc, out, sketch)?;
-    push_legend(alloc, out, sketch)
+    push_legend(alloc, out, sketch);
+    Ok(())
 }

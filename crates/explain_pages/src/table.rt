@@ -6,10 +6,10 @@ use crate::cells::{Cells, all_cells};
 use crate::clock::{ClockTime, needs_seconds, push_date, push_time};
 use crate::explained_request::{ExplainedRequest, NotCounted};
 use crate::words::{push_length, push_profile, sentence};
-use crate::wrapping::{Margins, push_left, push_lines, push_right, push_times};
+use crate::wrapping::{Margins, push_left, push_lines, push_made_lines, push_right, push_times};
 use crate::zone_clock::{ZoneClock, push_ahead};
 use messages::unit_name;
-use ocpp_scalars::push_integer;
+use page_text::Page;
 use std::alloc::{AllocError, Global};
 
 /// The minimum and the maximum width of a bar, in columns.
@@ -25,65 +25,60 @@ pub fn write_table(
     columns: Option<usize>,
     zone: Option<ZoneClock<'_>>,
 ) -> Result<String, AllocError> {
-    let mut out = String::new(alloc);
-    push_heading(alloc, &mut out, explained, columns, zone)?;
+    let mut out = Page::new(alloc);
+    push_heading(alloc, &mut out, explained, columns, zone);
     push_intervals(alloc, &mut out, explained, columns, zone)?;
-    push_not_counted(alloc, &mut out, explained.not_counted, columns)?;
-    Ok(out)
+    push_not_counted(alloc, &mut out, explained.not_counted, columns);
+    out.finish()
 }
 
 /// Appends a line with the point, the connector, the time and the unit, and then the clock changes
 /// of the zone.
 fn push_heading(
     alloc: Global,
-    out: &mut String,
+    out: &mut Page,
     explained: &ExplainedRequest<'_>,
     columns: Option<usize>,
     zone: Option<ZoneClock<'_>>,
-) -> Result<(), AllocError> {
-    let mut text = heading(alloc, explained, zone)?;
-    text.push_str(". The limit in ")?;
-    text.push_str(unit_name(explained.unit))?;
-    text.push_str(", times in ")?;
+) {
+    let mut text = Page::new(alloc);
+    text.push_made(heading(alloc, explained, zone));
+    text.push_str(". The limit in ");
+    text.push_str(unit_name(explained.unit));
+    text.push_str(", times in ");
     match zone {
-        Some(clock) => clock.push_name(&mut text)?,
-        None => text.push_str("UTC")?,
+        Some(clock) => clock.push_name(&mut text),
+        None => text.push_str("UTC"),
     }
-    text.push('.')?;
-    push_lines(out, text.as_str(), Margins { indent: 0, columns })?;
+    text.push('.');
+    push_made_lines(out, text.finish(), Margins { indent: 0, columns });
     if let Some(clock) = zone {
-        push_changes(alloc, out, clock, columns)?;
+        push_changes(alloc, out, clock, columns);
     }
-    out.push('\n')
+    out.push('\n');
 }
 
 /// Appends a line for each clock change of a zone within the explained time.
-fn push_changes(
-    alloc: Global,
-    out: &mut String,
-    clock: ZoneClock<'_>,
-    columns: Option<usize>,
-) -> Result<(), AllocError> {
+fn push_changes(alloc: Global, out: &mut Page, clock: ZoneClock<'_>, columns: Option<usize>) {
     let margins = Margins { indent: 0, columns };
     // The first shift is the offset at the start of the request, not a change of the clock.
     let mut before = None;
     for shift in clock.shifts {
         if let Some(before) = before {
-            let mut line = String::new(alloc);
+            let mut line = Page::new(alloc);
             let time = ClockTime::of(shift.from);
-            push_date(alloc, &mut line, time.day)?;
-            line.push(' ')?;
-            push_time(&mut line, time.second, time.second % 60 != 0)?;
-            line.push_str(" UTC: the clocks go from ")?;
-            push_ahead(&mut line, before)?;
-            line.push_str(" to ")?;
-            push_ahead(&mut line, shift.ahead)?;
-            line.push('.')?;
-            push_lines(out, line.as_str(), margins)?;
+            push_date(alloc, &mut line, time.day);
+            line.push(' ');
+            push_time(&mut line, time.second, time.second % 60 != 0);
+            line.push_str(" UTC: the clocks go from ");
+            push_ahead(&mut line, before);
+            line.push_str(" to ");
+            push_ahead(&mut line, shift.ahead);
+            line.push('.');
+            push_made_lines(out, line.finish(), margins);
         }
         before = Some(shift.ahead);
     }
-    Ok(())
 }
 
 /// Returns the point, the connector, and the start, the end and the length of the time.
@@ -92,41 +87,43 @@ pub(crate) fn heading(
     explained: &ExplainedRequest<'_>,
     zone: Option<ZoneClock<'_>>,
 ) -> Result<String, AllocError> {
-    let mut text = place(alloc, explained)?;
-    text.push_str(", from ")?;
-    push_moment(alloc, &mut text, explained, zone, 0)?;
-    text.push_str(" to ")?;
-    push_moment(alloc, &mut text, explained, zone, explained.ask.duration)?;
-    text.push_str(" (")?;
-    push_length(&mut text, explained.ask.duration)?;
-    text.push(')')?;
-    Ok(text)
+    let mut text = Page::new(alloc);
+    text.push_made(place(alloc, explained));
+    text.push_str(", from ");
+    push_moment(alloc, &mut text, explained, zone, 0);
+    text.push_str(" to ");
+    push_moment(alloc, &mut text, explained, zone, explained.ask.duration);
+    text.push_str(" (");
+    push_length(&mut text, explained.ask.duration);
+    text.push(')');
+    text.finish()
 }
 
 /// Returns the point and the connector in words.
 pub(crate) fn place(alloc: Global, explained: &ExplainedRequest<'_>) -> Result<String, AllocError> {
-    let mut text = String::from_str(alloc, explained.point)?;
+    let mut text = Page::new(alloc);
+    text.push_str(explained.point);
     if explained.ask.connector == 0 {
-        text.push_str(", connector 0 (the whole point)")?;
+        text.push_str(", connector 0 (the whole point)");
     } else {
-        text.push_str(", connector ")?;
-        push_integer(&mut text, explained.ask.connector)?;
+        let connector = explained.ask.connector;
+        write!(text, ", connector {connector}");
     }
-    Ok(text)
+    text.finish()
 }
 
 /// Appends a second of the request as date and time, local to a zone or in UTC.
 pub(crate) fn push_moment(
     alloc: Global,
-    out: &mut String,
+    out: &mut Page,
     explained: &ExplainedRequest<'_>,
     zone: Option<ZoneClock<'_>>,
     second: u32,
-) -> Result<(), AllocError> {
+) {
     let time = ClockTime::shown(zone, explained.moment(second));
-    push_date(alloc, out, time.day)?;
-    out.push(' ')?;
-    push_time(out, time.second, needs_seconds(explained, zone))
+    push_date(alloc, out, time.day);
+    out.push(' ');
+    push_time(out, time.second, needs_seconds(explained, zone));
 }
 
 /// The widths of a table's columns.
@@ -233,7 +230,7 @@ struct Sheet<'a> {
 
 fn push_intervals(
     alloc: Global,
-    out: &mut String,
+    out: &mut Page,
     explained: &ExplainedRequest<'_>,
     columns: Option<usize>,
     zone: Option<ZoneClock<'_>>,
@@ -252,9 +249,9 @@ fn push_intervals(
         columns,
         largest: largest_limit(explained),
     };
-    sheet.push_head(out)?;
+    sheet.push_head(out);
     for cells in sheet.all {
-        sheet.push(alloc, out, cells)?;
+        sheet.push(alloc, out, cells);
     }
     Ok(())
 }
@@ -269,109 +266,104 @@ pub(crate) fn largest_limit(explained: &ExplainedRequest<'_>) -> u32 {
 }
 
 impl Sheet<'_> {
-    fn push_head(&self, out: &mut String) -> Result<(), AllocError> {
+    fn push_head(&self, out: &mut Page) {
         if let Layout::Paragraphs(_) = self.layout {
-            return Ok(());
+            return;
         }
-        push_left(out, "from", self.widths.from)?;
-        out.push_str("  ")?;
-        push_left(out, "to", self.widths.to)?;
-        out.push_str("  ")?;
-        push_left(out, "length", self.widths.length)?;
-        out.push_str("  ")?;
-        push_right(out, "limit", self.widths.limit)?;
+        push_left(out, "from", self.widths.from);
+        out.push_str("  ");
+        push_left(out, "to", self.widths.to);
+        out.push_str("  ");
+        push_left(out, "length", self.widths.length);
+        out.push_str("  ");
+        push_right(out, "limit", self.widths.limit);
         match self.layout {
             Layout::Plain => out.push_str("  why\n"),
             Layout::OneLine(bar) => {
-                push_times(out, ' ', bar.saturating_add(2))?;
-                out.push_str("  why\n")
+                push_times(out, ' ', bar.saturating_add(2));
+                out.push_str("  why\n");
             }
             Layout::TwoLines(_) | Layout::Paragraphs(_) => out.push('\n'),
         }
     }
 
     /// Appends an interval.
-    fn push(&self, alloc: Global, out: &mut String, cells: &Cells) -> Result<(), AllocError> {
+    fn push(&self, alloc: Global, out: &mut Page, cells: &Cells) {
         match self.layout {
             Layout::Plain => {
-                self.push_numbers(out, cells)?;
-                push_ended(out, "  ", cells.why.as_str())
+                self.push_numbers(out, cells);
+                push_ended(out, "  ", cells.why.as_str());
             }
             Layout::OneLine(room) => {
-                self.push_numbers(out, cells)?;
-                let bar = self.push_bar(out, cells, room)?;
-                push_times(out, ' ', room.saturating_sub(bar))?;
-                push_ended(out, "  ", cells.why.as_str())
+                self.push_numbers(out, cells);
+                let bar = self.push_bar(out, cells, room);
+                push_times(out, ' ', room.saturating_sub(bar));
+                push_ended(out, "  ", cells.why.as_str());
             }
             Layout::TwoLines(room) => {
-                self.push_numbers(out, cells)?;
-                self.push_bar(out, cells, room)?;
-                out.push('\n')?;
-                self.push_why(out, cells, 4)
+                self.push_numbers(out, cells);
+                self.push_bar(out, cells, room);
+                out.push('\n');
+                self.push_why(out, cells, 4);
             }
             Layout::Paragraphs(room) => self.push_paragraph(alloc, out, cells, room),
         }
     }
 
-    fn push_paragraph(
-        &self,
-        alloc: Global,
-        out: &mut String,
-        cells: &Cells,
-        room: usize,
-    ) -> Result<(), AllocError> {
-        let mut line = String::from_str(alloc, cells.from.as_str())?;
-        line.push_str(" to ")?;
-        line.push_str(cells.to.as_str())?;
+    fn push_paragraph(&self, alloc: Global, out: &mut Page, cells: &Cells, room: usize) {
+        let mut line = Page::new(alloc);
+        line.push_str(cells.from.as_str());
+        line.push_str(" to ");
+        line.push_str(cells.to.as_str());
         let margins = Margins {
             indent: 0,
             columns: self.columns,
         };
-        push_lines(out, line.as_str(), margins)?;
-        out.push_str("  ")?;
-        push_right(out, cells.limit.as_str(), self.widths.limit)?;
-        out.push_str("  ")?;
-        push_right(out, cells.length.as_str(), self.widths.length)?;
-        self.push_bar(out, cells, room)?;
-        out.push('\n')?;
-        self.push_why(out, cells, 2)
+        push_made_lines(out, line.finish(), margins);
+        out.push_str("  ");
+        push_right(out, cells.limit.as_str(), self.widths.limit);
+        out.push_str("  ");
+        push_right(out, cells.length.as_str(), self.widths.length);
+        self.push_bar(out, cells, room);
+        out.push('\n');
+        self.push_why(out, cells, 2);
     }
 
-    fn push_numbers(&self, out: &mut String, cells: &Cells) -> Result<(), AllocError> {
-        push_right(out, cells.from.as_str(), self.widths.from)?;
-        out.push_str("  ")?;
-        push_right(out, cells.to.as_str(), self.widths.to)?;
-        out.push_str("  ")?;
-        push_left(out, cells.length.as_str(), self.widths.length)?;
-        out.push_str("  ")?;
-        push_right(out, cells.limit.as_str(), self.widths.limit)
+    fn push_numbers(&self, out: &mut Page, cells: &Cells) {
+        push_right(out, cells.from.as_str(), self.widths.from);
+        out.push_str("  ");
+        push_right(out, cells.to.as_str(), self.widths.to);
+        out.push_str("  ");
+        push_left(out, cells.length.as_str(), self.widths.length);
+        out.push_str("  ");
+        push_right(out, cells.limit.as_str(), self.widths.limit);
     }
 
-    fn push_why(&self, out: &mut String, cells: &Cells, indent: usize) -> Result<(), AllocError> {
+    fn push_why(&self, out: &mut Page, cells: &Cells, indent: usize) {
         let margins = Margins {
             indent,
             columns: self.columns,
         };
-        push_lines(out, cells.why.as_str(), margins)
+        push_lines(out, cells.why.as_str(), margins);
     }
 
     /// Appends the bar of a limit after two blanks, and returns its length.
-    fn push_bar(&self, out: &mut String, cells: &Cells, room: usize) -> Result<usize, AllocError> {
+    fn push_bar(&self, out: &mut Page, cells: &Cells, room: usize) -> usize {
         let bar = bar_of(cells.tenths, self.largest, room);
         if bar > 0 {
-            out.push_str("  ")?;
-            push_times(out, '#', bar)?;
+            out.push_str("  ");
+            push_times(out, '#', bar);
         } else if let Layout::OneLine(_) = self.layout {
-            out.push_str("  ")?;
+            out.push_str("  ");
         }
-        Ok(bar)
+        bar
     }
 }
 
-fn push_ended(out: &mut String, before: &str, text: &str) -> Result<(), AllocError> {
-    out.push_str(before)?;
-    out.push_str(text)?;
-    out.push('\n')
+fn push_ended(out: &mut Page, before: &str, text: &str) {
+    out.push_str(before);
+    out.push_str(text);
+    out.push('\n');
 }
 
 /// Returns the length of a limit's bar, in columns: the whole room for the largest limit, and at
@@ -388,29 +380,23 @@ fn bar_of(limit: u32, largest: u32, room: usize) -> usize
 }
 
 /// Appends the profiles that never set the limit.
-fn push_not_counted(
-    alloc: Global,
-    out: &mut String,
-    all: &[NotCounted],
-    columns: Option<usize>,
-) -> Result<(), AllocError> {
+fn push_not_counted(alloc: Global, out: &mut Page, all: &[NotCounted], columns: Option<usize>) {
     if all.is_empty() {
-        return Ok(());
+        return;
     }
-    out.push('\n')?;
+    out.push('\n');
     let margins = Margins { indent: 0, columns };
     push_lines(
         out,
         "Profiles that never set the limit in this time:",
         margins,
-    )?;
+    );
     let margins = Margins { indent: 2, columns };
     for one in all {
-        let mut line = String::new(alloc);
-        push_profile(&mut line, one.profile)?;
-        line.push_str(": ")?;
-        line.push_str(sentence(one.reason))?;
-        push_lines(out, line.as_str(), margins)?;
+        let mut line = Page::new(alloc);
+        push_profile(&mut line, one.profile);
+        line.push_str(": ");
+        line.push_str(sentence(one.reason));
+        push_made_lines(out, line.finish(), margins);
     }
-    Ok(())
 }

@@ -4,9 +4,10 @@ use crate::explained_request::NotCountedReason;
 use crate::length::length_of;
 use meaning::{Cause, PrevailingProfile, Reason, Share, WhyNot};
 use messages::{purpose_name, unit_name};
-use ocpp_scalars::{push_integer, push_tenths};
+use ocpp_scalars::push_tenths;
+use page_text::Page;
 use profile::Unit;
-use std::alloc::AllocError;
+use std::alloc::{AllocError, Global};
 
 /// Returns the name of a reason, as programs read it.
 pub(crate) fn reason_name(reason: NotCountedReason) -> &'static str {
@@ -70,14 +71,22 @@ fn why_not_sentence(why: WhyNot) -> &'static str {
 }
 
 /// Appends a limit in tenths with its unit: `16.0 A`.
-pub fn push_limit(out: &mut String, tenths: u32, unit: Unit) -> Result<(), AllocError> {
-    push_tenths(out, tenths)?;
-    out.push(' ')?;
-    out.push_str(unit_name(unit))
+pub fn push_limit(out: &mut Page, tenths: u32, unit: Unit) {
+    let number = tenths_text(out.allocator(), tenths);
+    out.push_made(number);
+    out.push(' ');
+    out.push_str(unit_name(unit));
+}
+
+/// Returns tenths with one decimal: `16.0`.
+fn tenths_text(alloc: Global, tenths: u32) -> Result<String, AllocError> {
+    let mut text = String::new(alloc);
+    push_tenths(&mut text, tenths)?;
+    Ok(text)
 }
 
 /// Appends a length of time: `1 d 8 h`, `1 h 30 min`, `45 s`.
-pub fn push_length(out: &mut String, seconds: u32) -> Result<(), AllocError> {
+pub fn push_length(out: &mut Page, seconds: u32) {
     let length = length_of(seconds);
     let parts = [
         (length.days, " d"),
@@ -89,37 +98,32 @@ pub fn push_length(out: &mut String, seconds: u32) -> Result<(), AllocError> {
     for (count, unit) in parts {
         if count > 0 {
             if !is_first {
-                out.push(' ')?;
+                out.push(' ');
             }
-            push_integer(out, count)?;
-            out.push_str(unit)?;
+            write!(out, "{count}{unit}");
             is_first = false;
         }
     }
     if is_first {
-        out.push_str("0 s")?;
+        out.push_str("0 s");
     }
-    Ok(())
 }
 
 /// Appends the values that identify a profile: `TxDefaultProfile 1, stack level 0, at connector 0`.
-pub fn push_profile(out: &mut String, profile: PrevailingProfile) -> Result<(), AllocError> {
-    push_short_profile(out, profile)?;
-    out.push_str(", stack level ")?;
-    push_integer(out, profile.stack_level)?;
-    out.push_str(", at connector ")?;
-    push_integer(out, profile.connector)
+pub fn push_profile(out: &mut Page, profile: PrevailingProfile) {
+    push_short_profile(out, profile);
+    let (level, connector) = (profile.stack_level, profile.connector);
+    write!(out, ", stack level {level}, at connector {connector}");
 }
 
 /// Appends a profile by its purpose and id alone: `TxDefaultProfile 1`.
-fn push_short_profile(out: &mut String, profile: PrevailingProfile) -> Result<(), AllocError> {
-    out.push_str(purpose_name(profile.purpose))?;
-    out.push(' ')?;
-    push_integer(out, profile.id)
+fn push_short_profile(out: &mut Page, profile: PrevailingProfile) {
+    let (purpose, id) = (purpose_name(profile.purpose), profile.id);
+    write!(out, "{purpose} {id}");
 }
 
 /// Appends a cause without its shares.
-pub fn push_cause(out: &mut String, cause: Cause) -> Result<(), AllocError> {
+pub fn push_cause(out: &mut Page, cause: Cause) {
     match cause {
         Cause::Profile(profile) => push_profile(out, profile),
         Cause::ConnectorCeiling => out.push_str("the connector's ceiling"),
@@ -129,7 +133,7 @@ pub fn push_cause(out: &mut String, cause: Cause) -> Result<(), AllocError> {
 }
 
 /// Appends a cause in a few words.
-pub(crate) fn push_short_cause(out: &mut String, cause: Cause) -> Result<(), AllocError> {
+pub(crate) fn push_short_cause(out: &mut Page, cause: Cause) {
     match cause {
         Cause::Profile(profile) => push_short_profile(out, profile),
         Cause::ConnectorCeiling => out.push_str("connector's ceiling"),
@@ -139,31 +143,29 @@ pub(crate) fn push_short_cause(out: &mut String, cause: Cause) -> Result<(), All
 }
 
 /// Appends the cause of a limit, with its shares if it is a sum.
-pub fn push_why(out: &mut String, reason: &Reason, unit: Unit) -> Result<(), AllocError> {
-    push_cause(out, reason.cause)?;
+pub fn push_why(out: &mut Page, reason: &Reason, unit: Unit) {
+    push_cause(out, reason.cause);
     if reason.cause != Cause::Sum {
-        return Ok(());
+        return;
     }
     let shares = reason.shares.as_slice();
     if shares.is_empty() {
-        return out.push_str(": none is active");
+        out.push_str(": none is active");
     }
     let mut before = ": ";
     for share in shares {
-        out.push_str(before)?;
-        push_share(out, share, unit)?;
+        out.push_str(before);
+        push_share(out, share, unit);
         before = ", ";
     }
-    Ok(())
 }
 
 /// Appends a share: `connector 1 10.0 A by TxProfile 4`.
-fn push_share(out: &mut String, share: &Share, unit: Unit) -> Result<(), AllocError> {
-    out.push_str("connector ")?;
-    push_integer(out, share.connector)?;
-    out.push(' ')?;
-    push_limit(out, share.limit, unit)?;
-    out.push_str(" by ")?;
+fn push_share(out: &mut Page, share: &Share, unit: Unit) {
+    let connector = share.connector;
+    write!(out, "connector {connector} ");
+    push_limit(out, share.limit, unit);
+    out.push_str(" by ");
     match share.cause {
         Cause::ConnectorCeiling => out.push_str("its ceiling"),
         cause => push_short_cause(out, cause),

@@ -1,6 +1,7 @@
 //! Texts wrapped into lines of at most a given number of columns.
 
 use ocpp_scalars::character_count;
+use page_text::Page;
 use std::alloc::AllocError;
 
 /// The margins of wrapped lines.
@@ -13,21 +14,16 @@ pub(crate) struct Margins {
 }
 
 /// Appends a character a number of times.
-pub(crate) fn push_times(
-    out: &mut String,
-    character: char,
-    times: usize,
-) -> Result<(), AllocError> {
+pub(crate) fn push_times(out: &mut Page, character: char, times: usize) {
     for _ in 0..times {
-        out.push(character)?;
+        out.push(character);
     }
-    Ok(())
 }
 
 /// Appends a text as lines, broken at its blanks and each ended by a line feed. A line after the
 /// first is indented by two more columns. A word wider than any line has a line of its own.
-pub(crate) fn push_lines(out: &mut String, text: &str, margins: Margins) -> Result<(), AllocError> {
-    push_times(out, ' ', margins.indent)?;
+pub(crate) fn push_lines(out: &mut Page, text: &str, margins: Margins) {
+    push_times(out, ' ', margins.indent);
     let indent = margins.indent.saturating_add(2);
     let mut column = margins.indent;
     let mut is_first = true;
@@ -36,17 +32,25 @@ pub(crate) fn push_lines(out: &mut String, text: &str, margins: Margins) -> Resu
         if is_first {
             column = column.saturating_add(width);
         } else if fits(column, width, margins.columns) {
-            out.push(' ')?;
+            out.push(' ');
             column = column.saturating_add(width).saturating_add(1);
         } else {
-            out.push('\n')?;
-            push_times(out, ' ', indent)?;
+            out.push('\n');
+            push_times(out, ' ', indent);
             column = indent.saturating_add(width);
         }
-        out.push_str(word)?;
+        out.push_str(word);
         is_first = false;
     }
-    out.push('\n')
+    out.push('\n');
+}
+
+/// Appends a text that was made elsewhere as lines.
+pub(crate) fn push_made_lines(out: &mut Page, made: Result<String, AllocError>, margins: Margins) {
+    match made {
+        Ok(text) => push_lines(out, text.as_str(), margins),
+        Err(AllocError) => out.push_made(Err(AllocError)),
+    }
 }
 
 /// Returns whether a line that is filled up to `column` has room for a blank and a word.
@@ -55,13 +59,13 @@ fn fits(column: usize, width: usize, columns: Option<usize>) -> bool {
 }
 
 /// Appends an ASCII text, padded with blanks on its left to a width.
-pub(crate) fn push_right(out: &mut String, text: &str, width: usize) -> Result<(), AllocError> {
-    push_times(out, ' ', width.saturating_sub(text.len()))?;
-    out.push_str(text)
+pub(crate) fn push_right(out: &mut Page, text: &str, width: usize) {
+    push_times(out, ' ', width.saturating_sub(text.len()));
+    out.push_str(text);
 }
 
 /// Appends an ASCII text, padded with blanks on its right to a width.
-pub(crate) fn push_left(out: &mut String, text: &str, width: usize) -> Result<(), AllocError> {
-    out.push_str(text)?;
-    push_times(out, ' ', width.saturating_sub(text.len()))
+pub(crate) fn push_left(out: &mut Page, text: &str, width: usize) {
+    out.push_str(text);
+    push_times(out, ' ', width.saturating_sub(text.len()));
 }

@@ -1,8 +1,7 @@
 //! The clock of a time zone.
 
 use crate::clock::push_two_digits;
-use ocpp_scalars::push_integer;
-use std::alloc::AllocError;
+use page_text::Page;
 
 /// The offset of a clock from UTC from a moment on.
 #[derive(Clone, Copy, PartialEq, Eq)]
@@ -36,11 +35,11 @@ impl ZoneClock<'_> {
     }
 
     /// Appends the name of the zone, with its offset at the start.
-    pub(crate) fn push_name(&self, out: &mut String) -> Result<(), AllocError> {
-        out.push_str(self.name)?;
-        out.push_str(" (")?;
-        push_ahead(out, self.shifts.first().map_or(0, |shift| shift.ahead))?;
-        out.push(')')
+    pub(crate) fn push_name(&self, out: &mut Page) {
+        out.push_str(self.name);
+        out.push_str(" (");
+        push_ahead(out, self.shifts.first().map_or(0, |shift| shift.ahead));
+        out.push(')');
     }
 }
 
@@ -54,21 +53,21 @@ pub(crate) fn shown_at(zone: Option<ZoneClock<'_>>, moment: u64) -> u64 {
 }
 
 /// Appends an offset from UTC: `UTC`, `UTC+1`, `UTC-3:30`.
-pub(crate) fn push_ahead(out: &mut String, ahead: i32) -> Result<(), AllocError> {
-    out.push_str("UTC")?;
+pub(crate) fn push_ahead(out: &mut Page, ahead: i32) {
+    out.push_str("UTC");
     if ahead == 0 {
-        return Ok(());
+        return;
     }
-    out.push(if ahead < 0 { '-' } else { '+' })?;
+    out.push(if ahead < 0 { '-' } else { '+' });
     let seconds = ahead.unsigned_abs();
-    push_integer(out, seconds / 3600)?;
+    let hours = seconds / 3600;
+    write!(out, "{hours}");
     if seconds % 3600 != 0 {
-        out.push(':')?;
-        push_two_digits(out, u64::from(seconds / 60 % 60))?;
+        out.push(':');
+        push_two_digits(out, u64::from(seconds / 60 % 60));
     }
     if seconds % 60 != 0 {
-        out.push(':')?;
-        push_two_digits(out, u64::from(seconds % 60))?;
+        out.push(':');
+        push_two_digits(out, u64::from(seconds % 60));
     }
-    Ok(())
 }

@@ -128,13 +128,23 @@ impl JsonPage {
         self.made_fields(made);
     }
 
-    /// Appends fields that were made elsewhere, as texts of JSON with commas between them.
+    /// Appends fields that were made elsewhere, as `fields` does.
     pub fn made_fields(&mut self, made: Result<String, AllocError>) {
-        let copied = match made {
-            Ok(text) => self.copy_tokens(text.as_str()),
-            Err(AllocError) => Err(AllocError),
-        };
+        match made {
+            Ok(text) => self.fields(text.as_str()),
+            Err(AllocError) => self.fail(),
+        }
+    }
+
+    /// Appends the fields of a text of JSON, with commas between them and without braces.
+    pub fn fields(&mut self, text: &str) {
+        let copied = self.copy_tokens(text);
         self.keep(copied);
+    }
+
+    /// An allocation for the text failed elsewhere.
+    pub fn fail(&mut self) {
+        self.is_short = true;
     }
 
     /// Returns the whole text, unless an allocation failed.

@@ -80,8 +80,15 @@ impl Page {
     {
         match made {
             Ok(piece) => self.push_str(piece.as_str()),
-            Err(AllocError) => self.is_short = true,
+            Err(AllocError) => self.fail(),
         }
+    }
+
+    /// An allocation for the page failed elsewhere.
+    pub fn fail(&mut self)
+        ensures { self.new ≡ None }
+    {
+        self.is_short = true;
     }
 
     /// Returns the whole text, unless an allocation failed.

@@ -11,7 +11,7 @@ pub struct BootChanges {
 }
 
 impl BootChanges {
-    /// Returns the flag cleared: no boot has changed yet.
+    /// Returns a cleared flag: no boot has changed yet.
     pub fn new() -> BootChanges {
         BootChanges {
             is_new: Mutex::new(false),

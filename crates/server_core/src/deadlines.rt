@@ -1,4 +1,4 @@
-//! The times that clients have, in seconds.
+//! Timeouts for clients, in seconds.
 
 /// The longest that a handshake may take as a whole.
 pub const LONGEST_HANDSHAKE: u64 = 10;

@@ -37,7 +37,7 @@ impl WaitingLines {
 }
 
 impl Notices {
-    /// Returns the notices without a line.
+    /// Returns an empty queue of lines.
     pub fn new(alloc: Global) -> Notices {
         Notices {
             alloc,

@@ -81,14 +81,14 @@ impl SiteWatch {
         seen.counts.turned_away = seen.counts.turned_away.saturating_add(1);
     }
 
-    /// Counts a session of a point or of an operator, which begins.
+    /// Counts a session that begins, of a point or of an operator.
     pub fn begin<R: Wait>(&self, rt: &R, is_point: bool) {
         let mut seen = self.seen.lock(rt);
         let sessions = sessions_of(&mut seen.counts, is_point);
         *sessions = sessions.saturating_add(1);
     }
 
-    /// Stops counting a session, which has ended.
+    /// Removes a session that has ended from the count.
     pub fn end<R: Wait>(&self, rt: &R, is_point: bool) {
         let mut seen = self.seen.lock(rt);
         let sessions = sessions_of(&mut seen.counts, is_point);

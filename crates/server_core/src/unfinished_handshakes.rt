@@ -32,7 +32,7 @@ struct BegunHandshake {
 }
 
 impl UnfinishedHandshakes {
-    /// Returns a list of no handshakes.
+    /// Returns an empty list.
     pub fn new(alloc: Global) -> UnfinishedHandshakes {
         UnfinishedHandshakes {
             begun: Mutex::new(BegunHandshakes {

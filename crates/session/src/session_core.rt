@@ -78,7 +78,7 @@ impl SessionCore {
         &self.point
     }
 
-    /// Ends the session, and returns the identity of its point.
+    /// Returns the identity of the session's point by value.
     pub fn into_point_id(self) -> PointId
         ensures { result ≡ self.point }
     {

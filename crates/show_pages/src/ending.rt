@@ -2,7 +2,8 @@
 
 use crate::trace::{HeldLine, Trace};
 use crate::traced_calls::{PointCalls, UnsentCall};
-use crate::words::counted;
+use crate::words::push_count;
+use page_text::Page;
 use site_core::Machine;
 use std::alloc::{AllocError, Global};
 
@@ -11,22 +12,22 @@ use std::alloc::{AllocError, Global};
 /// and starts that it accepted and never made. A point that never sent a message isn't reported if
 /// only call 0 waits, which clears its earlier profiles.
 pub fn ending_text(alloc: Global, trace: &Trace<'_>) -> Result<String, AllocError> {
-    let mut out = String::new(alloc);
-    push_held(&mut out, trace)?;
+    let mut page = Page::new(alloc);
+    push_held(&mut page, trace);
     let machine = trace.playing().machine();
     for (place, calls) in trace.points().iter().enumerate() {
         if let Some(point) = machine.site().point(place) {
-            push_rejected(&mut out, point.id, calls)?;
-            push_starts(&mut out, point.id, machine)?;
-            push_unanswered(&mut out, point.id, calls)?;
-            push_waiting(alloc, &mut out, point.id, calls)?;
+            push_rejected(&mut page, point.id, calls);
+            push_starts(&mut page, point.id, machine);
+            push_unanswered(&mut page, point.id, calls);
+            push_waiting(&mut page, point.id, calls);
         }
     }
-    Ok(out)
+    page.finish()
 }
 
 /// Appends a sentence for each held request.
-fn push_held(out: &mut String, trace: &Trace<'_>) -> Result<(), AllocError> {
+fn push_held(page: &mut Page, trace: &Trace<'_>) {
     for held in trace.playing().held() {
         let number = held.number;
         match line_of_request(trace.held(), number) {
@@ -34,14 +35,13 @@ fn push_held(out: &mut String, trace: &Trace<'_>) -> Result<(), AllocError> {
                 let since = line.line;
                 let point = &line.point;
                 write!(
-                    out,
+                    page,
                     "{point}: request {number} was held at line {since} and never released\n"
-                )?;
+                );
             }
-            None => write!(out, "request {number} was held and never released\n")?,
+            None => write!(page, "request {number} was held and never released\n"),
         }
     }
-    Ok(())
 }
 
 fn line_of_request(lines: &[HeldLine], request: u64) -> Option<&HeldLine> {
@@ -49,7 +49,7 @@ fn line_of_request(lines: &[HeldLine], request: u64) -> Option<&HeldLine> {
 }
 
 /// Appends a sentence for each call that the point rejected.
-fn push_rejected(out: &mut String, id: &str, calls: &PointCalls) -> Result<(), AllocError> {
+fn push_rejected(page: &mut Page, id: &str, calls: &PointCalls) {
     for rejected in &calls.rejected {
         let line = rejected.line;
         let status = &rejected.status;
@@ -57,17 +57,16 @@ fn push_rejected(out: &mut String, id: &str, calls: &PointCalls) -> Result<(), A
         let what = &rejected.call.what;
         let sent = rejected.call.line;
         write!(
-            out,
+            page,
             "{id}: call {number} ({what}), which went out after line {sent}, was answered {status} at line {line}\n"
-        )?;
+        );
     }
-    Ok(())
 }
 
 /// Appends a sentence for each start that the point accepted and never made.
-fn push_starts(out: &mut String, id: &str, machine: &Machine) -> Result<(), AllocError> {
+fn push_starts(page: &mut Page, id: &str, machine: &Machine) {
     let Some(outbox) = machine.outbox_of(id) else {
-        return Ok(());
+        return;
     };
     for start in machine.waiting_of(id) {
         let connector = start.connector;
@@ -76,49 +75,39 @@ fn push_starts(out: &mut String, id: &str, machine: &Machine) -> Result<(), Allo
         // A start whose call isn't confirmed yet is reported as a call, below.
         if number < outbox.first_number() {
             write!(
-                out,
+                page,
                 "{id}: the point accepted call {number}, a start at connector {connector} by idTag {id_tag}, and no transaction began there since\n"
-            )?;
+            );
         }
     }
-    Ok(())
 }
 
 /// Appends a sentence if a call is in flight.
-fn push_unanswered(out: &mut String, id: &str, calls: &PointCalls) -> Result<(), AllocError> {
+fn push_unanswered(page: &mut Page, id: &str, calls: &PointCalls) {
     if let Some(call) = &calls.in_flight {
         let number = call.number;
         let what = &call.what;
         let line = call.line;
         write!(
-            out,
+            page,
             "{id}: call {number} ({what}) went out after line {line} and was never answered\n"
-        )?;
+        );
     }
-    Ok(())
 }
 
 /// Appends a sentence if calls never went out.
-fn push_waiting(
-    alloc: Global,
-    out: &mut String,
-    id: &str,
-    calls: &PointCalls,
-) -> Result<(), AllocError> {
+fn push_waiting(page: &mut Page, id: &str, calls: &PointCalls) {
     // No line added call 0, so a point for which only that waits has no sentence.
     let Some(line) = first_line(&calls.waiting) else {
-        return Ok(());
+        return;
     };
-    let count = counted(alloc, calls.waiting.len(), "call")?;
     let why = match &calls.in_flight {
         Some(_) => "a call goes out once the one before it is answered",
         None => "a call goes out after a message of the point",
     };
-    write!(
-        out,
-        "{id}: {count} never went out, waiting since line {line}: {why}\n"
-    )?;
-    Ok(())
+    write!(page, "{id}: ");
+    push_count(page, calls.waiting.len(), "call");
+    write!(page, " never went out, waiting since line {line}: {why}\n");
 }
 
 /// Returns the first line that added one of these calls.

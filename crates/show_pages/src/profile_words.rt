@@ -1,8 +1,9 @@
 //! The cells of a profile in a table.
 
-use crate::words::{instant_text, seconds_text, tenths_text, text};
+use crate::words::{instant_text, push_seconds, tenths_text, text};
 use messages::{kind_name, recurrency_name, unit_name};
 use ocpp_scalars::Instant;
+use page_text::Page;
 use profile::{Kind, Profile, Purpose, Row};
 use std::alloc::{AllocError, Global};
 
@@ -73,29 +74,25 @@ fn end_of(row: &Row, started: Option<Instant>) -> Option<Instant> {
 pub fn periods_text(alloc: Global, profile: &Profile) -> Result<String, AllocError> {
     let unit = unit_name(profile.schedule.unit);
     let periods = profile.schedule.periods.as_slice();
-    let mut out = String::new(alloc);
+    let mut page = Page::new(alloc);
     for (place, period) in periods.iter().enumerate() {
         if place == SHOWN_PERIODS {
             let count = periods.len();
-            write!(out, " .. ({count} periods)")?;
+            write!(page, " .. ({count} periods)");
             break;
         }
         if place > 0 {
-            out.push_str(", ")?;
+            page.push_str(", ");
         }
-        let start = seconds_text(alloc, period.start)?;
-        let limit = tenths_text(alloc, period.limit)?;
-        write!(out, "{start} {limit} {unit}")?;
+        push_seconds(&mut page, period.start);
+        page.push(' ');
+        page.push_made(tenths_text(alloc, period.limit));
+        write!(page, " {unit}");
     }
-    push_end(&mut out, profile.schedule.duration)?;
-    Ok(out)
-}
-
-/// Appends the end of a duration, if there is one.
-fn push_end(out: &mut String, duration: Option<u32>) -> Result<(), AllocError> {
-    if let Some(duration) = duration {
-        let end = seconds_text(*out.allocator(), duration)?;
-        write!(out, ", {end} end")?;
+    if let Some(duration) = profile.schedule.duration {
+        page.push_str(", ");
+        push_seconds(&mut page, duration);
+        page.push_str(" end");
     }
-    Ok(())
+    page.finish()
 }

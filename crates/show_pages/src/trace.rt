@@ -10,6 +10,7 @@ use crate::traced_calls::PointCalls;
 use crate::words::{cut, text};
 use messages::Side;
 use ocppj_frame::ReadingMemory;
+use page_text::Page;
 use replay::{PlayedLine, Playing, PointChange, PrintedLine, ScriptLine, print_lines};
 use site_rules::Site;
 use std::alloc::{AllocError, Global};
@@ -328,25 +329,24 @@ fn text_words(
 
 /// Returns a table of the lines that printed something, each beside its output.
 pub fn trace_text(alloc: Global, trace: &Trace<'_>) -> Result<String, AllocError> {
-    let mut table = Table::new(alloc, &["line", "moment", "point", "message", "answer"])?;
+    let mut table = Table::new(alloc, &["line", "moment", "point", "message", "answer"]);
     for line in trace.lines() {
-        table.push([
-            line.number.to_string(alloc)?,
-            shown(alloc, &line.moment)?,
-            shown(alloc, &line.point)?,
-            text(alloc, line.text.as_str())?,
-            print_lines(alloc, line.printed.as_slice())?,
-        ])?;
+        table.begin_row();
+        table.cell(line.number);
+        table.cell(shown(&line.moment));
+        table.cell(shown(&line.point));
+        table.cell(line.text.as_str());
+        table.made_cell(print_lines(alloc, line.printed.as_slice()));
     }
-    let mut out = String::new(alloc);
-    table.push_to(&mut out, 0)?;
-    Ok(out)
+    let mut page = Page::new(alloc);
+    table.push_to(&mut page, 0);
+    page.finish()
 }
 
-/// Returns a copy of a text, or `-` if there is none.
-fn shown(alloc: Global, said: &Option<String>) -> Result<String, AllocError> {
-    match said {
-        Some(said) => text(alloc, said.as_str()),
-        None => text(alloc, "-"),
+/// Returns a text, or `-` if there is none.
+fn shown(text: &Option<String>) -> &str {
+    match text {
+        Some(text) => text.as_str(),
+        None => "-",
     }
 }

@@ -1,6 +1,7 @@
-//! Short texts: instants, limits, numbers, lengths of time and shortened texts.
+//! Short texts: instants, limits, counts, lengths of time and shortened texts.
 
 use ocpp_scalars::{Instant, push_instant, push_tenths};
+use page_text::Page;
 use std::alloc::{AllocError, Global};
 
 /// Returns a copy of a text.
@@ -22,41 +23,40 @@ pub fn tenths_text(alloc: Global, tenths: u32) -> Result<String, AllocError> {
     Ok(out)
 }
 
-/// Formats a number of seconds in the largest unit that is exact, such as `8 h`.
-pub fn seconds_text(alloc: Global, seconds: u32) -> Result<String, AllocError> {
+/// Appends a count: `1 call`, `2 calls`.
+pub fn push_count(page: &mut Page, count: usize, one: &str) {
+    write!(page, "{count} {one}");
+    if count != 1 {
+        page.push('s');
+    }
+}
+
+/// Appends a number of seconds in the largest unit that is exact, such as `8 h`.
+pub fn push_seconds(page: &mut Page, seconds: u32) {
     if seconds == 0 || seconds % 60 != 0 {
-        return format!(in alloc; "{seconds} s");
+        return write!(page, "{seconds} s");
     }
     let minutes = seconds / 60;
     if minutes % 60 != 0 {
-        return format!(in alloc; "{minutes} min");
+        return write!(page, "{minutes} min");
     }
     let hours = minutes / 60;
     if hours % 24 != 0 {
-        return format!(in alloc; "{hours} h");
+        return write!(page, "{hours} h");
     }
     let days = hours / 24;
-    format!(in alloc; "{days} d")
-}
-
-/// Formats a count: `1 call`, `2 calls`.
-pub fn counted(alloc: Global, count: usize, one: &str) -> Result<String, AllocError> {
-    if count == 1 {
-        format!(in alloc; "1 {one}")
-    } else {
-        format!(in alloc; "{count} {one}s")
-    }
+    write!(page, "{days} d")
 }
 
 /// Returns the first characters of a text, with `..` after them if it has more.
 pub fn cut(alloc: Global, text: &str, characters: usize) -> Result<String, AllocError> {
-    let mut out = String::new(alloc);
+    let mut page = Page::new(alloc);
     for (place, character) in text.chars().enumerate() {
         if place == characters {
-            out.push_str("..")?;
-            return Ok(out);
+            page.push_str("..");
+            break;
         }
-        out.push(character)?;
+        page.push(character);
     }
-    Ok(out)
+    page.finish()
 }

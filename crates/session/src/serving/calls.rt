@@ -72,8 +72,8 @@ pub fn send_call<W: World, S: Read + Write + Drop, K: MaskKeys + Drop>(
     let Peer::Point { link: Some(link) } = core.peer() else {
         return Ok(None);
     };
-    // Most often there is nothing to send, or the point has a later link. This check spares them
-    // the journal entry.
+    // Most often there is nothing to send, or the point has a later link, and then no journal entry
+    // has to be made.
     let book = context.shared.lock(context.rt);
     let link_to_send = book.link_to_send(core.point_id().as_str());
     drop(book);

@@ -15,7 +15,7 @@ use texts::{SentText, said_of};
 use world::World;
 
 /// The longest message in bytes that is read beside others. Longer ones are read one at a time.
-// Reading takes up to 150 times the size of a message in memory, so many at once could exhaust it.
+// Reading takes up to 150 times a message's size, so several at once could exhaust the memory.
 const LONGEST_BESIDE_OTHERS: usize = 4_096;
 
 /// Returns whether a message is long: no other long one is read at the same time.
