@@ -24,7 +24,7 @@ pub fn push_escaped(out: &mut Page, text: &str) {
 }
 
 /// Appends a text that was made elsewhere, escaped.
-pub(crate) fn push_made_escaped(out: &mut Page, made: Result<String, AllocError>) {
+pub fn push_made_escaped(out: &mut Page, made: Result<String, AllocError>) {
     match made {
         Ok(text) => push_escaped(out, text.as_str()),
         Err(AllocError) => out.push_made(Err(AllocError)),

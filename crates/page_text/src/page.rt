@@ -4,6 +4,7 @@ ghost use Rattle.std.specs.Prelude.{◌≡◌, [], None, Some, IfErr, IfOk, IfSo
 ghost use Rattle.std.specs.Char.{encode_utf8};
 ghost use Rattle.page_text.specs.Page.{TakesPiece};
 
+use ocpp_scalars::{Instant, push_instant};
 use std::alloc::{AllocError, Global};
 use std::fmt;
 use std::fmt::Write;
@@ -81,6 +82,13 @@ impl Page {
         match made {
             Ok(piece) => self.push_str(piece.as_str()),
             Err(AllocError) => self.fail(),
+        }
+    }
+
+    /// Appends an instant (RFC 3339).
+    pub fn push_instant(&mut self, instant: Instant) {
+        if !self.is_short {
+            self.is_short = push_instant(&mut self.text, instant).is_err();
         }
     }
 

@@ -9,7 +9,6 @@ mod call_moments;
 mod calls;
 mod health;
 mod journal_report;
-mod json_page;
 mod kept_boot;
 mod metrics;
 mod next_day;

@@ -13,7 +13,8 @@ use crate::site_report::SiteReport;
 use crate::strip::{Shown, push_strip};
 use explain_pages::push_element;
 use messages::AuditOutcome;
-use ocpp_scalars::{Instant, push_instant};
+use ocpp_scalars::Instant;
+use page_text::Page;
 use std::alloc::{AllocError, Global};
 
 /// The number of points on a page.
@@ -35,17 +36,17 @@ pub fn site_page(
         return Ok(None);
     };
     let calls = calls_of_points(alloc, report)?;
-    let mut out = String::new(alloc);
-    push_opening(&mut out, report)?;
-    push_pages(&mut out, number, points.div_ceil(POINTS_OF_PAGE))?;
-    out.push_str("<main>\n")?;
+    let mut page = Page::new(alloc);
+    push_opening(&mut page, report);
+    push_pages(&mut page, number, points.div_ceil(POINTS_OF_PAGE));
+    page.push_str("<main>\n");
     for (place, calls) in calls.iter().enumerate().skip(first).take(POINTS_OF_PAGE) {
         if let Some(point) = summary_at(report, place, *calls) {
-            push_point(alloc, &mut out, report, &point)?;
+            push_point(&mut page, report, &point);
         }
     }
-    out.push_str("</main>\n</body>\n</html>\n")?;
-    Ok(Some(out))
+    page.push_str("</main>\n</body>\n</html>\n");
+    Ok(Some(page.finish()?))
 }
 
 /// Returns the place of the first point of a page, if the site has the page.
@@ -56,22 +57,22 @@ fn first_of_page(points: usize, number: usize) -> Option<usize>
     if first < points { Some(first) } else { None }
 }
 
-fn push_opening(out: &mut String, report: &SiteReport<'_>) -> Result<(), AllocError> {
-    out.push_str("<!DOCTYPE html>\n<html lang=\"en\">\n<head>\n<meta charset=\"utf-8\">\n")?;
-    out.push_str("<meta name=\"viewport\" content=\"width=device-width, initial-scale=1\">\n")?;
-    out.push_str("<title>The site</title>\n")?;
-    out.push_str(STYLE)?;
-    out.push_str("</head>\n<body>\n<header>\n<h1>The site at ")?;
-    push_moment(out, report.moment)?;
-    out.push_str("</h1>\n<p>")?;
-    out.push_str(health_sentence(Health::of(Some(report.journal.state))))?;
+fn push_opening(page: &mut Page, report: &SiteReport<'_>) {
+    page.push_str("<!DOCTYPE html>\n<html lang=\"en\">\n<head>\n<meta charset=\"utf-8\">\n");
+    page.push_str("<meta name=\"viewport\" content=\"width=device-width, initial-scale=1\">\n");
+    page.push_str("<title>The site</title>\n");
+    page.push_str(STYLE);
+    page.push_str("</head>\n<body>\n<header>\n<h1>The site at ");
+    push_moment(page, report.moment);
+    page.push_str("</h1>\n<p>");
+    page.push_str(health_sentence(Health::of(Some(report.journal.state))));
     let counts = report.counts;
     let (points, operators) = (counts.point_sessions, counts.operator_sessions);
     write!(
-        out,
+        page,
         " Sessions: {points} of points, {operators} of operators."
-    )?;
-    out.push_str(" Times are in UTC.</p>\n</header>\n")
+    );
+    page.push_str(" Times are in UTC.</p>\n</header>\n");
 }
 
 fn health_sentence(health: Health) -> &'static str {
@@ -86,34 +87,39 @@ fn health_sentence(health: Health) -> &'static str {
 }
 
 /// Appends the links to the pages, if there is more than one.
-fn push_pages(out: &mut String, number: usize, pages: usize) -> Result<(), AllocError> {
+fn push_pages(page: &mut Page, number: usize, pages: usize) {
     if pages <= 1 {
-        return Ok(());
+        return;
     }
-    out.push_str("<nav aria-label=\"Pages\"><ul>\n")?;
-    for page in 1..=pages {
-        if page == number {
-            write!(out, "<li aria-current=\"page\">{page}</li>\n")?;
+    page.push_str("<nav aria-label=\"Pages\"><ul>\n");
+    for other in 1..=pages {
+        if other == number {
+            write!(page, "<li aria-current=\"page\">{other}</li>\n");
         } else {
-            write!(out, "<li><a href=\"/page/{page}\">page {page}</a></li>\n")?;
+            write!(
+                page,
+                "<li><a href=\"/page/{other}\">page {other}</a></li>\n"
+            );
         }
     }
-    out.push_str("</ul></nav>\n")
+    page.push_str("</ul></nav>\n");
 }
 
 /// Appends a point: its state, and the limits of its connectors.
-fn push_point(
-    alloc: Global,
-    out: &mut String,
-    report: &SiteReport<'_>,
-    point: &PointSummary<'_>,
-) -> Result<(), AllocError> {
-    push_element(out, "<section>\n<h2>", point.id, "</h2>\n")?;
-    push_state(out, point)?;
+fn push_point(page: &mut Page, report: &SiteReport<'_>, point: &PointSummary<'_>) {
+    push_element(page, "<section>\n<h2>", point.id, "</h2>\n");
+    push_state(page, point);
     for before in 0..point.book.connectors() {
         let connector = before + 1;
-        let Some(explanation) = explained_day(alloc, point.book, connector, report.moment)? else {
-            continue;
+        let explanation = match explained_day(
+            page.allocator(),
+            point.book,
+            connector,
+            report.moment,
+        ) {
+            Ok(Some(explanation)) => explanation,
+            Ok(None) => continue,
+            Err(AllocError) => return page.fail(),
         };
         let shown = Shown {
             point: point.id,
@@ -121,105 +127,99 @@ fn push_point(
             unit: report.machine.site().unit(),
             from: report.moment,
         };
-        push_strip(alloc, out, &shown, &explanation)?;
+        push_strip(page, &shown, &explanation);
     }
-    out.push_str("</section>\n")
+    page.push_str("</section>\n");
 }
 
 /// Appends the state of a point.
-fn push_state(out: &mut String, point: &PointSummary<'_>) -> Result<(), AllocError> {
-    out.push_str("<dl>\n")?;
+fn push_state(page: &mut Page, point: &PointSummary<'_>) {
+    page.push_str("<dl>\n");
     push_seen(
-        out,
+        page,
         "Connected since",
         point.news.connection.since,
         "not connected",
-    )?;
-    push_seen(out, "Last message", point.news.heard, NOT_SEEN)?;
+    );
+    push_seen(page, "Last message", point.news.heard, NOT_SEEN);
     let booted = match point.news.boot {
         Some(boot) => Some(boot.moment),
         None => None,
     };
-    push_seen(out, "Booted", booted, NOT_SEEN)?;
-    push_calls(out, point)?;
-    out.push_str("</dl>\n")?;
-    push_warnings(out, point)
+    push_seen(page, "Booted", booted, NOT_SEEN);
+    push_calls(page, point);
+    page.push_str("</dl>\n");
+    push_warnings(page, point);
 }
 
 /// Appends the state of the calls to a point.
-fn push_calls(out: &mut String, point: &PointSummary<'_>) -> Result<(), AllocError> {
+fn push_calls(page: &mut Page, point: &PointSummary<'_>) {
     push_seen(
-        out,
+        page,
         "Call in flight since",
         point.calls.in_flight_since,
         "none is",
-    )?;
-    push_count(out, "Calls waiting", point.calls.waiting as u64)?;
+    );
+    push_count(page, "Calls waiting", point.calls.waiting as u64);
     push_seen(
-        out,
+        page,
         "Call waiting since",
         point.calls.waiting_since,
         "none is",
-    )?;
-    push_count(out, "Calls confirmed", point.calls.confirmed)?;
-    push_count(out, "Calls rejected", point.news.rejections)
+    );
+    push_count(page, "Calls confirmed", point.calls.confirmed);
+    push_count(page, "Calls rejected", point.news.rejections);
 }
 
 /// Appends what an operator has to do about a point, if anything.
-fn push_warnings(out: &mut String, point: &PointSummary<'_>) -> Result<(), AllocError> {
+fn push_warnings(page: &mut Page, point: &PointSummary<'_>) {
     if let Some(rejection) = &point.news.rejection {
-        push_rejection(out, rejection)?;
+        push_rejection(page, rejection);
     }
     if point.calls.may_have_forgotten {
-        out.push_str("<p class=\"warning\">It booted, and may have forgotten its profiles: ")?;
-        out.push_str("audit it, or install them anew.</p>\n")?;
+        page.push_str("<p class=\"warning\">It booted, and may have forgotten its profiles: ");
+        page.push_str("audit it, or install them anew.</p>\n");
     }
     if point.calls.audit == AuditOutcome::Differs {
-        out.push_str("<p class=\"warning\">In its last audit it told another schedule: ")?;
-        out.push_str("install its profiles anew, and audit it again.</p>\n")?;
+        page.push_str("<p class=\"warning\">In its last audit it told another schedule: ");
+        page.push_str("install its profiles anew, and audit it again.</p>\n");
     }
-    Ok(())
 }
 
-fn push_rejection(out: &mut String, rejection: &Rejection) -> Result<(), AllocError> {
+fn push_rejection(page: &mut Page, rejection: &Rejection) {
     let call = rejection.call;
-    write!(out, "<p class=\"warning\">It rejected call {call}")?;
+    write!(page, "<p class=\"warning\">It rejected call {call}");
     if let Some(action) = rejection.action {
-        push_element(out, ", ", action.name(), ",")?;
+        push_element(page, ", ", action.name(), ",");
     }
-    out.push_str(" at ")?;
-    push_moment(out, rejection.moment)?;
-    push_element(out, ": ", rejection.reason.as_str(), "</p>\n")
+    page.push_str(" at ");
+    push_moment(page, rejection.moment);
+    push_element(page, ": ", rejection.reason.as_str(), "</p>\n");
 }
 
 /// The text in place of a moment that wasn't observed.
 const NOT_SEEN: &str = "not seen";
 
 /// Appends the moment of an observation, or `without`.
-fn push_seen(
-    out: &mut String,
-    name: &str,
-    moment: Option<Instant>,
-    without: &str,
-) -> Result<(), AllocError> {
-    push_element(out, "<div><dt>", name, "</dt><dd>")?;
+fn push_seen(page: &mut Page, name: &str, moment: Option<Instant>, without: &str) {
+    push_element(page, "<div><dt>", name, "</dt><dd>");
     match moment {
-        Some(moment) => push_moment(out, moment)?,
-        None => out.push_str(without)?,
+        Some(moment) => push_moment(page, moment),
+        None => page.push_str(without),
     }
-    out.push_str("</dd></div>\n")
+    page.push_str("</dd></div>\n");
 }
 
-fn push_count(out: &mut String, name: &str, count: u64) -> Result<(), AllocError> {
-    push_element(out, "<div><dt>", name, "</dt><dd>")?;
-    write!(out, "{count}</dd></div>\n")
+fn push_count(page: &mut Page, name: &str, count: u64) {
+    push_element(page, "<div><dt>", name, "</dt><dd>");
+    write!(page, "{count}</dd></div>\n");
 }
 
 /// Appends a moment for people and for programs.
-fn push_moment(out: &mut String, moment: Instant) -> Result<(), AllocError> {
-    out.push_str("<time datetime=\"")?;
-    push_instant(out, moment)?;
-    out.push_str("\">")?;
-    push_instant(out, moment)?;
-    out.push_str("</time>")
+fn push_moment(page: &mut Page, moment: Instant) {
+    page.push_str("<time datetime=\"");
+    page.push_instant(moment);
+    page.push_str("\">");
+    page.push_instant(moment);
+    page.push_str("</time>");
 }

@@ -1,11 +1,11 @@
 //! The state of a site as JSON (RFC 8259).
 
 use crate::health::Health;
-use crate::json_page::JsonPage;
 use crate::point_activity::{PointActivity, Rejection};
 use crate::point_summary::{PointSummary, calls_of_points, summary_at};
 use crate::site_report::{SiteCounts, SiteReport};
 use messages::purpose_name;
+use page_text::JsonPage;
 use point_book::PointBook;
 use profile::Row;
 use std::alloc::{AllocError, Global};
@@ -16,138 +16,128 @@ use transactions::Transaction;
 /// if nothing was observed.
 pub fn state_json(alloc: Global, report: &SiteReport<'_>) -> Result<String, AllocError> {
     let mut page = JsonPage::new(alloc);
-    page.out.begin_object()?;
-    page.instant("moment", Some(report.moment))?;
-    page.text("health", Health::of(Some(report.journal.state)).name())?;
-    push_counts(&mut page, &report.counts)?;
-    push_journal(&mut page, report)?;
-    page.out.key("points")?;
-    page.out.begin_array()?;
+    page.begin_object();
+    page.instant("moment", Some(report.moment));
+    page.text("health", Health::of(Some(report.journal.state)).name());
+    push_counts(&mut page, &report.counts);
+    push_journal(&mut page, report);
+    page.array("points");
     let calls = calls_of_points(alloc, report)?;
     for (place, calls) in calls.iter().enumerate() {
         if let Some(point) = summary_at(report, place, *calls) {
-            push_point(&mut page, &point)?;
+            push_point(&mut page, &point);
         }
     }
-    page.out.end_array()?;
-    page.out.end_object()?;
-    page.into_text()
+    page.end_array();
+    page.end_object();
+    page.finish_line()
 }
 
-fn push_counts(page: &mut JsonPage, counts: &SiteCounts) -> Result<(), AllocError> {
-    page.out.key("sessions")?;
-    page.out.begin_object()?;
-    page.number("points", counts.point_sessions)?;
-    page.number("operators", counts.operator_sessions)?;
-    page.out.end_object()?;
-    page.number("seats", counts.seats)?;
-    page.number("freeSeats", counts.free_seats)?;
-    page.number("changes", counts.changes)?;
-    page.number("answers", counts.answers)?;
-    page.number("refusedHandshakes", counts.refused_handshakes)?;
-    page.number("turnedAway", counts.turned_away)
+fn push_counts(page: &mut JsonPage, counts: &SiteCounts) {
+    page.object("sessions");
+    page.number("points", counts.point_sessions);
+    page.number("operators", counts.operator_sessions);
+    page.end_object();
+    page.number("seats", counts.seats);
+    page.number("freeSeats", counts.free_seats);
+    page.number("changes", counts.changes);
+    page.number("answers", counts.answers);
+    page.number("refusedHandshakes", counts.refused_handshakes);
+    page.number("turnedAway", counts.turned_away);
 }
 
-fn push_journal(page: &mut JsonPage, report: &SiteReport<'_>) -> Result<(), AllocError> {
-    page.out.key("journal")?;
-    page.out.begin_object()?;
-    page.number("bytes", report.journal.bytes)?;
-    page.number("syncs", report.journal.syncs)?;
-    page.number("syncMicroseconds", report.journal.sync_microseconds)?;
-    page.out.end_object()
+fn push_journal(page: &mut JsonPage, report: &SiteReport<'_>) {
+    page.object("journal");
+    page.number("bytes", report.journal.bytes);
+    page.number("syncs", report.journal.syncs);
+    page.number("syncMicroseconds", report.journal.sync_microseconds);
+    page.end_object();
 }
 
-fn push_point(page: &mut JsonPage, point: &PointSummary<'_>) -> Result<(), AllocError> {
-    page.out.begin_object()?;
-    page.text("id", point.id)?;
-    push_news(page, point.news)?;
-    page.flag("mayHaveForgotten", point.calls.may_have_forgotten)?;
-    page.number("confirmed", point.calls.confirmed)?;
-    page.number("inFlight", point.calls.in_flight as u64)?;
-    page.instant("inFlightSince", point.calls.in_flight_since)?;
-    page.number("waiting", point.calls.waiting as u64)?;
-    page.instant("waitingSince", point.calls.waiting_since)?;
-    push_rejected(page, point.news)?;
-    page.text("audit", point.calls.audit.name())?;
-    push_transactions(page, point.book)?;
-    push_profiles(page, point.book)?;
-    page.out.end_object()
+fn push_point(page: &mut JsonPage, point: &PointSummary<'_>) {
+    page.begin_object();
+    page.text("id", point.id);
+    push_news(page, point.news);
+    page.flag("mayHaveForgotten", point.calls.may_have_forgotten);
+    page.number("confirmed", point.calls.confirmed);
+    page.number("inFlight", point.calls.in_flight as u64);
+    page.instant("inFlightSince", point.calls.in_flight_since);
+    page.number("waiting", point.calls.waiting as u64);
+    page.instant("waitingSince", point.calls.waiting_since);
+    push_rejected(page, point.news);
+    page.text("audit", point.calls.audit.name());
+    push_transactions(page, point.book);
+    push_profiles(page, point.book);
+    page.end_object();
 }
 
 /// Appends the observations of a point's connection.
-fn push_news(page: &mut JsonPage, news: &PointActivity) -> Result<(), AllocError> {
-    page.instant("connectedSince", news.connection.since)?;
-    page.instant("lastText", news.heard)?;
+fn push_news(page: &mut JsonPage, news: &PointActivity) {
+    page.instant("connectedSince", news.connection.since);
+    page.instant("lastText", news.heard);
     let booted = match news.boot {
         Some(boot) => Some(boot.moment),
         None => None,
     };
-    page.instant("booted", booted)
+    page.instant("booted", booted);
 }
 
 /// Appends the number of calls that a point rejected, and the last of them.
-fn push_rejected(page: &mut JsonPage, news: &PointActivity) -> Result<(), AllocError> {
-    page.number("rejections", news.rejections)?;
-    page.out.key("rejected")?;
+fn push_rejected(page: &mut JsonPage, news: &PointActivity) {
+    page.number("rejections", news.rejections);
     match &news.rejection {
         Some(rejection) => push_rejection(page, rejection),
-        None => page.out.null(),
+        None => page.null("rejected"),
     }
 }
 
-fn push_rejection(page: &mut JsonPage, rejection: &Rejection) -> Result<(), AllocError> {
-    page.out.begin_object()?;
-    page.number("call", rejection.call)?;
+fn push_rejection(page: &mut JsonPage, rejection: &Rejection) {
+    page.object("rejected");
+    page.number("call", rejection.call);
     if let Some(action) = rejection.action {
-        page.text("action", action.name())?;
+        page.text("action", action.name());
     }
-    page.instant("moment", Some(rejection.moment))?;
-    page.text("reason", rejection.reason.as_str())?;
-    page.out.end_object()
+    page.instant("moment", Some(rejection.moment));
+    page.text("reason", rejection.reason.as_str());
+    page.end_object();
 }
 
 /// Appends the active transactions of a point, without their idTags.
-fn push_transactions(page: &mut JsonPage, book: &PointBook) -> Result<(), AllocError> {
-    page.out.key("transactions")?;
-    page.out.begin_array()?;
+fn push_transactions(page: &mut JsonPage, book: &PointBook) {
+    page.array("transactions");
     for before in 0..book.connectors() {
         let connector = before + 1;
         if let Some(active) = book.transaction_at(connector) {
-            push_transaction(page, connector, active)?;
+            push_transaction(page, connector, active);
         }
     }
-    page.out.end_array()
+    page.end_array();
 }
 
-fn push_transaction(
-    page: &mut JsonPage,
-    connector: u32,
-    active: &Transaction,
-) -> Result<(), AllocError> {
-    page.out.begin_object()?;
-    page.number("connectorId", u64::from(connector))?;
+fn push_transaction(page: &mut JsonPage, connector: u32, active: &Transaction) {
+    page.begin_object();
+    page.number("connectorId", u64::from(connector));
     // The idTag is left out: it is personal data, and this port has no passwords.
-    page.integer("transactionId", active.id)?;
-    page.instant("timestamp", Some(active.begin.timestamp))?;
-    page.out.end_object()
+    page.integer("transactionId", active.id);
+    page.instant("timestamp", Some(active.begin.timestamp));
+    page.end_object();
 }
 
 /// Appends the profiles of a point.
-fn push_profiles(page: &mut JsonPage, book: &PointBook) -> Result<(), AllocError> {
-    page.out.key("profiles")?;
-    page.out.begin_array()?;
+fn push_profiles(page: &mut JsonPage, book: &PointBook) {
+    page.array("profiles");
     for row in book.view().rows {
-        push_profile(page, row)?;
+        push_profile(page, row);
     }
-    page.out.end_array()
+    page.end_array();
 }
 
-fn push_profile(page: &mut JsonPage, row: &Row) -> Result<(), AllocError> {
-    page.out.begin_object()?;
-    page.integer("chargingProfileId", row.profile.id)?;
-    page.text("chargingProfilePurpose", purpose_name(row.profile.purpose))?;
-    page.number("stackLevel", u64::from(row.profile.stack_level))?;
-    page.number("connectorId", u64::from(row.connector))?;
-    page.instant("installed", Some(row.moment))?;
-    page.out.end_object()
+fn push_profile(page: &mut JsonPage, row: &Row) {
+    page.begin_object();
+    page.integer("chargingProfileId", row.profile.id);
+    page.text("chargingProfilePurpose", purpose_name(row.profile.purpose));
+    page.number("stackLevel", u64::from(row.profile.stack_level));
+    page.number("connectorId", u64::from(row.connector));
+    page.instant("installed", Some(row.moment));
+    page.end_object();
 }

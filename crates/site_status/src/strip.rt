@@ -2,10 +2,10 @@
 //! container, with its numbers in a list below.
 
 use crate::site_report::SiteReport;
-use explain_pages::{push_element, push_escaped, push_limit, push_why};
+use explain_pages::{push_element, push_escaped, push_limit, push_made_escaped, push_why};
 use ocpp_scalars::{Instant, LAST_SECOND, push_instant};
+use page_text::Page;
 use profile::Unit;
-use std::alloc::{AllocError, Global};
 use sweep_compiler::{Explanation, Interval};
 
 /// The columns of a picture, one for each minute of the day, and its rows.
@@ -35,59 +35,50 @@ pub(crate) struct Shown<'a> {
 }
 
 /// Appends the strip of a connector, with the list of its intervals.
-pub(crate) fn push_strip(
-    alloc: Global,
-    out: &mut String,
-    shown: &Shown<'_>,
-    explanation: &Explanation,
-) -> Result<(), AllocError> {
-    push_heading(out, shown, explanation)?;
-    push_picture(out, explanation)?;
-    push_labels(alloc, out, shown)?;
-    out.push_str("</figure>\n")?;
-    push_list(alloc, out, shown, explanation)
+pub(crate) fn push_strip(page: &mut Page, shown: &Shown<'_>, explanation: &Explanation) {
+    push_heading(page, shown, explanation);
+    push_picture(page, explanation);
+    push_labels(page, shown);
+    page.push_str("</figure>\n");
+    push_list(page, shown, explanation);
 }
 
 /// Appends the heading with the current limit.
-fn push_heading(
-    out: &mut String,
-    shown: &Shown<'_>,
-    explanation: &Explanation,
-) -> Result<(), AllocError> {
+fn push_heading(page: &mut Page, shown: &Shown<'_>, explanation: &Explanation) {
     let (point, connector) = (shown.point, shown.connector);
-    write!(out, "<h3>Connector {connector}")?;
+    write!(page, "<h3>Connector {connector}");
     if let Some(first) = explanation.intervals().first() {
-        out.push_str(": ")?;
-        push_limit(out, first.reason.limit, shown.unit)?;
-        out.push_str(" now")?;
+        page.push_str(": ");
+        push_limit(page, first.reason.limit, shown.unit);
+        page.push_str(" now");
     }
     push_element(
-        out,
+        page,
         "</h3>\n<figure><svg role=\"img\" aria-label=\"The limit of ",
         point,
         "",
-    )?;
+    );
     write!(
-        out,
+        page,
         ", connector {connector}, over 24 hours; the list below has its numbers\""
-    )?;
+    );
     write!(
-        out,
+        page,
         // The strip is as wide as its container; the style sheet keeps the width of its lines.
         " viewBox=\"0 0 {COLUMNS} {ROWS}\" preserveAspectRatio=\"none\">"
     )
 }
 
 /// Appends the line of the limit over its area, with a rule every six hours.
-fn push_picture(out: &mut String, explanation: &Explanation) -> Result<(), AllocError> {
+fn push_picture(page: &mut Page, explanation: &Explanation) {
     let intervals = explanation.intervals();
     let most = highest(intervals);
-    out.push_str("<path class=\"rule\" d=\"M360 0V100M720 0V100M1080 0V100M0 100H1440\"/>")?;
-    out.push_str("<path class=\"area\" d=\"M0 100")?;
-    push_steps(out, intervals, most, "L0 ")?;
-    write!(out, "V{ROWS}Z\"/><path class=\"limit\" d=\"")?;
-    push_steps(out, intervals, most, "M0 ")?;
-    out.push_str("\"/></svg>\n")
+    page.push_str("<path class=\"rule\" d=\"M360 0V100M720 0V100M1080 0V100M0 100H1440\"/>");
+    page.push_str("<path class=\"area\" d=\"M0 100");
+    push_steps(page, intervals, most, "L0 ");
+    write!(page, "V{ROWS}Z\"/><path class=\"limit\" d=\"");
+    push_steps(page, intervals, most, "M0 ");
+    page.push_str("\"/></svg>\n");
 }
 
 /// Returns the highest limit, or 1 if none is above 0.
@@ -100,20 +91,14 @@ fn highest(intervals: &[Interval]) -> u64 {
 }
 
 /// Appends the path data along the limits, which starts with `beginning`.
-fn push_steps(
-    out: &mut String,
-    intervals: &[Interval],
-    most: u64,
-    beginning: &str,
-) -> Result<(), AllocError> {
+fn push_steps(page: &mut Page, intervals: &[Interval], most: u64, beginning: &str) {
     let mut before = beginning;
     for interval in intervals {
         let row = row_of(interval.reason.limit, most);
         let end = interval.end / COLUMN;
-        write!(out, "{before}{row}H{end}")?;
+        write!(page, "{before}{row}H{end}");
         before = "V";
     }
-    Ok(())
 }
 
 /// Returns the row of a limit, counted from the top.
@@ -123,77 +108,70 @@ fn row_of(limit: u32, most: u64) -> u64 {
 }
 
 /// Appends the times below a picture.
-fn push_labels(alloc: Global, out: &mut String, shown: &Shown<'_>) -> Result<(), AllocError> {
+fn push_labels(page: &mut Page, shown: &Shown<'_>) {
     // The list has the times as text, so a screen reader skips these.
-    out.push_str("<div class=\"times\" aria-hidden=\"true\">")?;
+    page.push_str("<div class=\"times\" aria-hidden=\"true\">");
     for step in 0..5u64 {
         let moment = shown.from.seconds() + step * LABEL_STEP;
-        out.push_str("<span>")?;
-        push_clock(alloc, out, moment)?;
-        out.push_str("</span>")?;
+        page.push_str("<span>");
+        push_clock(page, moment);
+        page.push_str("</span>");
     }
-    out.push_str("</div>")
+    page.push_str("</div>");
 }
 
 /// Appends the time of day of a moment, as `hh:mm`.
-pub(crate) fn push_clock(alloc: Global, out: &mut String, moment: u64) -> Result<(), AllocError> {
+pub(crate) fn push_clock(page: &mut Page, moment: u64) {
     let Some(instant) = Instant::try_new(moment.min(LAST_SECOND)) else {
-        return Ok(());
+        return;
     };
-    let mut text = String::new(alloc);
-    push_instant(&mut text, instant)?;
+    let mut text = String::new(page.allocator());
+    if push_instant(&mut text, instant).is_err() {
+        return page.fail();
+    }
     match text.as_str().split_once('T') {
         Some((_, time)) => match time.rsplit_once(':') {
-            Some((minute, _)) => out.push_str(minute),
-            None => Ok(()),
+            Some((minute, _)) => page.push_str(minute),
+            None => {}
         },
-        None => Ok(()),
+        None => {}
     }
 }
 
 /// Appends the intervals up to the maximum of a list.
-fn push_list(
-    alloc: Global,
-    out: &mut String,
-    shown: &Shown<'_>,
-    explanation: &Explanation,
-) -> Result<(), AllocError> {
-    out.push_str("<ol>\n")?;
+fn push_list(page: &mut Page, shown: &Shown<'_>, explanation: &Explanation) {
+    page.push_str("<ol>\n");
     for interval in explanation.intervals().iter().take(MOST_LISTED) {
-        push_item(alloc, out, shown, interval)?;
+        push_item(page, shown, interval);
     }
-    out.push_str("</ol>\n")?;
-    push_link(out, shown, explanation.intervals().len())
+    page.push_str("</ol>\n");
+    push_link(page, shown, explanation.intervals().len());
 }
 
 /// Appends an interval: its start, the limit, and the cause.
-fn push_item(
-    alloc: Global,
-    out: &mut String,
-    shown: &Shown<'_>,
-    interval: &Interval,
-) -> Result<(), AllocError> {
-    out.push_str("<li>from ")?;
+fn push_item(page: &mut Page, shown: &Shown<'_>, interval: &Interval) {
+    page.push_str("<li>from ");
     let moment = shown.from.seconds() + u64::from(interval.start);
-    push_clock(alloc, out, moment)?;
-    out.push_str(" <b>")?;
-    push_limit(out, interval.reason.limit, shown.unit)?;
-    out.push_str("</b> ")?;
-    let mut why = String::new(alloc);
-    push_why(&mut why, &interval.reason, shown.unit)?;
-    push_element(out, "", why.as_str(), "</li>\n")
+    push_clock(page, moment);
+    page.push_str(" <b>");
+    push_limit(page, interval.reason.limit, shown.unit);
+    page.push_str("</b> ");
+    let mut why = Page::new(page.allocator());
+    push_why(&mut why, &interval.reason, shown.unit);
+    push_made_escaped(page, why.finish());
+    page.push_str("</li>\n");
 }
 
 /// Appends the link to the whole picture, and the number of intervals that the list leaves out.
-fn push_link(out: &mut String, shown: &Shown<'_>, count: usize) -> Result<(), AllocError> {
+fn push_link(page: &mut Page, shown: &Shown<'_>, count: usize) {
     let (point, connector) = (shown.point, shown.connector);
-    out.push_str("<p>")?;
+    page.push_str("<p>");
     if count > MOST_LISTED {
         let more = count - MOST_LISTED;
-        write!(out, "and {more} more intervals: ")?;
+        write!(page, "and {more} more intervals: ");
     }
-    push_element(out, "<a href=\"/points/", point, "/")?;
-    write!(out, "{connector}.svg\">the picture of ")?;
-    push_escaped(out, point)?;
-    write!(out, ", connector {connector}</a></p>\n")
+    push_element(page, "<a href=\"/points/", point, "/");
+    write!(page, "{connector}.svg\">the picture of ");
+    push_escaped(page, point);
+    write!(page, ", connector {connector}</a></p>\n");
 }
