@@ -327,13 +327,13 @@ impl<C: Ledger, A: Ledger> Follower<C, A> {
         if is_counted(line, wanted) {
             self.changes = self.changes.saturating_add(1);
         }
-        self.follow_added(line, wanted)?;
+        self.note_added_calls(line, wanted)?;
         self.follow_calls(line, said)?;
         Ok(())
     }
 
-    /// Takes in when calls were added, if the line is of the point whose changes are counted.
-    fn follow_added(
+    /// Records the moments at which calls to the followed point were added, after a line of its own.
+    fn note_added_calls(
         &mut self,
         line: &Line<'_>,
         wanted: &FollowOptions<'_>,

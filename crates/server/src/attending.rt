@@ -12,7 +12,7 @@ use server_core::{
 };
 use server_ports::{IncomingStream, SeatWorld};
 use session::{
-    Context, Ended, Heard, SentCall, SessionCore, WatchedSocket, answer_next, send_call,
+    Context, Ended, Received, SentCall, SessionCore, WatchedSocket, answer_next, send_call,
 };
 use std::rt::Clock;
 use std::sync::Wait;
@@ -27,7 +27,7 @@ const MOST_OF_OWN: u64 = 1_000;
 
 /// The state of a session's client, as its seat sees it.
 #[derive(Drop)]
-struct Attention {
+struct ClientState {
     /// The time that a call waits for its reply, in seconds.
     call_timeout: u64,
     begun: Instant,
@@ -63,7 +63,7 @@ pub(crate) fn run_session<C: Ledger, A: Ledger, R: Wait + Clock, J: Journal<N>, 
         return Ended::Broken;
     };
     let mut socket = WatchedSocket::new(context.rt, socket, Some(MOST_OF_OWN));
-    let mut attention = Attention {
+    let mut attention = ClientState {
         call_timeout: watch.seats.options.call_timeout,
         begun: now,
         has_spoken: false,
@@ -90,21 +90,21 @@ fn attend_next<C: Ledger, A: Ledger, R: Wait + Clock, J: Journal<N>, N: ListName
     watch: &SessionWatch<'_, C, A, R, J, N>,
     watched: &mut WatchedSocket<'_, IncomingStream<'_, R>, NoMask, R>,
     core: &SessionCore,
-    attention: &mut Attention,
+    attention: &mut ClientState,
     pass: &mut Pass<C, A>,
 ) -> Result<(), Ended>
     ensures { KeepsPass pass.old pass.new }
 {
-    let heard = answer_next(&*context, watched, core, pass)?;
+    let received = answer_next(&*context, watched, core, pass)?;
     let is_last = !watched.has_kept();
     let socket = watched.websocket();
-    let sent = match heard {
-        Heard::Message { told, sent } => {
+    let sent = match received {
+        Received::Message { event, sent } => {
             attention.has_spoken = true;
-            watch.hear(core, told);
+            watch.hear(core, event);
             sent
         }
-        Heard::Control { .. } => {
+        Received::Control { .. } => {
             // A client that pings all the time would never let a read time out, and get no calls.
             if seconds_since(context.rt, attention.looked) < TICK {
                 None
@@ -112,7 +112,7 @@ fn attend_next<C: Ledger, A: Ledger, R: Wait + Clock, J: Journal<N>, N: ListName
                 send_to_silent(context, socket, core, attention)?
             }
         }
-        Heard::Nothing => {
+        Received::Nothing => {
             // Some noted lines have no message that leaves after them, as those of a point's reply.
             // They are written here.
             let _ = context.journal.write_out();
@@ -141,7 +141,7 @@ fn attend_next<C: Ledger, A: Ledger, R: Wait + Clock, J: Journal<N>, N: ListName
 /// Pings a silent client once. After a longer silence it ends the session.
 fn keep_alive<R: Wait + Clock>(
     socket: &mut WebSocket<IncomingStream<'_, R>, NoMask>,
-    attention: &mut Attention,
+    attention: &mut ClientState,
 ) -> Result<(), Ended> {
     let silence = socket.get_ref().silence();
     if silence >= LONGEST_SILENCE {
@@ -168,7 +168,7 @@ fn send_to_silent<C: Ledger, A: Ledger, R: Wait + Clock, J: Journal<N>, N: ListN
     context: &Context<'_, SeatWorld<C, A, R, J, N>>,
     socket: &mut WebSocket<IncomingStream<'_, R>, NoMask>,
     core: &SessionCore,
-    attention: &mut Attention,
+    attention: &mut ClientState,
 ) -> Result<Option<SentCall>, Ended> {
     if let Ok(now) = Instant::now(context.rt) {
         attention.looked = now;
@@ -182,7 +182,7 @@ fn send_to_silent<C: Ledger, A: Ledger, R: Wait + Clock, J: Journal<N>, N: ListN
     }
 }
 
-impl Attention {
+impl ClientState {
     /// Records that a call was sent just now. Without a clock its reply has no deadline.
     fn note_sent<R: Clock>(&mut self, rt: &R, number: u64) {
         self.sent = match Instant::now(rt) {

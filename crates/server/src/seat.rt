@@ -10,8 +10,8 @@ use crossbeam_channel::Receiver;
 use ghost_list::ListName;
 use journal::Journal;
 use server_ports::{
-    Access, ClientRequest, IncomingStream, SeatContext, SeatWorld, Unshaken, note_operator,
-    note_unknown, note_unshaken, shake_hands,
+    Access, ClientRequest, HandshakeFailure, IncomingStream, SeatContext, SeatWorld,
+    note_handshake_failure, note_operator, note_unknown, shake_hands,
 };
 use session::{Context, Peer, claim_link, release_link};
 use std::alloc::{AllocError, Global};
@@ -101,7 +101,7 @@ fn run_incoming<C: Ledger, A: Ledger, R: Threads + Wait + Clock + Sync, J: Journ
     let (mut socket, asked) = match shake_in_time(seats, stream) {
         Ok(shaken) => shaken,
         Err(unshaken) => {
-            note_unshaken(seats, unshaken, from);
+            note_handshake_failure(seats, unshaken, from);
             return pass;
         }
     };
@@ -129,7 +129,7 @@ fn run_incoming<C: Ledger, A: Ledger, R: Threads + Wait + Clock + Sync, J: Journ
 fn shake_in_time<'a, C: Ledger, A: Ledger, R: Threads + Wait + Clock + Sync, J, N: ListName>(
     seats: &SeatContext<C, A, R, J, N>,
     stream: IncomingStream<'a, R>,
-) -> Result<(SeatSocket<'a, R>, ClientRequest), Unshaken> {
+) -> Result<(SeatSocket<'a, R>, ClientRequest), HandshakeFailure> {
     let entry = Access::Guarded {
         keys: seats.options.keys.as_ref(),
         address: seats.options.address.as_str(),
@@ -153,7 +153,7 @@ fn shake_apart<'a, R: Threads + Wait + Clock + Sync>(
     alloc: Global,
     entry: Access<'_>,
     stream: IncomingStream<'a, R>,
-) -> Result<(SeatSocket<'a, R>, ClientRequest), Unshaken> {
+) -> Result<(SeatSocket<'a, R>, ClientRequest), HandshakeFailure> {
     let (shaken, ()) = thread::join(rt, move || shake_hands(alloc, entry, stream), || ());
     shaken
 }

@@ -6,8 +6,8 @@ use messages::ActionKind;
 use ocpp_scalars::{Instant, Moments};
 use server_core::{PointReply, Rejected};
 use server_ports::SeatContext;
-use session::{Breach, Ended, SentCall, SessionCore, Told};
-use site_status::{Boot, SentMoment, CallNumbers, Observation};
+use session::{Breach, Ended, SentCall, SessionCore, SessionEvent};
+use site_status::{Boot, CallNumbers, Observation, SentMoment};
 use std::alloc::{AllocError, Global};
 use std::rt::Clock;
 use std::sync::Wait;
@@ -58,20 +58,20 @@ impl<C: Ledger, A: Ledger, R: Wait + Clock, J: Journal<N>, N: ListName> SessionW
     }
 
     /// Records a message of the session, with its event.
-    pub(crate) fn hear(&self, core: &SessionCore, told: Told) {
+    pub(crate) fn hear(&self, core: &SessionCore, event: SessionEvent) {
         let Some(moment) = self.seats.clock.now() else {
             return;
         };
         if self.link.is_none() {
-            if let Told::Added = told {
+            if let SessionEvent::Added = event {
                 self.see_calls(core, moment);
             }
             return;
         }
         self.see(Observation::Heard { moment });
-        match told {
-            Told::Boot => self.hear_boot(core, moment),
-            Told::Reply { call, rejection } => {
+        match event {
+            SessionEvent::Boot => self.hear_boot(core, moment),
+            SessionEvent::Reply { call, rejection } => {
                 let reply = PointReply {
                     call,
                     rejection,
@@ -79,7 +79,7 @@ impl<C: Ledger, A: Ledger, R: Wait + Clock, J: Journal<N>, N: ListName> SessionW
                 };
                 self.hear_reply(core, reply);
             }
-            Told::Added | Told::Other => {}
+            SessionEvent::Added | SessionEvent::Other => {}
         }
     }
 

@@ -5,11 +5,11 @@
 mod boot_changes;
 mod deadlines;
 mod free_seats;
+mod line_throttle;
 mod long_messages;
 mod notices;
 mod pace;
 mod present_streams;
-mod seldom;
 mod shared_stream;
 mod site_watch;
 mod status_stream;
@@ -21,11 +21,11 @@ pub use deadlines::{
     SILENCE_BEFORE_CALL, SILENCE_BEFORE_PING, TICK,
 };
 pub use free_seats::FreeSeats;
+pub use line_throttle::LineThrottle;
 pub use long_messages::{LongMessagePlace, LongMessages};
 pub use notices::Notices;
-pub use pace::{AheadClients, Pace};
+pub use pace::{FastClients, Pace};
 pub use present_streams::PresentStreams;
-pub use seldom::Seldom;
 pub use shared_stream::{SharedStream, seconds_since, shut};
 pub use site_watch::{PointReply, Rejected, Seen, SiteWatch};
 pub use status_stream::StatusStream;

@@ -6,20 +6,20 @@ use std::sync::atomic::{AtomicU64, Ordering};
 use std::thread;
 use std::time::Duration;
 
-/// The pause before a session's next message for each other client that is ahead, in microseconds.
-const SHARE: u64 = 50;
+/// The pause before a session's next message for each other fast client, in microseconds.
+const PAUSE_PER_CLIENT: u64 = 50;
 
-/// The number of clients that send faster than they are served. The more there are, the longer each
-/// of their sessions waits between two messages. So all of them together take a bounded part of the
+/// The number of fast clients: those that send faster than they are served. The more there are, the
+/// longer each of their sessions waits between two messages. So all of them together take a bounded part of the
 /// processor's time, and other sessions don't queue behind them for the book.
 #[derive(Drop)]
-pub struct AheadClients {
+pub struct FastClients {
     count: AtomicU64,
 }
 
-impl AheadClients {
-    pub fn new() -> AheadClients {
-        AheadClients {
+impl FastClients {
+    pub fn new() -> FastClients {
+        FastClients {
             count: AtomicU64::new(0),
         }
     }
@@ -28,13 +28,13 @@ impl AheadClients {
 /// The pace of a session.
 #[derive(Drop)]
 pub struct Pace<'a> {
-    clients: &'a AheadClients,
+    clients: &'a FastClients,
     /// Whether the session's client is counted among them.
     is_counted: bool,
 }
 
 impl<'a> Pace<'a> {
-    pub fn new(clients: &'a AheadClients) -> Pace<'a> {
+    pub fn new(clients: &'a FastClients) -> Pace<'a> {
         Pace {
             clients,
             is_counted: false,
@@ -43,24 +43,27 @@ impl<'a> Pace<'a> {
 
     /// Waits before the next message of a client that is ahead, if other clients are too.
     pub fn keep<R: Wait + Clock>(&mut self, rt: &R, is_ahead: bool) {
-        self.count(is_ahead);
+        self.set_counted(is_ahead);
         if !is_ahead {
             return;
         }
         let others = self.clients.count.load(Ordering::SeqCst).saturating_sub(1);
         if others > 0 {
-            thread::sleep(rt, Duration::from_micros(others.saturating_mul(SHARE)));
+            thread::sleep(
+                rt,
+                Duration::from_micros(others.saturating_mul(PAUSE_PER_CLIENT)),
+            );
         }
     }
 
     /// Ends the session: its client no longer counts as ahead.
     pub fn end(self) {
         let mut ended = self;
-        ended.count(false);
+        ended.set_counted(false);
     }
 
-    /// Adds the session's client to the count, or removes it.
-    fn count(&mut self, is_ahead: bool) {
+    /// Counts the session's client among the fast ones, or no longer. Repeats have no effect.
+    fn set_counted(&mut self, is_ahead: bool) {
         if is_ahead == self.is_counted {
             return;
         }

@@ -3,7 +3,7 @@
 use crate::seat_context::SeatContext;
 use crossbeam_channel::Sender;
 use ghost_list::ListName;
-use server_core::Seldom;
+use server_core::LineThrottle;
 use std::io::{Read, Write};
 use std::net::{Shutdown, TcpListener, TcpStream};
 use std::rt::Clock;
@@ -37,7 +37,7 @@ pub fn accept_connections<C: Ledger, A: Ledger, R: Wait + Clock, J, N: ListName>
     streams: &Sender<TcpStream>,
 ) {
     let rt = &seats.rt;
-    let (mut full, mut failed) = (Seldom::new(), Seldom::new());
+    let (mut full, mut failed) = (LineThrottle::new(), LineThrottle::new());
     for _connection in rt.forever() {
         let Some(stream) = accept_next(seats, listener, &mut failed) else {
             continue;
@@ -84,7 +84,7 @@ fn take_seat<C: Ledger, A: Ledger, R: Wait + Clock, J, N: ListName>(
 fn accept_next<C: Ledger, A: Ledger, R: Wait + Clock, J, N: ListName>(
     seats: &SeatContext<C, A, R, J, N>,
     listener: &TcpListener,
-    failed: &mut Seldom,
+    failed: &mut LineThrottle,
 ) -> Option<TcpStream> {
     match listener.accept() {
         Ok((stream, _)) => Some(stream),
@@ -104,7 +104,7 @@ fn accept_next<C: Ledger, A: Ledger, R: Wait + Clock, J, N: ListName>(
 /// Reports that all seats are taken.
 fn say_full<C: Ledger, A: Ledger, R: Wait + Clock, J, N: ListName>(
     seats: &SeatContext<C, A, R, J, N>,
-    full: &mut Seldom,
+    full: &mut LineThrottle,
 ) {
     if full.is_due(&seats.rt) {
         seats.notices.say(&seats.rt, &seats.clock, "seats", FULL);

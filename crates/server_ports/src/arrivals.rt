@@ -1,6 +1,6 @@
 //! Reports of connections: those that get no session, and those of operators.
 
-use crate::handshake::{ClientRequest, Unshaken};
+use crate::handshake::{ClientRequest, HandshakeFailure};
 use crate::request_words::{push_path, said_of_operator};
 use crate::seat_context::SeatContext;
 use ghost_list::ListName;
@@ -12,12 +12,12 @@ use std::sync::ledger::Ledger;
 
 /// Reports and counts a connection that wasn't let in. A handshake that failed by itself, as that
 /// of a port probe, is not reported.
-pub fn note_unshaken<C: Ledger, A: Ledger, R: Wait + Clock, J, N: ListName>(
+pub fn note_handshake_failure<C: Ledger, A: Ledger, R: Wait + Clock, J, N: ListName>(
     seats: &SeatContext<C, A, R, J, N>,
-    unshaken: Unshaken,
+    unshaken: HandshakeFailure,
     from: Option<SocketAddr>,
 ) {
-    if let Unshaken::Refused(said) = unshaken {
+    if let HandshakeFailure::Refused(said) = unshaken {
         note_refused(seats, from, said);
     }
 }

@@ -53,7 +53,7 @@ fn keep_boots<C: Ledger, A: Ledger, R: Wait + Clock, J: Journal<N>, K: BootKeepe
     let mut is_said = false;
     for _change in seats.rt.forever() {
         seats.watch.changed_boots().wait(&seats.rt);
-        is_said = match keep_now(seats, keeper) {
+        is_said = match save_boots(seats, keeper) {
             Ok(()) => false,
             Err(_) if is_said => true,
             Err(error) => {
@@ -65,9 +65,9 @@ fn keep_boots<C: Ledger, A: Ledger, R: Wait + Clock, J: Journal<N>, K: BootKeepe
     }
 }
 
-/// Keeps the boots of points as they are now. The book is locked while it is copied, and nothing is
-/// locked while the lines are made and written.
-fn keep_now<C: Ledger, A: Ledger, R: Wait, J, K: BootKeeper, N: ListName>(
+/// Writes the last boot of each point to the boots' file, so that a restart warns of the same points.
+/// The book is locked while it is copied, and nothing is locked while the lines are made and written.
+fn save_boots<C: Ledger, A: Ledger, R: Wait, J, K: BootKeeper, N: ListName>(
     seats: &SeatContext<C, A, R, J, N>,
     keeper: &K,
 ) -> io::Result<()> {

@@ -40,7 +40,7 @@ struct RequestReader<'a> {
 
 /// Why a connection gets no session.
 #[derive(Drop)]
-pub enum Unshaken {
+pub enum HandshakeFailure {
     /// Its request was refused. This is the line for people about it.
     Refused(Result<String, AllocError>),
     /// The handshake wasn't complete in time, or was malformed, or memory ran out.
@@ -141,7 +141,7 @@ pub fn shake_hands<S: Read + Write + Drop>(
     alloc: Global,
     entry: Access<'_>,
     stream: S,
-) -> Result<(WebSocket<S, NoMask>, ClientRequest), Unshaken> {
+) -> Result<(WebSocket<S, NoMask>, ClientRequest), HandshakeFailure> {
     // The callback is consumed, and returns only a response: its findings come out through these.
     let (mut asked, mut refused) = (None, None);
     let reading = RequestReader {
@@ -152,10 +152,10 @@ pub fn shake_hands<S: Read + Write + Drop>(
     };
     let socket = accept_hdr(alloc, stream, reading).ok();
     if let Some(said) = refused {
-        return Err(Unshaken::Refused(said));
+        return Err(HandshakeFailure::Refused(said));
     }
     match (socket, asked) {
         (Some(socket), Some(asked)) => Ok((socket, asked)),
-        _ => Err(Unshaken::Failed),
+        _ => Err(HandshakeFailure::Failed),
     }
 }

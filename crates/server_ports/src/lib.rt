@@ -19,10 +19,10 @@ mod status_service;
 mod workers;
 
 pub use accepting::accept_connections;
-pub use arrivals::{note_operator, note_unknown, note_unshaken};
+pub use arrivals::{note_handshake_failure, note_operator, note_unknown};
 pub use boot_keeper::{BootKeeper, begin_boots};
 pub use entry::Access;
-pub use handshake::{ClientRequest, Unshaken, shake_hands};
+pub use handshake::{ClientRequest, HandshakeFailure, shake_hands};
 pub use incoming_stream::IncomingStream;
 pub use own_host::is_own_host;
 pub use path::{PathPeer, peer_of_path};

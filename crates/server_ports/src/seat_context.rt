@@ -4,7 +4,7 @@ use ghost_list::ListName;
 use journal::Journal;
 use ocpp_scalars::{Moments, SystemClock};
 use server_core::{
-    AheadClients, FreeSeats, LongMessages, Notices, PresentStreams, SiteWatch, UnfinishedHandshakes,
+    FastClients, FreeSeats, LongMessages, Notices, PresentStreams, SiteWatch, UnfinishedHandshakes,
 };
 use site_keys::Keys;
 use site_status::{Boot, RejectedCalls, resumed_boot};
@@ -41,7 +41,7 @@ pub struct SeatContext<C: Ledger, A: Ledger, R, J, N: ListName = NoName> {
     pub watch: SiteWatch,
     pub notices: Notices,
     pub options: SeatOptions,
-    pub ahead: AheadClients,
+    pub ahead: FastClients,
     /// The lock that a thread holds while it reads a long message.
     pub reading: Mutex<()>,
 }
@@ -85,7 +85,7 @@ impl<
             watch,
             notices: Notices::new(alloc),
             options,
-            ahead: AheadClients::new(),
+            ahead: FastClients::new(),
             reading: Mutex::new(()),
         })
     }

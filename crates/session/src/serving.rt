@@ -5,13 +5,13 @@ ghost use Rattle.session.specs.Serving.{KeepsPass};
 mod audits;
 mod calls;
 mod ended;
-mod heard;
 mod noting;
 mod reading;
+mod received;
 mod served_text;
+mod session_events;
 mod session_socket;
 mod sockets;
-mod telling;
 mod waiting;
 mod watched_socket;
 
@@ -21,9 +21,9 @@ use calls::lose;
 pub use calls::{claim_link, send_call};
 use crossbeam_channel::Sender;
 pub use ended::{Breach, Ended};
-pub use heard::{Heard, SentCall, Told};
 use journal::{Journal, NoJournal};
 use ocpp_scalars::Moments;
+pub use received::{Received, SentCall, SessionEvent};
 pub use served_text::{Served, answer_message, answer_next};
 use std::alloc::Global;
 use std::io::{Read, Write};
@@ -104,9 +104,9 @@ fn answer_texts<W: World, S: Read + Write + Drop, K: MaskKeys + Drop>(
 {
     for _text in context.rt.forever() {
         match answer_next(context, socket, core, pass) {
-            Ok(Heard::Message { .. } | Heard::Control { .. }) => {}
+            Ok(Received::Message { .. } | Received::Control { .. }) => {}
             // `serve` sets no read timeout, so a read that gives up counts as a failure.
-            Ok(Heard::Nothing) => return Ended::Broken,
+            Ok(Received::Nothing) => return Ended::Broken,
             Err(ended) => return ended,
         }
     }

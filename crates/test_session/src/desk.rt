@@ -10,7 +10,7 @@ use crossbeam_channel::{Sender, bounded};
 use journal::NoJournal;
 use ocpp_scalars::{Instant, Moments};
 use profile::Unit;
-use session::{Context, Ended, Heard, SessionCore, WatchedSocket, answer_next, serve_session};
+use session::{Context, Ended, Received, SessionCore, WatchedSocket, answer_next, serve_session};
 use site_core::PointId;
 use site_rules::read_site;
 use std::alloc::Global;
@@ -163,7 +163,7 @@ fn watch<C: Ledger, A: Ledger, R: Abort + Wait + Clock>(
     let mut watched = WatchedSocket::new(rt, &mut socket, most_of_own);
     for _message in 0..20u32 {
         match answer_next(&*desk, &mut watched, core, &mut pass) {
-            Ok(Heard::Nothing) => return (None, pass),
+            Ok(Received::Nothing) => return (None, pass),
             Ok(_) => {}
             Err(ended) => return (Some(ended), pass),
         }

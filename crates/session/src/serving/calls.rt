@@ -7,8 +7,8 @@ ghost use Rattle.session.specs.Serving.{KeepsPass};
 
 use crate::context::Context;
 use crate::serving::ended::{Ended, ended_unsaved};
-use crate::serving::heard::SentCall;
 use crate::serving::noting::{note_made, prepare_link};
+use crate::serving::received::SentCall;
 use crate::serving::sockets::{clear_to_leave, send_text};
 use crate::session_core::{Peer, SessionCore};
 use journal::{Journal, Noted, noted_steps_are_restored};

@@ -15,12 +15,12 @@ use crate::outcome::{Outcome, Performed};
 use crate::serving::audits::{OpenAudit, audit_confirmed, audit_to_judge, judge_reply};
 use crate::serving::calls::send_call;
 use crate::serving::ended::{Ended, ended_unsaved};
-use crate::serving::heard::{Heard, Incoming, Told};
 use crate::serving::noting::{note_performed, prepare_message};
 use crate::serving::reading::read_message;
+use crate::serving::received::{Incoming, Received, SessionEvent};
+use crate::serving::session_events::{event_of, subject_of};
 use crate::serving::session_socket::SessionSocket;
 use crate::serving::sockets::{clear_to_leave, send_text};
-use crate::serving::telling::{subject_of, told_by};
 use crate::serving::waiting::{Sending, Waiting};
 use crate::session_core::SessionCore;
 use crate::step::perform;
@@ -43,23 +43,27 @@ pub fn answer_next<W: World, S: SessionSocket>(
     socket: &mut S,
     core: &SessionCore,
     pass: &mut Pass<W::Changes, W::Answers>,
-) -> Result<Heard, Ended>
+) -> Result<Received, Ended>
     ensures { KeepsPass pass.old pass.new }
 {
     let text = match socket.next()? {
         Incoming::Text(text) => text,
-        Incoming::Binary => return Ok(Heard::Message {
-            told: Told::Other,
+        Incoming::Binary => return Ok(Received::Message {
+            event: SessionEvent::Other,
             sent: None,
         }),
-        Incoming::Control(bytes) => return Ok(Heard::Control { bytes }),
-        Incoming::Nothing => return Ok(Heard::Nothing),
+        Incoming::Control(bytes) => return Ok(Received::Control { bytes }),
+        Incoming::Nothing => return Ok(Received::Nothing),
     };
     let Some(now) = context.clock.now() else {
         return Err(Ended::Broken);
     };
     let frame = text.as_str();
-    let Served { answer, told, seen } = answer_message(context, socket, core, pass, now, frame)?;
+    let Served {
+        answer,
+        event,
+        seen,
+    } = answer_message(context, socket, core, pass, now, frame)?;
     socket.still_there()?;
     if let Some(answer) = &answer {
         let cleared = clear_to_leave(context.journal, answer.as_str(), &seen)?;
@@ -68,7 +72,7 @@ pub fn answer_next<W: World, S: SessionSocket>(
     // Only now: a call that was taken before the answer left would be in flight and never sent if
     // the answer failed.
     let sent = send_call(context, socket.websocket(), core, now)?;
-    Ok(Heard::Message { told, sent })
+    Ok(Received::Message { event, sent })
 }
 
 /// The results of a message.
@@ -77,7 +81,7 @@ pub struct Served<N: ListName> {
     /// The message that answers it, if one does.
     pub answer: Option<String>,
     /// The event in it.
-    pub told: Told,
+    pub event: SessionEvent,
     /// The states of the book recorded up to its step, if it has one.
     pub seen: Option<RecordedStates<N>>,
 }
@@ -111,7 +115,7 @@ pub fn answer_message<W: World, Q: Waiting>(
         Err(fault) => return served_unmade(core, todo, fault),
     };
     let (outcome, seen) = outcome_of(context, waiting, pass, &sent, step, entry)?;
-    let told = told_by(context.alloc, frame, subject, &outcome);
+    let event = event_of(context.alloc, frame, subject, &outcome);
     let is_short = matches!(outcome, Some(Outcome::Refused(Refusal::OutOfMemory)));
     let Ok(answer) = core.answer(todo, outcome) else {
         return Err(Ended::OutOfMemory);
@@ -120,7 +124,11 @@ pub fn answer_message<W: World, Q: Waiting>(
     if is_short && answer.is_none() {
         return Err(Ended::OutOfMemory);
     }
-    Ok(Served { answer, told, seen })
+    Ok(Served {
+        answer,
+        event,
+        seen,
+    })
 }
 
 /// Returns the answer to a message whose step isn't made because it couldn't be noted: a CALL is
@@ -140,7 +148,7 @@ fn served_unmade<N: ListName>(
     match core.answer(unnoted, None) {
         Ok(answer) => Ok(Served {
             answer,
-            told: Told::Other,
+            event: SessionEvent::Other,
             seen: None,
         }),
         Err(_) => Err(Ended::OutOfMemory),

@@ -1,7 +1,7 @@
 //! The socket of a session.
 
 use crate::serving::ended::Ended;
-use crate::serving::heard::Incoming;
+use crate::serving::received::Incoming;
 use crate::serving::sockets::read_next;
 use crate::serving::waiting::{Sending, Waiting};
 use compile_pool::Jobs;

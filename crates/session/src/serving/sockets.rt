@@ -4,7 +4,7 @@ ghost use Rattle.std.specs.Prelude.{◌≡◌, IfOk};
 ghost use Rattle.session.specs.Leaving.{IsAnswerOrCall};
 
 use crate::serving::ended::{Ended, ended_by, ended_unsaved};
-use crate::serving::heard::Incoming;
+use crate::serving::received::Incoming;
 use ghost_list::ListName;
 use journal::{Journal, Receipt};
 use std::alloc::{AllocError, Global};

@@ -3,7 +3,7 @@
 ghost use Rattle.std.specs.Prelude.{◌≡◌, None, IfSome, Some};
 
 use crate::serving::ended::Ended;
-use crate::serving::heard::Incoming;
+use crate::serving::received::Incoming;
 use crate::serving::session_socket::SessionSocket;
 use crate::serving::sockets::read_next;
 use crate::serving::waiting::{Sending, Waiting};

@@ -1,7 +1,7 @@
 //! The events in messages, for the observer of a session.
 
 use crate::outcome::Outcome;
-use crate::serving::heard::Told;
+use crate::serving::received::SessionEvent;
 use crate::todo::Todo;
 use site_core::{Reply, Step};
 use std::alloc::Global;
@@ -29,25 +29,26 @@ pub(crate) fn subject_of(todo: &Todo, step: &Option<Step>) -> Subject {
 }
 
 /// Returns the event in a message whose step has its outcome.
-pub(crate) fn told_by(
+pub(crate) fn event_of(
     alloc: Global,
     frame: &str,
     subject: Subject,
     outcome: &Option<Outcome>,
-) -> Told {
+) -> SessionEvent {
     match (subject, outcome) {
-        (Subject::Boot, _) => Told::Boot,
-        (Subject::Reply { call, accepted }, Some(Outcome::Made(Reply::Confirmed))) => Told::Reply {
-            call,
-            rejection: if accepted {
-                None
-            } else {
-                // Without memory the rejection has no reason, but is still reported.
-                Some(rejection_in(alloc, frame).unwrap_or_else(|_| String::new(alloc)))
+        (Subject::Boot, _) => SessionEvent::Boot,
+        (Subject::Reply { call, accepted }, Some(Outcome::Made(Reply::Confirmed))) =>
+            SessionEvent::Reply {
+                call,
+                rejection: if accepted {
+                    None
+                } else {
+                    // Without memory the rejection has no reason, but is still reported.
+                    Some(rejection_in(alloc, frame).unwrap_or_else(|_| String::new(alloc)))
+                },
             },
-        },
-        (_, Some(Outcome::Made(reply))) if adds_call(reply) => Told::Added,
-        _ => Told::Other,
+        (_, Some(Outcome::Made(reply))) if adds_call(reply) => SessionEvent::Added,
+        _ => SessionEvent::Other,
     }
 }
 

@@ -9,14 +9,14 @@ const SECONDS_BETWEEN: u64 = 60;
 
 /// The time of a line's last report, which limits how often it repeats.
 #[derive(Drop)]
-pub struct Seldom {
+pub struct LineThrottle {
     said: Option<Instant>,
 }
 
-impl Seldom {
+impl LineThrottle {
     /// Returns the state of a line that wasn't reported yet.
-    pub fn new() -> Seldom {
-        Seldom { said: None }
+    pub fn new() -> LineThrottle {
+        LineThrottle { said: None }
     }
 
     /// Returns whether the line is due, and if so counts it as reported. Without a clock it isn't.

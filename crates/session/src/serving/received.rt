@@ -5,11 +5,16 @@ use tungstenite::Utf8Bytes;
 
 /// The result of waiting for the next message of a session.
 #[derive(Drop)]
-pub enum Heard {
+pub enum Received {
     /// A message came and was served: its event, and the call that was sent after it, if one was.
-    Message { told: Told, sent: Option<SentCall> },
+    Message {
+        event: SessionEvent,
+        sent: Option<SentCall>,
+    },
     /// A control frame came, with a payload of `bytes` bytes. The socket answers pings and closes.
-    Control { bytes: usize },
+    Control {
+        bytes: usize,
+    },
     /// The read timed out.
     Nothing,
 }
@@ -23,7 +28,7 @@ pub struct SentCall {
 
 /// The event in a message, for the observer of its session.
 #[derive(Drop)]
-pub enum Told {
+pub enum SessionEvent {
     /// A BootNotification: the point has restarted.
     Boot,
     /// A reply that confirms the call of this number. If the point didn't accept the call, the
