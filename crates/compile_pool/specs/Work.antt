@@ -1,6 +1,6 @@
 -- The most work of a request for a schedule: how often the limits of the profiles that its compilation
 -- reads can change (OCPP 1.6, 5.7).
-use Rattle.std.specs.Prelude.{ℕ, ◌+◌, ◌*◌, ◌/◌, ◌==◌, Bool, ◌||◌, nat_le, Option, Some, None, List, length, sum_by, count_by, is_some, if◌then◌else◌}
+use Rattle.std.specs.Prelude.{ℕ, ◌≤◌, ◌+◌, ◌*◌, ◌/◌, ◌==◌, ◌||◌, Option, List, length, sum_by, count_by, is_some, if◌then◌else◌}
 use Rattle.profile.specs.Kind.{recurrence_length}
 use Rattle.profile.specs.declared.kind.Kind.{Kind}
 use Rattle.profile.specs.declared.kind.Kind.TheVariants.{Absolute, Recurring, Relative}
@@ -45,9 +45,6 @@ work_at state ask row =
 abbrev pub work_of : PointState → Ask → ℕ
 work_of state ask = sum_by (work_at state ask) state.rows
 
--- the work, if it is at most this
-abbrev pub work_if_within : ℕ → ℕ → Option ℕ
-work_if_within most work = if nat_le work most then Some work else None
-
-abbrev pub is_short : RequestedJob → Bool
-is_short job = nat_le (work_of (state_of job.book) job.ask) most_of_short
+-- a short request, by its work
+abbrev pub IsShort : RequestedJob → Type 0
+IsShort job = work_of (state_of job.book) job.ask ≤ most_of_short

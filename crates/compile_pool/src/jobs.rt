@@ -2,7 +2,7 @@
 
 ghost use Rattle.std.specs.Prelude.{◌≡◌, ◌⊎◌, IfErr, IsTrue};
 ghost use Rattle.compile_pool.specs.Unsent.{job_of};
-ghost use Rattle.compile_pool.specs.Work.{is_short};
+ghost use Rattle.compile_pool.specs.Work.{IsShort};
 
 use crate::work::short_work;
 use crossbeam_channel::{Sender, TrySendError};
@@ -44,9 +44,9 @@ impl<'a> Jobs<'a> {
 
     /// Returns the channel of a job. Only a short job gets that of short ones.
     fn channel_of(&self, job: &Job, short: bool) -> &'a Sender<Job>
-        requires { IsTrue short → IsTrue (is_short job.now) }
+        requires { IsTrue short → IsShort job.now }
         ensures { (result ≡ self.now.long)
-            ⊎ ((result ≡ self.now.short) × IsTrue (is_short job.now)) }
+            ⊎ ((result ≡ self.now.short) × IsShort job.now) }
     {
         if short { self.short } else { self.long }
     }
@@ -66,7 +66,7 @@ impl<'a> Jobs<'a> {
     /// Sends a job to its channel, if that has room at once. `short` may be true only of a short
     /// job.
     pub fn try_send<R: Wait>(&self, rt: &R, job: Job, short: bool) -> Result<(), Unsent>
-        requires short { IsTrue short → IsTrue (is_short job) }
+        requires short { IsTrue short → IsShort job }
         ensures back { IfErr result (λ unsent. job_of unsent ≡ job) }
     {
         match self.channel_of(&job, short).try_send(rt, job) {

@@ -1,36 +1,48 @@
 //! The most work of a job.
 
-ghost use Rattle.std.specs.Prelude.{◌≡◌, ◌≤◌, ◌<◌, ◌^◌, IfSome, IsTrue, length};
+ghost use Rattle.std.specs.Prelude.{◌≡◌, ◌≤◌, ◌<◌, ◌^◌, IfNone, IfSome, length};
 ghost use Rattle.meaning.specs.Limits.{max_duration};
 ghost use Rattle.meaning.specs.View.{point_state};
 ghost use Rattle.point_book.specs.Book.{state_of};
-ghost use Rattle.compile_pool.specs.Work.{active_count, changes_of, is_short, looks_at, turns_within, work_if_within, work_of};
+ghost use Rattle.compile_pool.specs.Work.{IsShort, active_count, changes_of, looks_at, most_of_short, turns_within, work_of};
 
 use meaning::{Ask, View};
 use ocpp_scalars::Instant;
+use point_book::PointBook;
 use profile::{Kind, Row};
 use version_store::Job;
 
 /// The most changes of limits of a short job. They take some 3 milliseconds.
 const MOST_OF_SHORT: u64 = 10_000;
 
-/// Returns the work of a short job: the most changes of limits that it may take. Returns none for a
-/// long job, or if memory runs out.
+/// Returns the work of a short job: how many changes of limits it takes at most, whatever its
+/// profiles are. Returns `None` for a long job, or one that can't be examined.
 pub fn short_work(job: &Job) -> Option<u64>
     ensures work { IfSome result (λ work. work ≡ work_of (state_of job.now.book) job.now.ask) }
-    ensures short { IfSome result (λ work. IsTrue (is_short job.now)) }
+    ensures short { IfSome result (λ work. IsShort job.now) }
 {
     match job.share_book() {
-        Ok(book) => work_within(&book.view(), job.ask(), MOST_OF_SHORT),
+        Ok(book) => short_work_of(&book, job.ask()),
         Err(_) => None,
     }
 }
 
-/// Returns the work of a request, if it is at most `most`.
-// Each row's work is subtracted from the rest, so that no sum can overflow.
+/// The same for a request of a book.
+fn short_work_of(book: &PointBook, ask: &Ask) -> Option<u64>
+    ensures work { IfSome result (λ work. work ≡ work_of (state_of book.now) ask.now) }
+    ensures short { IfSome result (λ work. work_of (state_of book.now) ask.now ≤ most_of_short) }
+    ensures long { IfNone result (most_of_short < work_of (state_of book.now) ask.now) }
+{
+    work_within(&book.view(), ask, MOST_OF_SHORT)
+}
+
+/// Returns the work of a request if it is at most `most`. Each row's work is taken from the rest, so
+/// that no sum grows large.
 fn work_within(view: &View<'_>, ask: &Ask, most: u64) -> Option<u64>
     requires few { length view.now.starts.now < 2 ^ 32 }
-    ensures { result ≡ work_if_within most (work_of (point_state view.now) ask.now) }
+    ensures work { IfSome result (λ work. work ≡ work_of (point_state view.now) ask.now) }
+    ensures within { IfSome result (λ work. work_of (point_state view.now) ask.now ≤ most) }
+    ensures more { IfNone result (most < work_of (point_state view.now) ask.now) }
 {
     let active = active_count(view.starts);
     let mut left = most;
