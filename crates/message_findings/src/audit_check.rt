@@ -3,7 +3,6 @@
 use crate::report::Report;
 use messages::AuditOutcome;
 use replay::{PlayedLine, Playing, PointChange};
-use std::alloc::{AllocError, Global};
 
 /// The audit whose call a line's reply confirmed, and the verdict on that reply.
 #[derive(Clone, Copy)]
@@ -37,34 +36,22 @@ pub(crate) fn judged_audit(
 
 /// Checks the reply to an audit's call. Reports a point that isn't in step, or an audit without a
 /// verdict.
-pub(crate) fn check_verdict(report: &mut Report, audit: &JudgedAudit) -> Result<(), AllocError> {
-    let Some(message) = verdict_message(report.alloc, audit)? else {
-        return Ok(());
-    };
-    match audit.outcome {
-        AuditOutcome::Unsettled => report.remark_at(report.line(), message),
-        _ => report.warn(message),
-    }
-}
-
-/// Describes the outcome of an audit, unless it is to be expected.
-fn verdict_message(alloc: Global, audit: &JudgedAudit) -> Result<Option<String>, AllocError> {
+pub(crate) fn check_verdict(report: &mut Report, audit: &JudgedAudit) {
     let JudgedAudit {
         connector,
         duration,
         ..
     } = *audit;
-    let message = match audit.outcome {
-        AuditOutcome::Differs => format!(in alloc;
+    match audit.outcome {
+        AuditOutcome::Differs => report.warn(format!(in report.alloc;
             "Differs: the point's schedule of connector {connector} for {duration} s differs from what the central system means"
-        )?,
-        AuditOutcome::Rejected => format!(in alloc;
+        )),
+        AuditOutcome::Rejected => report.warn(format!(in report.alloc;
             "Rejected: the point tells no schedule of connector {connector} for {duration} s"
-        )?,
-        AuditOutcome::Unsettled => format!(in alloc;
+        )),
+        AuditOutcome::Unsettled => report.remark(format!(in report.alloc;
             "Unsettled: the point's schedule of connector {connector} for {duration} s can't be compared with what the central system means"
-        )?,
-        AuditOutcome::NoAudit | AuditOutcome::Waiting | AuditOutcome::Agrees => return Ok(None),
-    };
-    Ok(Some(message))
+        )),
+        AuditOutcome::NoAudit | AuditOutcome::Waiting | AuditOutcome::Agrees => {}
+    }
 }

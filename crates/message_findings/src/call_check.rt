@@ -45,10 +45,7 @@ impl<'a, 'node, 'memory> LineCall<'a, 'node, 'memory> {
 }
 
 /// Checks a CALL.
-pub(crate) fn check_call(
-    report: &mut Report,
-    call: &LineCall<'_, '_, '_>,
-) -> Result<(), AllocError> {
+pub(crate) fn check_call(report: &mut Report, call: &LineCall<'_, '_, '_>) {
     let kind = ActionKind::named(call.action);
     if call.text.sender == Sender::Hold && kind != Some(ActionKind::GetCompositeSchedule) {
         return not_composite(report, call.text, "it is a CALL of another action");
@@ -61,30 +58,29 @@ pub(crate) fn check_call(
 }
 
 /// Reports an action that a side doesn't have, and the one that was probably meant.
-pub(crate) fn refuse_action(
-    report: &mut Report,
-    sender: Side,
-    name: &str,
-) -> Result<(), AllocError> {
-    let alloc = report.alloc;
+pub(crate) fn refuse_action(report: &mut Report, sender: Side, name: &str) {
+    report.fault(unknown_action_message(report.alloc, sender, name));
+}
+
+/// Describes an action that a side doesn't have, and the one that was probably meant.
+fn unknown_action_message(alloc: Global, sender: Side, name: &str) -> Result<String, AllocError> {
     let actions = actions_of(alloc, sender)?;
     let sender = match sender {
         Side::Operator => "an operator",
         Side::Point => "a point",
     };
     let action = excerpt(alloc, name)?;
-    let message = match similar_name(alloc, name, actions.as_slice())? {
+    match similar_name(alloc, name, actions.as_slice())? {
         Some(meant) => format!(in alloc;
             "NotImplemented: \"{action}\" is no action of {sender} (\"{meant}\" is one)"
-        )?,
+        ),
         None if ActionKind::named(name).is_some() => format!(in alloc;
             "NotImplemented: \"{action}\" is an action of the other side, not of {sender}"
-        )?,
+        ),
         None => format!(in alloc;
             "NotImplemented: \"{action}\" is no action of {sender} that is known here"
-        )?,
-    };
-    report.fault(message)
+        ),
+    }
 }
 
 /// Returns the names of a side's actions.
@@ -99,38 +95,27 @@ fn actions_of(alloc: Global, side: Side) -> Result<Vec<&'static str>, AllocError
 }
 
 /// Checks the fields of an action, and the action itself.
-fn check_action(
-    report: &mut Report,
-    call: &LineCall<'_, '_, '_>,
-    kind: ActionKind,
-) -> Result<(), AllocError> {
+fn check_action(report: &mut Report, call: &LineCall<'_, '_, '_>, kind: ActionKind) {
     let alloc = report.alloc;
     // Of a point's CALL only some fields are read, so its other fields aren't unknown ones.
     if kind.side().is_same(Side::Operator) {
-        warn_repeated(report, call.text.frame, kind)?;
+        warn_repeated(report, call.text.frame, kind);
     }
     match read_fields(alloc, kind, call.payload) {
         Ok(action) => check_asked(report, call, kind, action),
-        Err(CallFault::Refused(Refusal::OutOfMemory)) => Err(AllocError),
+        Err(CallFault::Refused(Refusal::OutOfMemory)) => report.fail(),
         Err(fault) => {
-            let message = field_fault_message(alloc, call.payload, kind, fault)?;
-            report.fault(message)?;
+            report.fault(field_fault_message(alloc, call.payload, kind, fault));
             if kind.side().is_same(Side::Operator) {
-                warn_unknown(report, call.text.frame, kind)?;
+                warn_unknown(report, call.text.frame, kind);
             }
-            Ok(())
         }
     }
 }
 
 /// Checks an action whose fields are right.
-fn check_asked(
-    report: &mut Report,
-    call: &LineCall<'_, '_, '_>,
-    kind: ActionKind,
-    action: Action,
-) -> Result<(), AllocError> {
-    check_operator_fields(report, call, kind)?;
+fn check_asked(report: &mut Report, call: &LineCall<'_, '_, '_>, kind: ActionKind, action: Action) {
+    check_operator_fields(report, call, kind);
     match action {
         Action::SetChargingProfile { connector, profile } => {
             check_install(report, call.text, connector, profile)
@@ -149,69 +134,57 @@ fn check_asked(
 }
 
 /// Warns of an operator's unknown fields, and remarks on its instants without a zone.
-fn check_operator_fields(
-    report: &mut Report,
-    call: &LineCall<'_, '_, '_>,
-    kind: ActionKind,
-) -> Result<(), AllocError> {
+fn check_operator_fields(report: &mut Report, call: &LineCall<'_, '_, '_>, kind: ActionKind) {
     // An unknown field of a clear has a warning of its own: it may clear more than is meant.
     if !kind.side().is_same(Side::Operator) || kind == ActionKind::ClearChargingProfile {
-        return Ok(());
+        return;
     }
-    warn_unknown(report, call.text.frame, kind)?;
+    warn_unknown(report, call.text.frame, kind);
     let payload = PayloadObject {
         fields: fields_of(kind),
         node: call.payload,
     };
-    remark_unzoned(report, payload)
+    remark_unzoned(report, payload);
 }
 
 /// Checks the request for an audit.
-fn check_audit_request(
-    report: &mut Report,
-    text: &LineMessage<'_>,
-    connector: u32,
-    duration: u32,
-) -> Result<(), AllocError> {
+fn check_audit_request(report: &mut Report, text: &LineMessage<'_>, connector: u32, duration: u32) {
     let request = ScheduleRequest {
         connector,
         duration,
         unit: None,
     };
-    check_ask(report, text, &request)
+    check_ask(report, text, &request);
 }
 
 /// Reports the refusal of any other action, unless it depends on the point's state.
-fn check_refused(report: &mut Report, text: &LineMessage<'_>) -> Result<(), AllocError> {
+fn check_refused(report: &mut Report, text: &LineMessage<'_>) {
     match text.refusal() {
-        Some(Refusal::UnknownPoint) => {
-            let message = unknown_point_message(report, text.site, text.point)?;
-            report.fault(message)
-        }
+        Some(Refusal::UnknownPoint) => refuse_point(report, text),
         Some(refusal) if !depends_on_state(refusal) => {
             let why = sentence(refusal);
-            let message = format!(in report.alloc; "{refusal}: {why}")?;
-            report.fault(message)
+            report.fault(format!(in report.alloc; "{refusal}: {why}"));
         }
-        _ => Ok(()),
+        _ => {}
     }
 }
 
 /// Warns of duplicate fields of an operator's CALL.
-pub(crate) fn warn_repeated(
-    report: &mut Report,
-    frame: &str,
-    kind: ActionKind,
-) -> Result<(), AllocError> {
-    let alloc = report.alloc;
-    let outline = outline_of(alloc, frame)?;
-    for name in &repeated_payload_fields(alloc, frame, &outline, kind)? {
-        let message = format!(in alloc;
+pub(crate) fn warn_repeated(report: &mut Report, frame: &str, kind: ActionKind) {
+    let Ok(repeated) = repeated_fields(report.alloc, frame, kind) else {
+        return report.fail();
+    };
+    for name in &repeated {
+        report.warn(format!(in report.alloc;
             "\"{name}\" is a duplicate field, and the last one counts"
-        )?;
-        report.warn(message)?;
+        ));
     }
-    Ok(())
+}
+
+/// Returns the duplicate fields of an operator's CALL.
+fn repeated_fields(alloc: Global, frame: &str, kind: ActionKind) -> Result<Vec<&str>, AllocError> {
+    let outline = outline_of(alloc, frame)?;
+    repeated_payload_fields(alloc, frame, &outline, kind)
 }
 
 /// Returns the unknown fields of an operator's CALL.
@@ -225,48 +198,46 @@ pub(crate) fn unknown_fields(
 }
 
 /// Warns of unknown fields of an operator's CALL.
-pub(crate) fn warn_unknown(
-    report: &mut Report,
-    frame: &str,
-    kind: ActionKind,
-) -> Result<(), AllocError> {
-    let alloc = report.alloc;
+pub(crate) fn warn_unknown(report: &mut Report, frame: &str, kind: ActionKind) {
     // OCPP doesn't have these two actions, so it doesn't define their fields.
     let whose = match kind {
         ActionKind::AuditPoint | ActionKind::PointStatus => "",
         _ => " of OCPP",
     };
-    for field in &unknown_fields(alloc, frame, kind)? {
-        let name = excerpt(alloc, field.name)?;
-        let known = names_of(alloc, field.fields)?;
-        let message = match similar_name(alloc, field.name, known.as_slice())? {
-            Some(meant) => {
-                format!(in alloc;
-                    "\"{name}\" is no field{whose} there and has no effect (\"{meant}\" is one)"
-                )?
-            }
-            None => format!(in alloc; "\"{name}\" is no field{whose} there and has no effect")?,
-        };
-        report.warn(message)?;
+    let Ok(unknown) = unknown_fields(report.alloc, frame, kind) else {
+        return report.fail();
+    };
+    for field in &unknown {
+        report.warn(unknown_field_message(report.alloc, field, whose));
     }
-    Ok(())
+}
+
+/// Describes an unknown field, and the one that was probably meant.
+fn unknown_field_message(
+    alloc: Global,
+    field: &UnknownField<'_>,
+    whose: &str,
+) -> Result<String, AllocError> {
+    let name = excerpt(alloc, field.name)?;
+    let known = names_of(alloc, field.fields)?;
+    match similar_name(alloc, field.name, known.as_slice())? {
+        Some(meant) => format!(in alloc;
+            "\"{name}\" is no field{whose} there and has no effect (\"{meant}\" is one)"
+        ),
+        None => format!(in alloc; "\"{name}\" is no field{whose} there and has no effect"),
+    }
 }
 
 /// Checks a ClearChargingProfile, which clears all profiles that match its criteria.
-fn check_clear(
-    report: &mut Report,
-    call: &LineCall<'_, '_, '_>,
-    criteria: &Criteria,
-) -> Result<(), AllocError> {
-    let alloc = report.alloc;
-    let site = call.text.site;
-    if site.place_of(call.text.point).is_none() {
-        let fault = CallFault::Refused(Refusal::UnknownPoint);
-        let message = unknown_point_message(report, site, call.text.point)?;
-        report.fault(message)?;
+fn check_clear(report: &mut Report, call: &LineCall<'_, '_, '_>, criteria: &Criteria) {
+    if call.text.site.place_of(call.text.point).is_none() {
+        refuse_point(report, call.text);
     }
-    let unknown = unknown_fields(alloc, call.text.frame, ActionKind::ClearChargingProfile)?;
-    warn_of_clear(report, call.payload, criteria, &unknown)
+    let kind = ActionKind::ClearChargingProfile;
+    match unknown_fields(report.alloc, call.text.frame, kind) {
+        Ok(unknown) => warn_of_clear(report, call.payload, criteria, &unknown),
+        Err(AllocError) => report.fail(),
+    }
 }
 
 /// Warns of a clear that clears more than it seems to, by its fields that are no criteria.
@@ -276,20 +247,21 @@ pub(crate) fn warn_of_clear(
     payload: Node<'_, '_>,
     criteria: &Criteria,
     unknown: &Vec<UnknownField<'_>>,
-) -> Result<(), AllocError> {
-    let alloc = report.alloc;
+) {
     if has_no_criterion(criteria) {
-        let message = clears_all_message(alloc, payload, unknown)?;
-        return report.warn(message);
+        return report.warn(clears_all_message(report.alloc, payload, unknown));
     }
     for field in unknown {
-        let name = excerpt(alloc, field.name)?;
-        let message = format!(in alloc;
-            "\"{name}\" is no criterion and has no effect, so more may be CLEARED than is meant: id, connectorId, chargingProfilePurpose and stackLevel are the criteria"
-        )?;
-        report.warn(message)?;
+        report.warn(no_criterion_message(report.alloc, field.name));
     }
-    Ok(())
+}
+
+/// Describes a field of a clear that is no criterion.
+fn no_criterion_message(alloc: Global, name: &str) -> Result<String, AllocError> {
+    let name = excerpt(alloc, name)?;
+    format!(in alloc;
+        "\"{name}\" is no criterion and has no effect, so more may be CLEARED than is meant: id, connectorId, chargingProfilePurpose and stackLevel are the criteria"
+    )
 }
 
 /// Returns the criteria of a clear without a criterion that are null.
@@ -305,12 +277,13 @@ fn null_criteria(alloc: Global, payload: Node<'_, '_>) -> Result<Vec<&'static st
 }
 
 /// Returns whether a clear without a criterion has fields.
-pub(crate) fn has_fields(
-    alloc: Global,
-    payload: Node<'_, '_>,
-    unknown: &Vec<UnknownField<'_>>,
-) -> Result<bool, AllocError> {
-    Ok(!unknown.is_empty() || !null_criteria(alloc, payload)?.is_empty())
+pub(crate) fn has_fields(payload: Node<'_, '_>, unknown: &Vec<UnknownField<'_>>) -> bool {
+    for row in fields_of(ActionKind::ClearChargingProfile) {
+        if payload.field(row.name().text()).is_some() {
+            return true;
+        }
+    }
+    !unknown.is_empty()
 }
 
 /// Describes a clear without a criterion, and the criteria that were probably meant.
@@ -325,16 +298,13 @@ fn clears_all_message(
     )?;
     for field in unknown {
         let name = excerpt(alloc, field.name)?;
-        let meant = criterion_meant(alloc, field.name)?;
-        let hint = match meant {
-            Some(meant) => format!(in alloc; "; \"{name}\" isn't one (\"{meant}\" is)")?,
-            None => format!(in alloc; "; \"{name}\" isn't one")?,
-        };
-        message.push_str(hint.as_str())?;
+        match criterion_meant(alloc, field.name)? {
+            Some(meant) => write!(message, "; \"{name}\" isn't one (\"{meant}\" is)")?,
+            None => write!(message, "; \"{name}\" isn't one")?,
+        }
     }
     for name in &null_criteria(alloc, payload)? {
-        let hint = format!(in alloc; "; \"{name}\" is null, which is none")?;
-        message.push_str(hint.as_str())?;
+        write!(message, "; \"{name}\" is null, which is none")?;
     }
     Ok(message)
 }
@@ -354,12 +324,14 @@ fn criterion_meant(alloc: Global, name: &str) -> Result<Option<&'static str>, Al
     }
 }
 
+/// Reports that the site lacks the point of a line.
+pub(crate) fn refuse_point(report: &mut Report, text: &LineMessage<'_>) {
+    let message = unknown_point_message(report, text.site, text.point);
+    report.fault(message);
+}
+
 /// Describes the refusal of a point that the site lacks.
-pub(crate) fn unknown_point_message(
-    report: &mut Report,
-    site: &Site,
-    id: &str,
-) -> Result<String, AllocError> {
+fn unknown_point_message(report: &mut Report, site: &Site, id: &str) -> Result<String, AllocError> {
     let alloc = report.alloc;
     let hint = point_hint(report, site, id)?;
     let id = excerpt(alloc, id)?;
@@ -373,21 +345,14 @@ pub(crate) fn point_of<'a>(site: &'a Site, text: &LineMessage<'_>) -> Option<Sit
 
 /// Checks a GetCompositeSchedule or an AuditPoint by its answer. Reports a refusal unless it
 /// depends on the point's state.
-fn check_ask(
-    report: &mut Report,
-    text: &LineMessage<'_>,
-    request: &ScheduleRequest,
-) -> Result<(), AllocError> {
+fn check_ask(report: &mut Report, text: &LineMessage<'_>, request: &ScheduleRequest) {
     match text.rejection() {
-        None => Ok(()),
-        Some(refusal) if depends_on_state(refusal) => Ok(()),
-        Some(Refusal::UnknownPoint) => {
-            let message = unknown_point_message(report, text.site, text.point)?;
-            report.fault(message)
-        }
+        None => {}
+        Some(refusal) if depends_on_state(refusal) => {}
+        Some(Refusal::UnknownPoint) => refuse_point(report, text),
         Some(refusal) => {
-            let found = ask_found(report.alloc, text, request, refusal)?;
-            reject(report, refusal, Some(found.as_str()))
+            let found = ask_found(report.alloc, text, request, refusal);
+            reject_found(report, refusal, found);
         }
     }
 }
@@ -441,36 +406,37 @@ pub(crate) fn unit_found(site: &Site) -> &'static str {
 }
 
 /// Reports a refusal with its sentence, and with the value found if that is known.
-pub(crate) fn reject(
-    report: &mut Report,
-    refusal: Refusal,
-    found: Option<&str>,
-) -> Result<(), AllocError> {
+pub(crate) fn reject(report: &mut Report, refusal: Refusal, found: Option<&str>) {
     let name = refusal.name();
     let why = sentence(refusal);
-    let message = match found {
-        Some(found) => format!(in report.alloc; "{name}: {why}: {found}")?,
-        None => format!(in report.alloc; "{name}: {why}")?,
-    };
-    report.fault(message)
+    match found {
+        Some(found) => report.fault(format!(in report.alloc; "{name}: {why}: {found}")),
+        None => report.fault(format!(in report.alloc; "{name}: {why}")),
+    }
+}
+
+/// Reports a refusal with its sentence, and with the value found, whose text was made elsewhere.
+pub(crate) fn reject_found(
+    report: &mut Report,
+    refusal: Refusal,
+    found: Result<String, AllocError>,
+) {
+    match found {
+        Ok(found) => reject(report, refusal, Some(found.as_str())),
+        Err(AllocError) => report.fail(),
+    }
 }
 
 /// Checks a StartTransaction. Reports a connector that the point lacks.
-fn check_start(
-    report: &mut Report,
-    text: &LineMessage<'_>,
-    connector: u32,
-) -> Result<(), AllocError> {
+fn check_start(report: &mut Report, text: &LineMessage<'_>, connector: u32) {
     let Some(point) = point_of(text.site, text) else {
-        return Ok(());
+        return;
     };
     let count = point.ceilings.len();
     if connector >= 1 && connector as usize <= count {
-        return Ok(());
+        return;
     }
-    let message = format!(in report.alloc;
+    report.fault(format!(in report.alloc;
         "UnknownConnector: a transaction is started at connector {connector}; the point has connectors 1 to {count}"
-    )?;
-    let fault = CallFault::Refused(Refusal::UnknownConnector);
-    report.fault(message)
+    ));
 }

@@ -1,7 +1,8 @@
 //! Finds refusals in a line's output that depend on the point's state, and clears without a match.
 
+use crate::report::Report;
 use crate::sentences::sentence;
-use findings::{Finding, Location};
+use findings::Finding;
 use messages::{CallFault, Response};
 use ocpp_scalars::Refusal;
 use replay::PrintedLine;
@@ -30,47 +31,33 @@ pub fn check_printed(
     line: u64,
     printed: &[PrintedLine],
 ) -> Result<Vec<Finding>, AllocError> {
-    let mut findings = Vec::new(alloc);
+    let mut report = Report::new(alloc);
+    report.go_to(line);
     for output in printed {
         if let PrintedLine::Answer { response, .. } = output {
-            if let Some(finding) = finding_of(alloc, line, response)? {
-                findings.push(finding)?;
-            }
+            check_answer(&mut report, response);
         }
     }
-    Ok(findings)
+    report.into_findings()
 }
 
-/// Returns the finding in an answer that depends on the point's state.
-fn finding_of(
-    alloc: Global,
-    line: u64,
-    response: &Response,
-) -> Result<Option<Finding>, AllocError> {
+/// Checks an answer. Reports one that depends on the point's state.
+fn check_answer(report: &mut Report, response: &Response) {
     match response {
         Response::Rejected(refusal) | Response::Error(CallFault::Refused(refusal)) => {
-            refused(alloc, line, *refusal)
+            check_refusal(report, *refusal)
         }
-        Response::Unknown => cleared_nothing(alloc, line),
-        _ => Ok(None),
+        Response::Unknown => report.warn_text(
+            "this clears nothing: the point has no profile that matches its criteria",
+        ),
+        _ => {}
     }
 }
 
-/// Makes the finding that a message is refused, if that depends on the point's state.
-fn refused(alloc: Global, line: u64, refusal: Refusal) -> Result<Option<Finding>, AllocError> {
-    if !depends_on_state(refusal) {
-        return Ok(None);
+/// Reports that a message is refused, if that depends on the point's state.
+fn check_refusal(report: &mut Report, refusal: Refusal) {
+    if depends_on_state(refusal) {
+        let why = sentence(refusal);
+        report.fault(format!(in report.alloc; "{refusal}: {why}"));
     }
-    let why = sentence(refusal);
-    let message = format!(in alloc; "{refusal}: {why}")?;
-    Ok(Some(Finding::fault(Location::Line(line), message)))
-}
-
-/// Makes the finding that a clear matched nothing.
-fn cleared_nothing(alloc: Global, line: u64) -> Result<Option<Finding>, AllocError> {
-    let message = String::from_str(
-        alloc,
-        "this clears nothing: the point has no profile that matches its criteria",
-    )?;
-    Ok(Some(Finding::warning(Location::Line(line), message)))
 }

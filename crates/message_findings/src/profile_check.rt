@@ -1,6 +1,8 @@
 //! Checks an install, and warns of a profile that probably does something unintended.
 
-use crate::call_check::{connector_found, point_of, reject, unit_found, unknown_point_message};
+use crate::call_check::{
+    connector_found, point_of, refuse_point, reject, reject_found, unit_found,
+};
 use crate::line_text::LineMessage;
 use crate::report::Report;
 use crate::sentences::never_sentence;
@@ -17,64 +19,48 @@ pub(crate) fn check_install(
     text: &LineMessage<'_>,
     connector: u32,
     parts: ProfileParts,
-) -> Result<(), AllocError> {
+) {
     let site = text.site;
-    let Some(profile) = check_parts(report, parts)? else {
-        return Ok(());
+    let Some(profile) = check_parts(report, parts) else {
+        return;
     };
     match admit(site, text.point, connector, &profile) {
-        Err(Refusal::UnknownPoint) => {
-            let message = unknown_point_message(report, site, text.point)?;
-            report.fault(message)?;
-        }
+        Err(Refusal::UnknownPoint) => refuse_point(report, text),
         Err(refusal) => {
-            let found = place_found(report.alloc, site, text, connector, refusal)?;
-            reject(report, refusal, Some(found.as_str()))?;
+            let found = place_found(report.alloc, site, text, connector, refusal);
+            reject_found(report, refusal, found);
         },
-        Ok(()) => warn_ceiling_at(report, text, connector, &profile)?,
+        Ok(()) => warn_ceiling_at(report, text, connector, &profile),
     }
-    warn_transaction(report, &profile)?;
-    warn_rates(report, text.moment, &profile)
+    warn_transaction(report, &profile);
+    warn_rates(report, text.moment, &profile);
 }
 
 /// Checks the profile of an install by itself, without the site or a moment. Its fields are right.
-pub(crate) fn check_sent_profile(
-    report: &mut Report,
-    parts: ProfileParts,
-) -> Result<(), AllocError> {
-    let Some(profile) = check_parts(report, parts)? else {
-        return Ok(());
-    };
-    warn_transaction(report, &profile)?;
-    warn_never_rated(report, &profile)
+pub(crate) fn check_sent_profile(report: &mut Report, parts: ProfileParts) {
+    if let Some(profile) = check_parts(report, parts) {
+        warn_transaction(report, &profile);
+        warn_never_rated(report, &profile);
+    }
 }
 
 /// Makes a profile of its parts, or reports their refusal. Warns of fields without an effect.
-pub(crate) fn check_parts(
-    report: &mut Report,
-    parts: ProfileParts,
-) -> Result<Option<Profile>, AllocError> {
+pub(crate) fn check_parts(report: &mut Report, parts: ProfileParts) -> Option<Profile> {
     // This comes first, since a profile drops the fields that have no effect.
-    warn_dropped(report, &parts)?;
+    warn_dropped(report, &parts);
     match Profile::try_new(parts) {
-        Ok(profile) => Ok(Some(profile)),
+        Ok(profile) => Some(profile),
         Err((refusal, parts)) => {
-            refuse_parts(report, refusal, &parts)?;
-            Ok(None)
+            refuse_parts(report, refusal, &parts);
+            None
         }
     }
 }
 
-/// Adds a warning with the name of its profile.
-fn warn_of(report: &mut Report, profile: &Profile, message: &str) -> Result<(), AllocError> {
-    report.warn_of(profile.purpose, profile.id, message)
-}
-
 /// Warns of a profile that never has a rate.
-pub(crate) fn warn_never_rated(report: &mut Report, profile: &Profile) -> Result<(), AllocError> {
-    match never_rated(profile) {
-        Some(why) => warn_of(report, profile, never_sentence(why)),
-        None => Ok(()),
+pub(crate) fn warn_never_rated(report: &mut Report, profile: &Profile) {
+    if let Some(why) = never_rated(profile) {
+        report.warn_text_of(profile.purpose, profile.id, never_sentence(why));
     }
 }
 
@@ -94,39 +80,34 @@ fn place_found(
 }
 
 /// Warns of fields that have no meaning with the profile's purpose or kind.
-fn warn_dropped(report: &mut Report, parts: &ProfileParts) -> Result<(), AllocError> {
+fn warn_dropped(report: &mut Report, parts: &ProfileParts) {
     let (purpose, id) = (parts.purpose, parts.id);
     if parts.transaction.is_some() && !matches!(purpose, Purpose::TxProfile) {
         let message = "transactionId has no effect except in a TxProfile";
-        report.warn_of(purpose, id, message)?;
+        report.warn_text_of(purpose, id, message);
     }
     if parts.recurrency.is_some() && parts.kind != ProfileKind::Recurring {
         let message = "recurrencyKind has no effect unless chargingProfileKind is Recurring";
-        report.warn_of(purpose, id, message)?;
+        report.warn_text_of(purpose, id, message);
     }
     if parts.schedule.start.is_some() && parts.kind == ProfileKind::Relative {
         let message =
             "startSchedule has no effect in a Relative profile, which begins with its transaction";
-        report.warn_of(purpose, id, message)?;
+        report.warn_text_of(purpose, id, message);
     }
-    Ok(())
 }
 
 /// Reports the refusal of a profile that isn't well formed.
-fn refuse_parts(
-    report: &mut Report,
-    refusal: Refusal,
-    parts: &ProfileParts,
-) -> Result<(), AllocError> {
+fn refuse_parts(report: &mut Report, refusal: Refusal, parts: &ProfileParts) {
     let alloc = report.alloc;
     let periods = parts.schedule.periods.as_slice();
     let found = match refusal {
-        Refusal::LevelTooHigh => format!(in alloc; "stackLevel is {}", parts.stack_level)?,
-        Refusal::TooManyPeriods => format!(in alloc; "there are {}", periods.len())?,
-        Refusal::PeriodsOutOfOrder => out_of_order(alloc, periods)?,
+        Refusal::LevelTooHigh => format!(in alloc; "stackLevel is {}", parts.stack_level),
+        Refusal::TooManyPeriods => format!(in alloc; "there are {}", periods.len()),
+        Refusal::PeriodsOutOfOrder => out_of_order(alloc, periods),
         _ => return reject(report, refusal, None),
     };
-    reject(report, refusal, Some(found.as_str()))
+    reject_found(report, refusal, found);
 }
 
 /// Describes the first period that doesn't start later than the one before it.
@@ -148,15 +129,14 @@ fn out_of_order(alloc: Global, periods: &[Period]) -> Result<String, AllocError>
 
 /// Warns of a TxProfile that isn't bound to its transaction.
 // The call may wait for the point until the transaction has ended, which doesn't cancel it.
-fn warn_transaction(report: &mut Report, profile: &Profile) -> Result<(), AllocError> {
+fn warn_transaction(report: &mut Report, profile: &Profile) {
     if matches!(profile.purpose, Purpose::TxProfile) && profile.transaction.is_none() {
-        warn_of(
-            report,
-            profile,
+        report.warn_text_of(
+            profile.purpose,
+            profile.id,
             "it has no transactionId: where its transaction ends before the call reaches the point, the point may take it for the NEXT car",
-        )?;
+        );
     }
-    Ok(())
 }
 
 /// Warns of a profile that never lowers a limit at the line's point.
@@ -165,30 +145,28 @@ pub(crate) fn warn_ceiling_at(
     text: &LineMessage<'_>,
     connector: u32,
     profile: &Profile,
-) -> Result<(), AllocError> {
-    match point_of(text.site, text) {
-        Some(point) => warn_ceiling(report, point, connector, profile),
-        None => Ok(()),
+) {
+    if let Some(point) = point_of(text.site, text) {
+        warn_ceiling(report, point, connector, profile);
     }
 }
 
 /// Warns of a profile that never lowers a limit, since the ceilings of the site file are below it.
-fn warn_ceiling(
-    report: &mut Report,
-    point: SitePoint<'_>,
-    connector: u32,
-    profile: &Profile,
-) -> Result<(), AllocError> {
+fn warn_ceiling(report: &mut Report, point: SitePoint<'_>, connector: u32, profile: &Profile) {
     let ceiling = highest_ceiling(point, connector, profile.purpose);
     let periods = profile.schedule.periods.as_slice();
-    if !periods.iter().all(|period| period.limit > ceiling) {
-        return Ok(());
+    if periods.iter().all(|period| period.limit > ceiling) {
+        let message = ceiling_message(report.alloc, ceiling);
+        report.warn_of(profile.purpose, profile.id, message);
     }
-    let ceiling = tenths_text(report.alloc, u64::from(ceiling))?;
-    let message = format!(in report.alloc;
+}
+
+/// Describes a profile whose limits are all above the ceiling, in tenths.
+fn ceiling_message(alloc: Global, ceiling: u32) -> Result<String, AllocError> {
+    let ceiling = tenths_text(alloc, u64::from(ceiling))?;
+    format!(in alloc;
         "each of its limits is above the ceiling of the site file there, {ceiling}: it never lowers anything"
-    )?;
-    warn_of(report, profile, message.as_str())
+    )
 }
 
 /// Returns the highest ceiling that a profile could lower, in tenths. For a ChargePointMaxProfile
@@ -208,43 +186,41 @@ fn highest_ceiling(point: SitePoint<'_>, connector: u32, purpose: Purpose) -> u3
 }
 
 /// Warns of a profile that never has a rate, or has none in intervals that probably weren't meant.
-pub(crate) fn warn_rates(
-    report: &mut Report,
-    moment: Instant,
-    profile: &Profile,
-) -> Result<(), AllocError> {
+pub(crate) fn warn_rates(report: &mut Report, moment: Instant, profile: &Profile) {
     if let Some(why) = never_rated(profile) {
-        return warn_of(report, profile, never_sentence(why));
+        return report.warn_text_of(profile.purpose, profile.id, never_sentence(why));
     }
     if let Some(end) = profile.valid_to {
         if end <= moment {
-            let end = instant_text(report.alloc, end)?;
-            let message = format!(in report.alloc;
-                "validTo, {end}, is over when the profile is installed: no later schedule counts it"
-            )?;
-            warn_of(report, profile, message.as_str())?;
+            let message = over_message(report.alloc, end);
+            report.warn_of(profile.purpose, profile.id, message);
         }
     }
-    warn_duration(report, profile)?;
+    warn_duration(report, profile);
     match profile.kind {
         Kind::Recurring(recurrency) => warn_recurrence(report, profile, recurrency),
-        Kind::Absolute | Kind::Relative => Ok(()),
+        Kind::Absolute | Kind::Relative => {}
     }
 }
 
+/// Describes a profile whose validTo is over.
+fn over_message(alloc: Global, end: Instant) -> Result<String, AllocError> {
+    let end = instant_text(alloc, end)?;
+    format!(in alloc;
+        "validTo, {end}, is over when the profile is installed: no later schedule counts it"
+    )
+}
+
 /// Warns of a period that starts when the duration is over.
-fn warn_duration(report: &mut Report, profile: &Profile) -> Result<(), AllocError> {
+fn warn_duration(report: &mut Report, profile: &Profile) {
     let Some(duration) = profile.schedule.duration else {
-        return Ok(());
+        return;
     };
-    match first_past(profile, u64::from(duration)) {
-        Some((index, start)) => {
-            let message = format!(in report.alloc;
-                "chargingSchedulePeriod[{index}] starts at {start} s, when the duration of {duration} s is over: it never counts"
-            )?;
-            warn_of(report, profile, message.as_str())
-        }
-        None => Ok(()),
+    if let Some((index, start)) = first_past(profile, u64::from(duration)) {
+        let message = format!(in report.alloc;
+            "chargingSchedulePeriod[{index}] starts at {start} s, when the duration of {duration} s is over: it never counts"
+        );
+        report.warn_of(profile.purpose, profile.id, message);
     }
 }
 
@@ -259,11 +235,7 @@ fn first_past(profile: &Profile, end: u64) -> Option<(usize, u32)> {
 }
 
 /// Warns of the parts of a Daily or Weekly schedule after its day or week, and of its gaps.
-fn warn_recurrence(
-    report: &mut Report,
-    profile: &Profile,
-    recurrency: Recurrency,
-) -> Result<(), AllocError> {
+fn warn_recurrence(report: &mut Report, profile: &Profile, recurrency: Recurrency) {
     let length = recurrency.length();
     let unit = match recurrency {
         Recurrency::Daily => "day",
@@ -274,70 +246,73 @@ fn warn_recurrence(
     if let (true, Some((index, start))) = (end >= length, first_past(profile, length)) {
         let message = format!(in report.alloc;
             "chargingSchedulePeriod[{index}] starts at {start} s, when the {unit} of {length} s is over: it never counts"
-        )?;
-        warn_of(report, profile, message.as_str())?;
+        );
+        report.warn_of(profile.purpose, profile.id, message);
     }
     if end > length {
         let message = format!(in report.alloc;
             "the duration of {end} s is longer than the {unit} of {length} s, which begins anew all the same"
-        )?;
-        warn_of(report, profile, message.as_str())?;
+        );
+        report.warn_of(profile.purpose, profile.id, message);
     }
-    warn_gaps(report, profile, recurrency)
+    warn_gaps(report, profile, recurrency);
 }
 
 /// Warns of the gaps of a Daily or Weekly schedule: after its duration, and before its first
 /// period.
-fn warn_gaps(
-    report: &mut Report,
-    profile: &Profile,
-    recurrency: Recurrency,
-) -> Result<(), AllocError> {
+fn warn_gaps(report: &mut Report, profile: &Profile, recurrency: Recurrency) {
     let length = recurrency.length();
     let end = profile.schedule.duration.map_or(length, u64::from);
     if end < length {
-        warn_gap(report, profile, recurrency, end, length)?;
+        warn_gap(report, profile, recurrency, end, length);
     }
     match profile.schedule.periods.as_slice().first() {
         Some(first) if first.start > 0 => {
-            warn_gap(report, profile, recurrency, 0, u64::from(first.start))
+            warn_gap(report, profile, recurrency, 0, u64::from(first.start));
         }
-        _ => Ok(()),
+        _ => {}
     }
 }
 
 /// Warns that a Daily or Weekly profile sets no limit between two offsets of its day or week.
-/// Writes them as times of the clock if those are known, otherwise in seconds.
-fn warn_gap(
-    report: &mut Report,
+fn warn_gap(report: &mut Report, profile: &Profile, recurrency: Recurrency, from: u64, to: u64) {
+    let Ok(when) = gap_text(report.alloc, profile, recurrency, from, to) else {
+        return report.fail();
+    };
+    let message = format!(in report.alloc;
+        "it sets no limit {when}: the profile below it counts then, or none"
+    );
+    report.warn_of(profile.purpose, profile.id, message);
+}
+
+/// Describes the time between two offsets of a day or week. Writes them as times of the clock if
+/// those are known, otherwise in seconds.
+fn gap_text(
+    alloc: Global,
     profile: &Profile,
     recurrency: Recurrency,
     from: u64,
     to: u64,
-) -> Result<(), AllocError> {
-    let alloc = report.alloc;
+) -> Result<String, AllocError> {
     let clock = match (recurrency, profile.schedule.start) {
-        (Recurrency::Daily, Some(start)) => clock_texts(alloc, start, from, to)?,
+        (Recurrency::Daily, Some(start)) => clock_text(alloc, start, from, to)?,
         _ => None,
     };
-    let when = match (clock, recurrency) {
-        (Some((from, to)), _) => format!(in alloc; "from {from} to {to} UTC of each day")?,
-        (None, Recurrency::Daily) => format!(in alloc; "from {from} s to {to} s of each day")?,
-        (None, Recurrency::Weekly) => format!(in alloc; "from {from} s to {to} s of each week")?,
-    };
-    let message = format!(in alloc;
-        "it sets no limit {when}: the profile below it counts then, or none"
-    )?;
-    warn_of(report, profile, message.as_str())
+    match (clock, recurrency) {
+        (Some(clock), _) => Ok(clock),
+        (None, Recurrency::Daily) => format!(in alloc; "from {from} s to {to} s of each day"),
+        (None, Recurrency::Weekly) => format!(in alloc; "from {from} s to {to} s of each week"),
+    }
 }
 
-/// Returns the times of day at two offsets from an instant, if both lie in the calendar.
-fn clock_texts(
+/// Describes the time between two offsets from an instant by the times of day, if both lie in the
+/// calendar.
+fn clock_text(
     alloc: Global,
     start: Instant,
     from: u64,
     to: u64,
-) -> Result<Option<(String, String)>, AllocError> {
+) -> Result<Option<String>, AllocError> {
     let (Some(from), Some(to)) = (
         Instant::try_new(start.seconds().saturating_add(from)),
         Instant::try_new(start.seconds().saturating_add(to)),
@@ -347,7 +322,7 @@ fn clock_texts(
     let (from, to) = (instant_text(alloc, from)?, instant_text(alloc, to)?);
     match (time_in(from.as_str()), time_in(to.as_str())) {
         (Some(from), Some(to)) => {
-            Ok(Some((String::from_str(alloc, from)?, String::from_str(alloc, to)?)))
+            Ok(Some(format!(in alloc; "from {from} to {to} UTC of each day")?))
         }
         _ => Ok(None),
     }

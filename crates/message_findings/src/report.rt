@@ -1,6 +1,6 @@
 //! The findings in a script, collected line by line.
 
-use findings::{Finding, Location};
+use findings::{Finding, Location, Severity};
 use messages::purpose_name;
 use profile::Purpose;
 use std::alloc::{AllocError, Global};
@@ -9,7 +9,10 @@ use std::alloc::{AllocError, Global};
 // A long script may name an unknown point in each line, and a site may have 1,000 points.
 const MAX_HINTS: u32 = 1_000;
 
-/// The findings so far, and the current line.
+/// The findings so far, and the current line. After a failed allocation findings may be missing, and
+/// `into_findings` returns the error.
+// A `?` behind each finding would say the same, but each costs the prover what it costs a reader: a
+// way out, with all that has to be dropped there.
 #[derive(Drop)]
 pub(crate) struct Report {
     pub alloc: Global,
@@ -18,6 +21,8 @@ pub(crate) struct Report {
     line: u64,
     /// The number of identities that may still be compared with all those of the site.
     hints: u32,
+    /// Whether an allocation failed.
+    is_short: bool,
 }
 
 impl Report {
@@ -27,11 +32,36 @@ impl Report {
             findings: Vec::new(alloc),
             line: 0,
             hints: MAX_HINTS,
+            is_short: false,
         }
     }
 
-    pub(crate) fn into_findings(self) -> Vec<Finding> {
-        self.findings
+    /// Returns all findings, unless an allocation failed.
+    pub(crate) fn into_findings(self) -> Result<Vec<Finding>, AllocError> {
+        let Report {
+            findings,
+            is_short,
+            ..
+        } = self;
+        if is_short {
+            Err(AllocError)
+        } else {
+            Ok(findings)
+        }
+    }
+
+    /// Returns the error if an allocation failed so far.
+    pub(crate) fn outcome(&self) -> Result<(), AllocError> {
+        if self.is_short {
+            Err(AllocError)
+        } else {
+            Ok(())
+        }
+    }
+
+    /// An allocation for a finding failed elsewhere.
+    pub(crate) fn fail(&mut self) {
+        self.is_short = true;
     }
 
     /// Goes to the line of this number.
@@ -49,17 +79,13 @@ impl Report {
     }
 
     /// Adds a fault of the current line.
-    pub(crate) fn fault(&mut self, message: String) -> Result<(), AllocError> {
-        let place = Location::Line(self.line);
-        self.findings.push(Finding::fault(place, message))?;
-        Ok(())
+    pub(crate) fn fault(&mut self, message: Result<String, AllocError>) {
+        self.add(Severity::Fault, self.line, message);
     }
 
     /// Adds a warning of the current line.
-    pub(crate) fn warn(&mut self, message: String) -> Result<(), AllocError> {
-        let place = Location::Line(self.line);
-        self.findings.push(Finding::warning(place, message))?;
-        Ok(())
+    pub(crate) fn warn(&mut self, message: Result<String, AllocError>) {
+        self.add(Severity::Warning, self.line, message);
     }
 
     /// Adds a warning of a profile in the current line, named by its purpose and chargingProfileId.
@@ -67,28 +93,49 @@ impl Report {
         &mut self,
         purpose: Purpose,
         id: i32,
-        message: &str,
-    ) -> Result<(), AllocError> {
+        message: Result<String, AllocError>,
+    ) {
+        match message {
+            Ok(message) => self.warn_text_of(purpose, id, message.as_str()),
+            Err(AllocError) => self.fail(),
+        }
+    }
+
+    /// Adds a warning of a profile in the current line, as `warn_of` does, with a copy of this
+    /// message.
+    pub(crate) fn warn_text_of(&mut self, purpose: Purpose, id: i32, message: &str) {
         let purpose = purpose_name(purpose);
-        let message = format!(in self.alloc; "{purpose} {id}: {message}")?;
-        self.warn(message)
+        self.warn(format!(in self.alloc; "{purpose} {id}: {message}"));
     }
 
     /// Adds a remark on the line of this number.
-    pub(crate) fn remark_at(&mut self, line: u64, message: String) -> Result<(), AllocError> {
-        let place = Location::Line(line);
-        self.findings.push(Finding::remark(place, message))?;
-        Ok(())
+    pub(crate) fn remark_at(&mut self, line: u64, message: Result<String, AllocError>) {
+        self.add(Severity::Remark, line, message);
     }
 
-    /// Returns the number of the current line.
-    pub(crate) fn line(&self) -> u64 {
-        self.line
+    /// Adds a remark on the current line.
+    pub(crate) fn remark(&mut self, message: Result<String, AllocError>) {
+        self.remark_at(self.line, message);
     }
 
     /// Adds a warning of the current line with a copy of this message.
-    pub(crate) fn warn_text(&mut self, message: &str) -> Result<(), AllocError> {
-        let message = String::from_str(self.alloc, message)?;
-        self.warn(message)
+    pub(crate) fn warn_text(&mut self, message: &str) {
+        self.warn(String::from_str(self.alloc, message));
+    }
+
+    /// Adds a finding on the line of this number. A failed allocation of its message counts as one
+    /// of the report.
+    fn add(&mut self, severity: Severity, line: u64, message: Result<String, AllocError>) {
+        let Ok(message) = message else {
+            return self.fail();
+        };
+        let finding = Finding {
+            severity,
+            place: Location::Line(line),
+            message,
+        };
+        if self.findings.push(finding).is_err() {
+            self.fail();
+        }
     }
 }

@@ -53,88 +53,82 @@ impl ScriptCheck {
         self.report.go_to(played.number);
         for line in &played.outcome.printed {
             if let PrintedLine::Held(request) = line {
-                self.held.push(HeldRequest {
-                    request: *request,
-                    line: played.number,
-                })?;
+                self.hold(*request, played.number);
             }
         }
-        self.check_line(playing, played)
+        self.check_line(playing, played);
+        self.report.outcome()
     }
 
-    fn check_line(
-        &mut self,
-        playing: &Playing<'_>,
-        played: &PlayedLine<'_>,
-    ) -> Result<(), AllocError> {
+    /// Keeps a request that the line of this number took.
+    fn hold(&mut self, request: u64, line: u64) {
+        if self.held.push(HeldRequest { request, line }).is_err() {
+            self.report.fail();
+        }
+    }
+
+    fn check_line(&mut self, playing: &Playing<'_>, played: &PlayedLine<'_>) {
         let site = playing.machine().site();
         match &played.said {
-            None => Ok(()),
+            None => {}
             Some(Ok(ScriptLine::Text(sent))) => self.check_sent(playing, played, sent),
             Some(Ok(ScriptLine::Hold(sent))) => {
                 let text = LineMessage::held(site, played, sent);
-                check_text(&mut self.report, &mut self.memory, &text)
+                check_text(&mut self.report, &mut self.memory, &text);
             }
             Some(Ok(ScriptLine::Release(number))) => {
                 if played.outcome.is_fault {
-                    return unknown_request(&mut self.report, *number);
+                    unknown_request(&mut self.report, *number);
                 }
-                Ok(())
             }
             Some(Err(fault)) => {
-                let message = mistake_message(&mut self.report, site, played.line, *fault)?;
-                self.report.fault(message)
+                let message = mistake_message(&mut self.report, site, played.line, *fault);
+                self.report.fault(message);
             }
         }
     }
 
     /// Checks the message of a line, and the remote start that ended with it.
-    fn check_sent(
-        &mut self,
-        playing: &Playing<'_>,
-        played: &PlayedLine<'_>,
-        sent: &SentText<'_>,
-    ) -> Result<(), AllocError> {
-        let starts = self.starts.follow(playing, played, sent.point())?;
+    fn check_sent(&mut self, playing: &Playing<'_>, played: &PlayedLine<'_>, sent: &SentText<'_>) {
+        let Ok(starts) = self.starts.follow(playing, played, sent.point()) else {
+            return self.report.fail();
+        };
         let text = LineMessage {
             audit: judged_audit(playing, played, sent.point()),
             replies_to_start: starts.is_reply,
             ..LineMessage::new(playing.machine().site(), played, sent)
         };
-        check_text(&mut self.report, &mut self.memory, &text)?;
-        match &starts.ended {
-            Some(ended) => check_ended_start(&mut self.report, ended),
-            None => Ok(()),
+        check_text(&mut self.report, &mut self.memory, &text);
+        if let Some(ended) = &starts.ended {
+            check_ended_start(&mut self.report, ended);
         }
     }
 
     /// Returns the findings, with a remark for each request still held when the script ends.
     pub fn finish(mut self, held: &[Held]) -> Result<Vec<Finding>, AllocError> {
         for held in held {
-            self.remark_held(held.number)?;
+            self.remark_held(held.number);
         }
-        Ok(self.report.into_findings())
+        self.report.into_findings()
     }
 
     /// Adds a remark on the line that took the request of this number, which is still held.
-    fn remark_held(&mut self, number: u64) -> Result<(), AllocError> {
+    fn remark_held(&mut self, number: u64) {
         for line in &self.held {
             if line.request == number {
                 let message = format!(in self.report.alloc;
                     "request {number} is still held when the script ends, and isn't answered"
-                )?;
-                self.report.remark_at(line.line, message)?;
+                );
+                self.report.remark_at(line.line, message);
             }
         }
-        Ok(())
     }
 }
 
 /// Reports that no request of this number is held.
-fn unknown_request(report: &mut Report, number: u64) -> Result<(), AllocError> {
+fn unknown_request(report: &mut Report, number: u64) {
     let sentence = line_sentence(ScriptLineFault::UnknownRequest);
-    let message = format!(in report.alloc;
+    report.fault(format!(in report.alloc;
         "UnknownRequest: release {number}: {sentence}; a hold line that takes one prints its number"
-    )?;
-    report.fault(message)
+    ));
 }

@@ -40,7 +40,7 @@ pub fn check_sent(alloc: Global, text: &str) -> Result<SentCheck, AllocError> {
         Some(checked) => Ok(checked),
         None => {
             let why = why_dropped(alloc, &mut memory, text, 0)?;
-            nothing_said(alloc, Some(why))
+            Ok(nothing_said(alloc, Some(why)))
         }
     }
 }
@@ -54,7 +54,7 @@ fn check_message(
     match read_frame(memory, text) {
         Ok(frame) => Ok(Some(check_frame(alloc, text, frame)?)),
         // The central system answers this with an error, so it isn't held back as no CALL.
-        Err(FrameFault::Formation { id: _id }) => Ok(Some(nothing_said(alloc, None)?)),
+        Err(FrameFault::Formation { id: _id }) => Ok(Some(nothing_said(alloc, None))),
         Err(FrameFault::Dropped) => Ok(None),
         Err(FrameFault::OutOfMemory) => Err(AllocError),
     }
@@ -72,7 +72,7 @@ fn check_frame(alloc: Global, text: &str, frame: Frame<'_>) -> Result<SentCheck,
         },
         _ => {
             let why = "an operator sends CALLs, which begin with [2,";
-            nothing_said(alloc, Some(String::from_str(alloc, why)?))
+            Ok(nothing_said(alloc, Some(String::from_str(alloc, why)?)))
         }
     }
 }
@@ -92,21 +92,21 @@ pub fn json_break(alloc: Global, text: &str) -> Result<Option<String>, AllocErro
 /// Returns the check of an action that an operator doesn't have.
 fn no_operators_action(alloc: Global, name: &str) -> Result<SentCheck, AllocError> {
     let mut report = Report::new(alloc);
-    refuse_action(&mut report, Side::Operator, name)?;
+    refuse_action(&mut report, Side::Operator, name);
     Ok(SentCheck {
         no_call: None,
-        findings: report.into_findings(),
+        findings: report.into_findings()?,
         clears_by_mistake: false,
     })
 }
 
 /// Returns a check without findings.
-fn nothing_said(alloc: Global, no_call: Option<String>) -> Result<SentCheck, AllocError> {
-    Ok(SentCheck {
+fn nothing_said(alloc: Global, no_call: Option<String>) -> SentCheck {
+    SentCheck {
         no_call,
         findings: Vec::new(alloc),
         clears_by_mistake: false,
-    })
+    }
 }
 
 /// Checks the fields of a CALL.
@@ -117,17 +117,17 @@ fn check_fields(
     payload: Node<'_, '_>,
 ) -> Result<SentCheck, AllocError> {
     let mut report = Report::new(alloc);
-    warn_repeated(&mut report, text, kind)?;
+    warn_repeated(&mut report, text, kind);
     let clears_by_mistake = match read_fields(alloc, kind, payload) {
-        Ok(action) => check_read(&mut report, text, kind, payload, action)?,
+        Ok(action) => check_read(&mut report, text, kind, payload, action),
         Err(fault) => {
-            check_fault(&mut report, text, kind, payload, fault)?;
+            check_fault(&mut report, text, kind, payload, fault);
             false
         }
     };
     Ok(SentCheck {
         no_call: None,
-        findings: report.into_findings(),
+        findings: report.into_findings()?,
         clears_by_mistake,
     })
 }
@@ -139,25 +139,25 @@ fn check_read(
     kind: ActionKind,
     payload: Node<'_, '_>,
     action: Action,
-) -> Result<bool, AllocError> {
+) -> bool {
     match action {
         Action::ClearChargingProfile(criteria) => check_clear(report, text, payload, &criteria),
         Action::SetChargingProfile {
             connector: _connector,
             profile,
         } => {
-            warn_unknown(report, text, kind)?;
-            check_sent_profile(report, profile)?;
-            Ok(false)
+            warn_unknown(report, text, kind);
+            check_sent_profile(report, profile);
+            false
         }
         Action::RemoteStartTransaction(start) => {
-            warn_unknown(report, text, kind)?;
-            check_sent_start(report, start)?;
-            Ok(false)
+            warn_unknown(report, text, kind);
+            check_sent_start(report, start);
+            false
         }
         _action => {
-            warn_unknown(report, text, kind)?;
-            Ok(false)
+            warn_unknown(report, text, kind);
+            false
         }
     }
 }
@@ -169,13 +169,12 @@ fn check_fault(
     kind: ActionKind,
     payload: Node<'_, '_>,
     fault: CallFault,
-) -> Result<(), AllocError> {
+) {
     if matches!(fault, CallFault::Refused(Refusal::OutOfMemory)) {
-        return Err(AllocError);
+        return report.fail();
     }
-    let message = field_fault_message(report.alloc, payload, kind, fault)?;
-    report.fault(message)?;
-    warn_unknown(report, text, kind)
+    report.fault(field_fault_message(report.alloc, payload, kind, fault));
+    warn_unknown(report, text, kind);
 }
 
 /// Warns of a clear. Returns whether it clears everything by mistake.
@@ -185,9 +184,11 @@ fn check_clear(
     text: &str,
     payload: Node<'_, '_>,
     criteria: &Criteria,
-) -> Result<bool, AllocError> {
-    let alloc = report.alloc;
-    let unknown = unknown_fields(alloc, text, ActionKind::ClearChargingProfile)?;
-    warn_of_clear(report, payload, criteria, &unknown)?;
-    Ok(has_no_criterion(criteria) && has_fields(alloc, payload, &unknown)?)
+) -> bool {
+    let Ok(unknown) = unknown_fields(report.alloc, text, ActionKind::ClearChargingProfile) else {
+        report.fail();
+        return false;
+    };
+    warn_of_clear(report, payload, criteria, &unknown);
+    has_no_criterion(criteria) && has_fields(payload, &unknown)
 }

@@ -18,20 +18,16 @@ use std::alloc::{AllocError, Global};
 /// The outcome of reading a message.
 #[derive(Clone, Copy, PartialEq, Eq)]
 enum Reading {
-    /// It is a message, and was checked as one.
+    /// It is a message, and was checked as one, unless an allocation failed.
     Checked,
     /// It is no message.
     Dropped,
 }
 
 /// Checks the message of a line.
-pub(crate) fn check_text(
-    report: &mut Report,
-    memory: &mut ReadingMemory,
-    text: &LineMessage<'_>,
-) -> Result<(), AllocError> {
-    match check_message(report, memory, text)? {
-        Reading::Checked => Ok(()),
+pub(crate) fn check_text(report: &mut Report, memory: &mut ReadingMemory, text: &LineMessage<'_>) {
+    match check_message(report, memory, text) {
+        Reading::Checked => {}
         Reading::Dropped => check_dropped(report, memory, text),
     }
 }
@@ -41,22 +37,18 @@ fn check_message(
     report: &mut Report,
     memory: &mut ReadingMemory,
     text: &LineMessage<'_>,
-) -> Result<Reading, AllocError> {
+) -> Reading {
     match read_frame(memory, text.frame) {
-        Ok(frame) => check_frame(report, text, frame)?,
-        Err(FrameFault::Formation { id: _id }) => check_malformed(report, text)?,
-        Err(FrameFault::Dropped) => return Ok(Reading::Dropped),
-        Err(FrameFault::OutOfMemory) => return Err(AllocError),
+        Ok(frame) => check_frame(report, text, frame),
+        Err(FrameFault::Formation { id: _id }) => check_malformed(report, text),
+        Err(FrameFault::Dropped) => return Reading::Dropped,
+        Err(FrameFault::OutOfMemory) => report.fail(),
     }
-    Ok(Reading::Checked)
+    Reading::Checked
 }
 
 /// Checks a frame.
-fn check_frame(
-    report: &mut Report,
-    text: &LineMessage<'_>,
-    frame: Frame<'_>,
-) -> Result<(), AllocError> {
+fn check_frame(report: &mut Report, text: &LineMessage<'_>, frame: Frame<'_>) {
     match frame {
         Frame::Call {
             action,
@@ -64,12 +56,12 @@ fn check_frame(
             ..
         } => {
             let call = LineCall::new(text, action.as_str(), payload.root());
-            check_call(report, &call)
+            check_call(report, &call);
         }
         _ if text.sender == Sender::Hold => not_composite(report, text, "it is no CALL"),
         Frame::Reply { id, payload } => {
             let status = unaccepted_status(text.replies_to_start, payload.root());
-            check_reply(report, text, id.as_str(), status)
+            check_reply(report, text, id.as_str(), status);
         }
         Frame::Fault { id } => check_reply(report, text, id.as_str(), Some("an error")),
         Frame::Other => report.warn_text(
@@ -112,37 +104,32 @@ fn status_of_start<'memory>(payload: Node<'_, 'memory>) -> Option<&'memory str> 
 
 /// Checks a reply. Warns of a point that doesn't accept the call in flight or isn't in step, and of
 /// an operator's reply. A point's reply that confirms no call is ignored.
-fn check_reply(
-    report: &mut Report,
-    text: &LineMessage<'_>,
-    id: &str,
-    status: Option<&str>,
-) -> Result<(), AllocError> {
+fn check_reply(report: &mut Report, text: &LineMessage<'_>, id: &str, status: Option<&str>) {
     if text.sender != Sender::Point {
         return report.warn_text(
             "an operator's CALLRESULT and CALLERROR are ignored: an operator sends CALLs, which begin with [2,",
         );
     }
-    let alloc = report.alloc;
     if let Some(audit) = &text.audit {
-        if audit.call.to_string(alloc)?.as_str() == id {
+        let Ok(call) = audit.call.to_string(report.alloc) else {
+            return report.fail();
+        };
+        if call.as_str() == id {
             return check_verdict(report, audit);
         }
     }
-    let (true, Some(status)) = (text.confirms_call, status) else {
-        return Ok(());
-    };
-    warn_not_accepted(report, text, id, status)
+    if let (true, Some(status)) = (text.confirms_call, status) {
+        report.warn(not_accepted_message(report.alloc, text, id, status));
+    }
 }
 
-/// Warns that a point doesn't accept the call in flight.
-fn warn_not_accepted(
-    report: &mut Report,
+/// Describes a point that doesn't accept the call in flight.
+fn not_accepted_message(
+    alloc: Global,
     text: &LineMessage<'_>,
     id: &str,
     status: &str,
-) -> Result<(), AllocError> {
-    let alloc = report.alloc;
+) -> Result<String, AllocError> {
     let effect = if text.replies_to_start {
         "it starts no transaction, and the remote start waits no more"
     } else {
@@ -150,50 +137,53 @@ fn warn_not_accepted(
     };
     let id = excerpt(alloc, id)?;
     let status = excerpt(alloc, status)?;
-    let message = format!(in alloc; "the point answers call \"{id}\" with {status}: {effect}")?;
-    report.warn(message)
+    format!(in alloc; "the point answers call \"{id}\" with {status}: {effect}")
 }
 
 /// Reports a `hold` line that is no request for a schedule.
-pub(crate) fn not_composite(
-    report: &mut Report,
-    text: &LineMessage<'_>,
-    why: &str,
-) -> Result<(), AllocError> {
+pub(crate) fn not_composite(report: &mut Report, text: &LineMessage<'_>, why: &str) {
+    report.fault(not_composite_message(report.alloc, text.frame, why));
+}
+
+/// Describes the frame of a `hold` line that is no request for a schedule.
+fn not_composite_message(alloc: Global, frame: &str, why: &str) -> Result<String, AllocError> {
     let fault = ScriptLineFault::NotComposite;
     let rule = line_sentence(fault);
-    let frame = excerpt(report.alloc, text.frame)?;
-    let message = format!(in report.alloc; "{fault}: {rule}, and {why}: {frame}")?;
-    report.fault(message)
+    let frame = excerpt(alloc, frame)?;
+    format!(in alloc; "{fault}: {rule}, and {why}: {frame}")
 }
 
 /// Reports a CALL whose action is no string or whose payload is no object.
-fn check_malformed(report: &mut Report, text: &LineMessage<'_>) -> Result<(), AllocError> {
+fn check_malformed(report: &mut Report, text: &LineMessage<'_>) {
     if text.sender == Sender::Hold {
         return not_composite(report, text, "it is malformed");
     }
+    report.fault(malformed_message(report.alloc, text.frame));
+}
+
+/// Describes a CALL whose action is no string or whose payload is no object.
+fn malformed_message(alloc: Global, frame: &str) -> Result<String, AllocError> {
     let sentence = call_sentence(CallFault::FormationViolation);
-    let frame = excerpt(report.alloc, text.frame)?;
-    let message = format!(in report.alloc; "FormationViolation: {sentence}: {frame}")?;
-    report.fault(message)
+    let frame = excerpt(alloc, frame)?;
+    format!(in alloc; "FormationViolation: {sentence}: {frame}")
 }
 
 /// Reports a frame that is no message.
-fn check_dropped(
-    report: &mut Report,
-    memory: &mut ReadingMemory,
-    text: &LineMessage<'_>,
-) -> Result<(), AllocError> {
+fn check_dropped(report: &mut Report, memory: &mut ReadingMemory, text: &LineMessage<'_>) {
     let before = character_count(text.line).saturating_sub(character_count(text.frame));
-    let why = why_dropped(report.alloc, memory, text.frame, before)?;
+    let Ok(why) = why_dropped(report.alloc, memory, text.frame, before) else {
+        return report.fail();
+    };
     if text.sender == Sender::Hold {
         return not_composite(report, text, why.as_str());
     }
-    let frame = excerpt(report.alloc, text.frame)?;
-    let message = format!(in report.alloc;
-        "this is no message and is discarded without an answer: {why}: {frame}"
-    )?;
-    report.warn(message)
+    report.warn(dropped_message(report.alloc, text.frame, why.as_str()));
+}
+
+/// Describes a frame that is no message.
+fn dropped_message(alloc: Global, frame: &str, why: &str) -> Result<String, AllocError> {
+    let frame = excerpt(alloc, frame)?;
+    format!(in alloc; "this is no message and is discarded without an answer: {why}: {frame}")
 }
 
 /// Describes why a frame is no message. `before` is the number of characters before it in its line.

@@ -4,46 +4,35 @@ use crate::payload_objects::{MAX_DEPTH, PayloadObject};
 use crate::report::Report;
 use messages::{FieldKind, FieldRow};
 use ocppj_frame::{Field, text_field};
-use std::alloc::AllocError;
 
 /// Adds a remark for each instant of a payload without a zone.
 // A local time that counts as UTC shifts a schedule by hours. RFC 3339 requires an offset.
-pub(crate) fn remark_unzoned(
-    report: &mut Report,
-    payload: PayloadObject<'_, '_>,
-) -> Result<(), AllocError> {
+pub(crate) fn remark_unzoned(report: &mut Report, payload: PayloadObject<'_, '_>) {
     let mut object = payload;
     for _ in 0..=MAX_DEPTH {
-        remark_fields(report, object)?;
+        remark_fields(report, object);
         match object.inner() {
             Some((_, inner)) => object = inner,
             None => break,
         }
     }
-    Ok(())
 }
 
-fn remark_fields(report: &mut Report, object: PayloadObject<'_, '_>) -> Result<(), AllocError> {
+fn remark_fields(report: &mut Report, object: PayloadObject<'_, '_>) {
     for row in object.fields {
         if row.kind() == FieldKind::Time {
-            remark_field(report, object, *row)?;
+            remark_field(report, object, *row);
         }
     }
-    Ok(())
 }
 
-fn remark_field(
-    report: &mut Report,
-    object: PayloadObject<'_, '_>,
-    row: FieldRow,
-) -> Result<(), AllocError> {
+fn remark_field(report: &mut Report, object: PayloadObject<'_, '_>, row: FieldRow) {
     let name = row.name().text();
     match text_field(object.node, name) {
         Field::Value(text) if !has_zone(text) => {
-            let message = format!(in report.alloc; "{name} has no zone and counts as UTC")?;
-            report.remark_at(report.line(), message)
+            report.remark(format!(in report.alloc; "{name} has no zone and counts as UTC"));
         }
-        _ => Ok(()),
+        _ => {}
     }
 }
 
