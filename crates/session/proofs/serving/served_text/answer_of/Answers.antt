@@ -7,7 +7,7 @@ returns-then-is_same-clause-outcome g c =
     let books = c.same.ensures.0 c.if-same.true in
     let asks = c.is_same.ensures.0 c.if-is_same.true in
     answered c.args.job c.in-Ok.answer
-    (cc (c.in-Ok.ensures.numbered, c.number-number.ensures))
+    c.in-Ok.ensures.numbered
     (cc (books, c.deref.ensures, c.book.ensures, c.in-Ok-book.ensures))
     (cc (asks, c.ask.ensures, c.ask-then-same.ensures))
     c.in-Ok.ensures.right
