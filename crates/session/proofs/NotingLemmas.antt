@@ -42,13 +42,13 @@ use Rattle.session.proofs.VerdictLemmas.{AreComputed, verdict_leads}
 -- ---- a call on the book is the machine's step
 
 abbrev after : Reply → StoreState → Made
-after event new = record { reply = event; after = new.present }
+after told new = record { reply = told; after = new.present }
 
-made_step : (old new : StoreState) (step : Step) (event : Reply) → Makes old step event new
-    → IsStep old.present step (after event new)
-made_step old new step event (inl adds) = adds.made
-made_step old new step event (inr alone) =
-    subst (λ (s : StoreState). IsStep old.present step (after event s)) (sym alone.kept) alone.made
+made_step : (old new : StoreState) (step : Step) (told : Reply) → Makes old step told new
+    → IsStep old.present step (after told new)
+made_step old new step told (inl adds) = adds.made
+made_step old new step told (inr alone) =
+    subst (λ (s : StoreState). IsStep old.present step (after told s)) (sym alone.kept) alone.made
 
 -- ---- links
 
@@ -63,7 +63,7 @@ attached_made earlier later point entry link old new law at store makes earlier_
   old = old;
   new = new;
   step = steps.Attach point;
-  event = replies.Attached link;
+  told = replies.Attached link;
   store = store;
   makes = makes;
   leads = law old.present at.0 point link (after (replies.Attached link) new)
@@ -103,7 +103,7 @@ sent_made earlier later moment point link entry call old new law entry_is store 
   old = old;
   new = new;
   step = steps.Send point link;
-  event = replies.Sent call;
+  told = replies.Sent call;
   store = store;
   makes = makes;
   leads = law old.present moment point link call (after (replies.Sent call) new)
@@ -145,7 +145,7 @@ lost_made earlier later point link entry old new law at store makes earlier_is l
   old = old;
   new = new;
   step = steps.Lost point link;
-  event = replies.LinkLost;
+  told = replies.LinkLost;
   store = store;
   makes = makes;
   leads = law old.present at.0 point link (after replies.LinkLost new)
@@ -218,7 +218,7 @@ verdict_noted earlier later text short moment there point call frame judged mayb
       old = old;
       new = new;
       step = steps.Judge point call judged;
-      event = replies.VerdictKept;
+      told = replies.VerdictKept;
       store = subst IsStore (sym locked_is) store;
       makes = makes;
       leads = subst (λ p. LeadsTo old.present (line_at moment p (kinds.verdict call frame))
@@ -278,13 +278,13 @@ prepared text maybe step found noted moment point result asks step_is by found_i
     IsEntryOf e (line_at moment p (noted_state noted))))) point_is entry_is)))
 
 -- a change is performed as itself, and noted with its message
-performs_makes : (old : StoreState) (was : PassState) (step : Step) (event : Reply)
+performs_makes : (old : StoreState) (was : PassState) (step : Step) (told : Reply)
     (new : StoreState) (pass : PassState) → is_change step ≡ true
-    → Performs old was step (Outcome (outcomes.Made event)) new pass → Makes old step event new
-performs_makes old was (steps.Take take) event new pass change performs = absurd performs
-performs_makes old was (steps.Confirm point link call accepted) event new pass change performs =
+    → Performs old was step (Outcome (outcomes.Made told)) new pass → Makes old step told new
+performs_makes old was (steps.Take take) told new pass change performs = absurd performs
+performs_makes old was (steps.Confirm point link call accepted) told new pass change performs =
     absurd (cc)
-performs_makes old was step event new pass change performs = performs.makes
+performs_makes old was step told new pass change performs = performs.makes
 
 noted_message : (step : Step) (side : Side) (frame : List ℕ) (noted : NotedState)
     → is_confirm step ≡ false → noted_by step side frame ≡ Some noted
@@ -304,27 +304,27 @@ asks_by_a_call text (steps.Confirm point link call accepted) is asks = absurd (c
 asks_by_a_call text step is asks = asks
 
 change_made : (earlier later : MachineState → Type 0)
-    (entry : EntryState) (event : Reply) (new : StoreState) (number : ℕ)
-    → ChangesAreRestored → IsNotable entry false (Outcome (outcomes.Made event)) earlier new
-    → number_drawn event new.present.numbers.version ≡ Some number → later new.present
+    (entry : EntryState) (told : Reply) (new : StoreState) (number : ℕ)
+    → ChangesAreRestored → IsNotable entry false (Outcome (outcomes.Made told)) earlier new
+    → number_drawn told new.present.numbers.version ≡ Some number → later new.present
     → IsOfMadeStep entry number earlier later
-change_made earlier later entry event new number law notable drawn later_is =
+change_made earlier later entry told new number law notable drawn later_is =
     let it = notable.entry_is in
     let no_confirm = sym notable.confirms_is in
     let noted = noted_message notable.step it.text.sender it.text.frame it.noted no_confirm it.noted_is in
     let asks = asks_by_a_call it.text notable.step no_confirm it.asks in
-    let makes = performs_makes notable.old notable.was notable.step event new notable.pass noted.0 notable.performs in
+    let makes = performs_makes notable.old notable.was notable.step told new notable.pass noted.0 notable.performs in
     record {
       line = line_at it.text.moment it.text.point (kinds.message it.text.sender 0 it.text.frame);
       entry_is = subst (λ n. IsEntryOf entry (line_at it.text.moment it.text.point n)) (sym noted.1) it.entry_is;
       old = notable.old;
       new = new;
       step = notable.step;
-      event = event;
+      told = told;
       store = notable.store;
       makes = makes;
-      leads = law notable.old.present it.text asks.0 asks.1 notable.step (after event new) number
-          asks.2 noted.0 (made_step notable.old new notable.step event makes) drawn;
+      leads = law notable.old.present it.text asks.0 asks.1 notable.step (after told new) number
+          asks.2 noted.0 (made_step notable.old new notable.step told makes) drawn;
       was_before = notable.was_before;
       is_after = later_is;
     }
@@ -337,14 +337,14 @@ AreNotable maybe confirms performed earlier new =
 
 pub change_noted : (earlier later : MachineState → Type 0)
     (maybe : Option EntryState) (entry : EntryState) (confirms : Bool)
-    (performed : Performed) (event : Reply) (new : StoreState) (number : ℕ)
+    (performed : Performed) (told : Reply) (new : StoreState) (number : ℕ)
     → ChangesAreRestored → AreNotable maybe confirms performed earlier new
-    → maybe ≡ Some entry → confirms ≡ false → performed ≡ Outcome (outcomes.Made event)
-    → number_drawn event new.present.numbers.version ≡ Some number → later new.present
+    → maybe ≡ Some entry → confirms ≡ false → performed ≡ Outcome (outcomes.Made told)
+    → number_drawn told new.present.numbers.version ≡ Some number → later new.present
     → IsOfMadeStep entry number earlier later
-change_noted earlier later maybe entry confirms performed event new number law notable entry_is
+change_noted earlier later maybe entry confirms performed told new number law notable entry_is
     confirms_is performed_is drawn later_is =
-    change_made earlier later entry event new number law
+    change_made earlier later entry told new number law
     (subst (λ (p : Performed). IsNotable entry false p earlier new) performed_is
     (subst (λ b. IsNotable entry b performed earlier new) confirms_is
     (subst (λ (m : Option EntryState). AreNotable m confirms performed earlier new) entry_is
@@ -353,12 +353,12 @@ change_noted earlier later maybe entry confirms performed event new number law n
 
 -- a Confirm is performed as itself, and noted with its reply
 confirm_made : (earlier later : MachineState → Type 0)
-    (step : Step) (entry : EntryState) (event : Reply) (old new : StoreState)
+    (step : Step) (entry : EntryState) (told : Reply) (old new : StoreState)
     (was pass : PassState) → ConfirmsAreRestored → IsEntryToNote step entry
     → is_confirm step ≡ true → IsStore old
-    → Performs old was step (Outcome (outcomes.Made event)) new pass → earlier old.present → later new.present
+    → Performs old was step (Outcome (outcomes.Made told)) new pass → earlier old.present → later new.present
     → IsOfMadeStep entry 0 earlier later
-confirm_made earlier later (steps.Confirm point link call accepted) entry event old new was pass law it
+confirm_made earlier later (steps.Confirm point link call accepted) entry told old new was pass law it
     is store performs earlier_is later_is =
     let own = it.asks.1 in
     let same : it.noted ≡ kinds.reply link it.text.frame = cc (it.noted_is) in
@@ -368,31 +368,31 @@ confirm_made earlier later (steps.Confirm point link call accepted) entry event 
       old = old;
       new = new;
       step = steps.Confirm point link call accepted;
-      event = event;
+      told = told;
       store = store;
       makes = performs.0;
-      leads = law old.present it.text link call accepted (after event new) it.asks.0
+      leads = law old.present it.text link call accepted (after told new) it.asks.0
           (subst (λ p. asked_of it.text ≡ asked.Confirm p call accepted) own it.asks.2)
-          (subst (λ p. IsStep old.present (steps.Confirm p link call accepted) (after event new)) own
-          (made_step old new (steps.Confirm point link call accepted) event performs.0));
+          (subst (λ p. IsStep old.present (steps.Confirm p link call accepted) (after told new)) own
+          (made_step old new (steps.Confirm point link call accepted) told performs.0));
       was_before = earlier_is;
       is_after = later_is;
     }
-confirm_made earlier later step entry event old new was pass law it is store performs earlier_is
+confirm_made earlier later step entry told old new was pass law it is store performs earlier_is
     later_is = absurd (cc)
 
 pub confirm_noted : (earlier later : MachineState → Type 0)
     (maybe : Option EntryState) (entry : EntryState) (confirms : Bool)
-    (performed : Performed) (event : Reply) (new : StoreState)
+    (performed : Performed) (told : Reply) (new : StoreState)
     → ConfirmsAreRestored → AreNotable maybe confirms performed earlier new
-    → maybe ≡ Some entry → confirms ≡ true → performed ≡ Outcome (outcomes.Made event)
+    → maybe ≡ Some entry → confirms ≡ true → performed ≡ Outcome (outcomes.Made told)
     → later new.present
     → IsOfMadeStep entry 0 earlier later
-confirm_noted earlier later maybe entry confirms performed event new law notable entry_is confirms_is
+confirm_noted earlier later maybe entry confirms performed told new law notable entry_is confirms_is
     performed_is later_is =
     let it = subst (λ (p : Performed). IsNotable entry true p earlier new) performed_is
     (subst (λ b. IsNotable entry b performed earlier new) confirms_is
     (subst (λ (m : Option EntryState). AreNotable m confirms performed earlier new) entry_is
     notable)) in
-    confirm_made earlier later it.step entry event it.old new it.was it.pass law it.entry_is
+    confirm_made earlier later it.step entry told it.old new it.was it.pass law it.entry_is
     (sym it.confirms_is) it.store it.performs it.was_before later_is
