@@ -7,7 +7,7 @@ crates done of all, minutes of wall time and of processors, and what is at work.
 The table at the end has a row for each crate: processor minutes of its proof, of its tests' proof and of its must-fail
 edits, and of the edits how many there are. It is got by looking twice a second at the prover's processes below the
 command, so a figure may be a second short for each process. Machines differ, so the sum is also told by the clock on
-which the proof of `transactions` takes half a minute, if that was proved in this run.
+which the proof of `transactions` takes CLOCK minutes, if that was proved in this run.
 
 Ends with the command's own status, or with 1 where that is 0, every crate was proved in this run, nothing was kept from
 an earlier one, and the sum by that clock is above MOST.
@@ -23,9 +23,11 @@ import time
 # Processor minutes from nothing, by that clock. CI ends a run at 180 minutes, perhaps on two cores on which `transactions`
 # takes three times as long: 95 x 3 / 2 are 143 minutes, and the rest is for empty lanes and for the tests behind the gate.
 BUDGET = 95
-# The gate is above the budget still: partial runs of 2026-11-30 sum up to some 118. A run above this fails.
-MOST = 130
-CLOCK = 0.5
+# A run above this fails.
+MOST = 1.2 * BUDGET
+# The proof of `transactions` took 0.5 on this clock before its derived Debugs went, and takes 0.44 since: of two pairs of
+# checks, each pair one behind the other, those with them took 79 and 48 seconds, and those without 69 and 43.
+CLOCK = 0.44
 
 CRATES = os.listdir(os.path.join(os.path.dirname(os.path.dirname(os.path.abspath(__file__))), "crates"))
 TICKS = os.sysconf("SC_CLK_TCK")
@@ -184,7 +186,7 @@ def status_by_clock(heard, spent, together):
     told = f"here it took {clock:.2f} ({kind}; the budget is {BUDGET})"
     print(f"{by_clock:.1f} by the clock on which `transactions` takes {CLOCK}: {told}")
     if is_above:
-        print(f"FAILED: a run from nothing may take {MOST}: docs/WORKING.md says what keeps the gate cheap")
+        print(f"FAILED: a run from nothing may take {MOST:.1f}: docs/WORKING.md says what keeps the gate cheap")
     return int(is_above)
 
 
