@@ -183,7 +183,7 @@ fn run_admitted<C: Ledger, A: Ledger, R: Wait + Clock, J: Journal<N>, N: ListNam
     let Some(share) = socket.get_ref().share() else {
         return pass;
     };
-    if claim_link(context, &mut core, &mut pass).is_err() {
+    if claim_link(&*context, &mut core, &mut pass).is_err() {
         let _ = socket.close(None);
         return pass;
     }
