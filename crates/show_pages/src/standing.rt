@@ -209,15 +209,14 @@ fn push_profiles(page: &mut Page, book: &PointBook) {
     }
     let mut table = Table::new(page.allocator(), &PROFILE_HEADINGS);
     for row in rows {
-        let started = book.view().active_since(row.connector as usize);
-        push_profile(&mut table, page.allocator(), row, started);
+        push_profile(&mut table, page.allocator(), book, row);
     }
     page.push_str("  profiles\n");
     table.push_to(page, 4);
 }
 
-/// Appends the row of a profile whose connector's transaction started at this moment.
-fn push_profile(table: &mut Table, alloc: Global, row: &Row, started: Option<Instant>) {
+/// Appends the row of a profile of a point.
+fn push_profile(table: &mut Table, alloc: Global, book: &PointBook, row: &Row) {
     let profile = &row.profile;
     table.begin_row();
     table.cell(profile.id);
@@ -225,9 +224,14 @@ fn push_profile(table: &mut Table, alloc: Global, row: &Row, started: Option<Ins
     table.cell(purpose_name(profile.purpose));
     table.cell(profile.stack_level);
     table.made_cell(kind_text(alloc, profile.kind));
-    table.made_cell(from_text(alloc, row, started));
-    table.made_cell(until_text(alloc, row, started));
+    table.made_cell(from_text(alloc, row, started_at(book, row)));
+    table.made_cell(until_text(alloc, row, started_at(book, row)));
     table.made_cell(periods_text(alloc, profile));
+}
+
+/// Returns the start of the active transaction at the connector of a row, if there is one.
+fn started_at(book: &PointBook, row: &Row) -> Option<Instant> {
+    book.view().active_since(row.connector as usize)
 }
 
 /// Appends the numbers of calls that are confirmed, in flight and waiting.
