@@ -73,9 +73,10 @@ fn push_points(page: &mut Page, points: &[Value<'_>]) {
 /// Appends the row of a point.
 fn push_row(table: &mut Table, alloc: Global, point: &Value<'_>) {
     table.begin_row();
-    for key in ["id", "connectedSince", "lastText", "booted"] {
-        table.cell(text_in(point, key).unwrap_or(NONE));
-    }
+    table.cell(text_in(point, "id").unwrap_or(NONE));
+    table.cell(text_in(point, "connectedSince").unwrap_or(NONE));
+    table.cell(text_in(point, "lastText").unwrap_or(NONE));
+    table.cell(text_in(point, "booted").unwrap_or(NONE));
     table.cell(number_in(point, "confirmed").unwrap_or(NONE));
     table.cell(text_in(point, "inFlightSince").unwrap_or(NONE));
     table.cell(number_in(point, "waiting").unwrap_or(NONE));
