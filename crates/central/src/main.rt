@@ -86,16 +86,35 @@ fn do_job<
             print_journal(rt, folder)?;
             Ok(0)
         }
-        Ok(Job::Key(making)) => make_key(rt, making).map(|()| 0),
-        Ok(Job::Serve(serving)) => serve_file(rt, serving).map(|()| 0),
-        // Without `--site` no site file is read, so nothing is named.
-        Ok(Job::Call(calling)) => naming(rt, calling.site.unwrap_or(""), call_site(rt, calling)),
-        Ok(Job::Point(pointing)) => naming(rt, pointing.site, run_point(rt, pointing)),
-        Ok(Job::Explain(explaining)) => {
-            naming(rt, explaining.site, explain_file(rt, screen, explaining))
+        Ok(Job::Key(making)) => {
+            make_key(rt, making)?;
+            Ok(0)
         }
-        Ok(Job::Check(checking)) => naming(rt, checking.site, check_file(rt, checking)),
-        Ok(Job::Show(showing)) => naming(rt, showing.site, show_file(rt, showing)),
+        Ok(Job::Serve(serving)) => {
+            serve_file(rt, serving)?;
+            Ok(0)
+        }
+        // Without `--site` no site file is read, so nothing is named.
+        Ok(Job::Call(calling)) => {
+            let status = call_site(rt, calling);
+            naming(rt, calling.site.unwrap_or(""), status)
+        }
+        Ok(Job::Point(pointing)) => {
+            let status = run_point(rt, pointing);
+            naming(rt, pointing.site, status)
+        }
+        Ok(Job::Explain(explaining)) => {
+            let status = explain_file(rt, screen, explaining);
+            naming(rt, explaining.site, status)
+        }
+        Ok(Job::Check(checking)) => {
+            let status = check_file(rt, checking);
+            naming(rt, checking.site, status)
+        }
+        Ok(Job::Show(showing)) => {
+            let status = show_file(rt, showing);
+            naming(rt, showing.site, status)
+        }
         Err(error) => refuse(rt, error),
     }
 }
