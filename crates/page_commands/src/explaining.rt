@@ -52,36 +52,27 @@ pub fn explain_file<R: Files<File = File> + Input + Print + Eprint + Clock + All
         zone,
         shifts: shifts.as_slice(),
     };
-    explain_source(rt, presentation, end, (site, digest), &ask)
-}
-
-/// Explains the state of a point after the script or the journal that the options name. Returns the
-/// exit status.
-fn explain_source<R: Files<File = File> + Input + Print + Eprint + Clock + AllocGlobal>(
-    rt: &R,
-    presentation: Presentation<'_>,
-    end: ScriptEnd,
-    (site, digest): (Site, [u8; 32]),
-    ask: &Ask,
-) -> Result<u8, ProgramFault> {
-    let Source::Journal(folder) = presentation.explaining.source else {
-        return explain_script(rt, presentation, end, site, ask);
+    let Source::Journal(folder) = explaining.source else {
+        return explain_script(rt, presentation, end, site, &ask);
     };
-    let point = presentation.explaining.point;
     let following = FollowRequest {
         site,
         digest,
         folder,
         end,
-        point,
+        point: explaining.point,
         counted_from: Some(ask.start),
         is_quiet: false,
     };
     let followed = follow_journal(rt, following)?;
-    note_later_changes(rt, point, ask.start, followed.changes())?;
-    let unconfirmed = followed.unconfirmed_of(point);
-    say_unconfirmed(rt, point, unconfirmed, followed.waiting_since())?;
-    print_explained(rt, presentation, followed.machine(), ask)?;
+    note_later_changes(rt, explaining.point, start, followed.changes())?;
+    say_unconfirmed(
+        rt,
+        explaining.point,
+        followed.unconfirmed_of(explaining.point),
+        followed.waiting_since(),
+    )?;
+    print_explained(rt, presentation, followed.machine(), &ask)?;
     Ok(page_status(followed.is_as_wanted()))
 }
 
