@@ -21,7 +21,8 @@ abbrev pub after_sync : History → Bool → History
 after_sync history true = changed history (only_synced (file_of history.now))
 after_sync history false = changed history (failed history.now)
 
--- during a cut to a length, before it is synced: the bytes cut off may still be there, or a part of them
+-- during a cut to a length, before it is synced: the bytes cut off may still be there, or a part of
+-- them
 abbrev pub being_cut : ℕ → Contents → Contents
 being_cut end contents = record { synced = take end (file_of contents); appended = drop end (file_of contents); has_failed = false }
 

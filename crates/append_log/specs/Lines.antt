@@ -7,7 +7,8 @@ use Rattle.append_log.specs.Contents.{IsFirstPart}
 abbrev pub line_feed : ℕ
 line_feed = 10
 
--- A byte in front of the whole lines behind it. It belongs to them if there are any, or if it is a line feed.
+-- A byte in front of the whole lines behind it. It belongs to them if there are any, or if it is a
+-- line feed.
 abbrev pub before : ℕ → List ℕ → List ℕ
 before byte [] = if byte == line_feed then byte ∷ [] else []
 before byte (next ∷ rest) = byte ∷ next ∷ rest

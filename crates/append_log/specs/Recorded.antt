@@ -1,4 +1,5 @@
--- The contents of a file of the operating system, now and before, according to the noted calls. They exist only in proofs.
+-- The contents of a file of the operating system, now and before, according to the noted calls.
+-- They exist only in proofs.
 use Rattle.std.specs.Prelude.{ℕ, zero, suc, ◌≡◌, true, false, List, [], ◌∷◌, length, take, slice_index, replicate, refl}
 use Rattle.std.proofs.Common.{sym, ◌∙◌, ap}
 use Rattle.std.proofs.lemmas.List.{length-replicate}
@@ -7,8 +8,8 @@ use Rattle.append_log.specs.History.{History, changed, refused}
 use Rattle.append_log.specs.AppendedFile.{after_cut, after_sync}
 use Rattle.append_log.specs.Lines.{line_feed, before, whole_lines}
 
--- A file that was just opened. Only the length of its whole lines is known: the equation is unfolded
--- only in this file.
+-- A file that was just opened. Only the length of its whole lines is known: the equation is
+-- unfolded only in this file.
 pub opened : ℕ → History
 opened end = record { now = record { synced = []; appended = replicate end line_feed; has_failed = false }; past = []; refusals = 0 }
 

@@ -1,5 +1,5 @@
--- The most work of a request for a schedule: how often the limits of the profiles that its compilation
--- reads can change (OCPP 1.6, 5.7).
+-- The most work of a request for a schedule: how often the limits of the profiles that its
+-- compilation reads can change (OCPP 1.6, 5.7).
 use Rattle.std.specs.Prelude.{ℕ, ◌≤◌, ◌+◌, ◌*◌, ◌/◌, ◌==◌, ◌||◌, Option, List, length, sum_by, count_by, is_some, if◌then◌else◌}
 use Rattle.profile.specs.Kind.{recurrence_length}
 use Rattle.profile.specs.declared.kind.Kind.{Kind}
@@ -20,8 +20,8 @@ turns_within Absolute duration = 1
 turns_within (Recurring recurrency) duration = duration / recurrence_length recurrency + 1
 turns_within Relative duration = 1
 
--- A profile's limit can change at the start of its schedule, at the start of a period and at the end of its
--- duration, each time around, and at its validFrom and validTo (OCPP 1.6, chapter 7).
+-- A profile's limit can change at the start of its schedule, at the start of a period and at the
+-- end of its duration, each time around, and at its validFrom and validTo (OCPP 1.6, chapter 7).
 abbrev pub changes_of : Row → ℕ → ℕ
 changes_of row duration =
     (length row.profile.schedule.periods + 2) * turns_within row.profile.kind duration + 2
@@ -30,8 +30,9 @@ changes_of row duration =
 abbrev pub active_count : List (Option ℕ) → ℕ
 active_count starts = count_by is_some starts
 
--- How many limits may read a row at a connector. A row at connector 0 is read for the point's limit, and for
--- each connector whose limit is needed: for the whole point those with an active transaction.
+-- How many limits may read a row at a connector. A row at connector 0 is read for the point's
+-- limit, and for each connector whose limit is needed: for the whole point those with an active
+-- transaction.
 abbrev pub looks_at : ℕ → ℕ → ℕ → ℕ
 looks_at active asked connector =
     if connector == 0

@@ -1,5 +1,5 @@
--- The seconds of a duration, by the text of an option: a whole number of seconds, or one with a unit,
--- or days, hours, minutes and seconds as ISO 8601-1 writes them (section 5.5.2.2).
+-- The seconds of a duration, by the text of an option: a whole number of seconds, or one with a
+-- unit, or days, hours, minutes and seconds as ISO 8601-1 writes them (section 5.5.2.2).
 use Rattle.std.specs.Prelude.{ℕ, ◌+◌, ◌-◌, ◌*◌, ◌==◌, ◌||◌, ◌&&◌, not, nat_le, if◌then◌else◌, List, [], ◌∷◌, Option, Some, None, option_map}
 use Rattle.std.specs.Char.{is_ascii_digit}
 use Rattle.meaning.specs.Limits.{max_duration}

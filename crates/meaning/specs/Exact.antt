@@ -9,8 +9,8 @@ Change [] = Unit {0}
 Change (p ∷ []) = Unit {0}
 Change (p ∷ (q ∷ ps)) = (p.limit ≢ q.limit) × Change (q ∷ ps)
 
--- Periods are exact for a limit over a number of seconds: they make a schedule, their limit changes at each
--- start, and they give the limit at every second.
+-- Periods are exact for a limit over a number of seconds: they make a schedule, their limit changes
+-- at each start, and they give the limit at every second.
 pub record IsExact (limit : ℕ → ℕ) (duration : ℕ) (periods : List CompositePeriod) : Type 0 where
   pub schedule : IsSchedule duration periods
   pub change : Change periods

@@ -32,7 +32,8 @@ abbrev pub lacks_transaction : PointState → ℕ → Row → Bool
 lacks_transaction state connector row =
     is_tx row.profile.purpose && not (is_some (active_since state connector))
 
--- a TxDefaultProfile at connector 0 is hidden for a connector with one of its level (this system's choice)
+-- a TxDefaultProfile at connector 0 is hidden for a connector with one of its level (this system's
+-- choice)
 abbrev pub is_hidden : PointState → ℕ → Row → Bool
 is_hidden state connector row =
     is_tx_default row.profile.purpose && not (row.connector == connector)

@@ -39,7 +39,8 @@ IsClock hour minute = (hour < 24) × (minute < 60)
 abbrev pub clock_seconds : ℕ → ℕ → ℕ
 clock_seconds hour minute = (hour * 60 + minute) * 60
 
--- an offset from UTC in seconds, and its text: `Z`, `z`, `+hh:mm`, `-hh:mm` or nothing, which is UTC
+-- an offset from UTC in seconds, and its text: `Z`, `z`, `+hh:mm`, `-hh:mm` or nothing, which is
+-- UTC
 pub data IsOffset : ℤ → List ℕ → Type 0 where
   no_offset : IsOffset (pos 0) []
   capital_z : IsOffset (pos 0) (upper_z ∷ [])

@@ -1,8 +1,8 @@
 -- The limits of scalars, each with its source.
 use Rattle.std.specs.Prelude.{ℕ}
 
--- the last second of the year 9999, in seconds since 1970-01-01T00:00:00Z: a year has four digits (RFC 3339,
--- section 5.6)
+-- the last second of the year 9999, in seconds since 1970-01-01T00:00:00Z: a year has four digits
+-- (RFC 3339, section 5.6)
 abbrev pub last_second : ℕ
 last_second = 253_402_300_799
 

@@ -16,8 +16,8 @@ named point = (point.id, true)
 abbrev pub all_points : SiteState → List (List ℕ × Bool)
 all_points site = map named site.points
 
--- the visit to a point by a URL that may name a point: none if it names another one; lines about the
--- point begin with its identity if the URL doesn't name it
+-- the visit to a point by a URL that may name a point: none if it names another one; lines about
+-- the point begin with its identity if the URL doesn't name it
 abbrev pub visit_to : Option (List ℕ) → List ℕ → Option (List ℕ × Bool)
 visit_to None id = Some (id, true)
 visit_to (Some named) id = if bytes_eq named id then Some (id, false) else None

@@ -47,16 +47,16 @@ abbrev pub reply_noted : Bool → List ℕ → List ℕ
 reply_noted false frame = frame
 reply_noted true frame = unread_reply
 
--- The verdict is the one on that reply, so a restore comes to the same one. On a reply that reads as
--- no schedule it is Unsettled.
+-- The verdict is the one on that reply, so a restore comes to the same one. On a reply that reads
+-- as no schedule it is Unsettled.
 abbrev pub IsVerdictNoted : Sent → Judgement → Bool → Type 0
 IsVerdictNoted text judged false = IsVerdict judged.audit (said_of text) judged.verdict
 IsVerdictNoted text judged true = judged.verdict ≡ Unsettled
 
 -- ---- the Judge step of a verdict
 
--- a Judge is made, or refused: the audit was replaced or judged meanwhile, the store was stopped, or
--- memory ran out
+-- a Judge is made, or refused: the audit was replaced or judged meanwhile, the store was stopped,
+-- or memory ran out
 abbrev pub MakesOrRefuses : StoreState → Step → StoreState → Type 0
 MakesOrRefuses old judge new =
     Makes old judge VerdictKept new

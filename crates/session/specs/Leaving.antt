@@ -24,8 +24,8 @@ pub record IsSentCall (is_recorded : Bool) (point : List ℕ) (link : ℕ) (call
   pub makes : Makes old (steps.Send point link) (replies.Sent call) new
   pub is_seen : IsAt is_recorded seen new.present
 
--- A message is the answer to a message of a session, with the states recorded by its step, if it has
--- one. Or it is a call that was sent.
+-- A message is the answer to a message of a session, with the states recorded by its step, if it
+-- has one. Or it is a call that was sent.
 pub data IsAnswerOrCall : Bool → List ℕ → Option (List MachineState) → Type 0 where
   of_answer : (is_recorded : Bool) (session : SessionState) (was : PassState) (text : Sent)
       (answer : List ℕ) (seen : Option (List MachineState))

@@ -39,8 +39,9 @@ abbrev pub ComesTo : Performed → Outcome → Type 0
 ComesTo (performs.Job job) outcome = IsOutcomeOfJob job outcome
 ComesTo (performs.Outcome made) outcome = outcome ≡ made
 
--- The one call on the book that makes a step was made while the session had the lock. The audit that
--- the step replies to, if it does, was read just before. The record ended with the state after it.
+-- The one call on the book that makes a step was made while the session had the lock. The audit
+-- that the step replies to, if it does, was read just before. The record ended with the state after
+-- it.
 pub record IsPerformed (was : PassState) (seen : MachineState → Type 0) (step : Step)
     (performed : Performed) (audit : Option OpenAudit) : Type 0 where
   pub old : StoreState

@@ -1,5 +1,6 @@
 -- Laws of audits along every history. Each is compared with the book that its point had when it was
--- begun, and each verdict is Unsettled, or one on that book and a reply that the point may have sent.
+-- begun, and each verdict is Unsettled, or one on that book and a reply that the point may have
+-- sent.
 use Rattle.std.specs.Prelude.{ℕ, ◌≡◌, ◌⊎◌, Bool, List, ◌∷◌, ◌++◌, Option, Some, IfSome}
 use Rattle.std.specs.List.{AllByRecursion}
 use Rattle.site_rules.specs.Site.{place_of}

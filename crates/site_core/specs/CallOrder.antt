@@ -273,11 +273,10 @@ EachCallHasItsMoment =
     → (number : ℕ) → number ≤ length (accepted site place history)
     → Moment (opening_at site numbers) history state place number
 
--- A point with any rows obeys calls in the order of sending. Its lasting rows are then those that the
--- machine had for it at a moment of the last of these calls, whatever came later, unless a
--- transaction began there with a profile of its own.
--- The moments of call k begin when the k-th call was added, whatever its action, and end at the next
--- one. Those of call 0 come before the first.
+-- A point with any rows obeys calls in the order of sending. Its lasting rows are then those that
+-- the machine had for it at a moment of the last of these calls, whatever came later, unless a
+-- transaction began there with a profile of its own. The moments of call k begin when the k-th call
+-- was added, whatever its action, and end at the next one. Those of call 0 come before the first.
 abbrev pub PointsStayInStep : Type 0
 PointsStayInStep =
     (site : SiteState) (numbers : Numbers) (history : List Event) (state : MachineState)
@@ -305,10 +304,10 @@ CallsAreObeyedInOrder = OfEachPoint (λ site place history state.
     (calls_confirmed_at site place history)
     → AreInSendingOrder (numbers_obeyed_at site place history are_obeyed))
 
--- The same of a point that obeys the calls sent to it, in the order of the sendings. Any of them may
--- be lost, but it obeys each confirmed call at least once. Its lasting rows are then those that the
--- machine had for it at a moment of the last call that it obeyed, unless a transaction began there
--- with a profile of its own.
+-- The same of a point that obeys the calls sent to it, in the order of the sendings. Any of them
+-- may be lost, but it obeys each confirmed call at least once. Its lasting rows are then those that
+-- the machine had for it at a moment of the last call that it obeyed, unless a transaction began
+-- there with a profile of its own.
 abbrev pub ObeyingPointsStayInStep : Type 0
 ObeyingPointsStayInStep =
     (site : SiteState) (numbers : Numbers) (history : List Event) (state : MachineState)

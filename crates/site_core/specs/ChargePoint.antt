@@ -42,8 +42,8 @@ opening_point point =
 
 -- ---- the effect of a step at a point
 
--- A deed determines everything about the effect of a step at its point: the point after it, the call
--- to the point, and the laws over histories.
+-- A deed determines everything about the effect of a step at its point: the point after it, the
+-- call to the point, and the laws over histories.
 pub data Deed : Type 0 where
   -- a profile is installed, and the point is called to install it (OCPP 1.6, 5.16)
   Installs : (row : Row) → Deed
@@ -62,8 +62,8 @@ pub data Deed : Type 0 where
   Sends : Deed
   -- the point has replied to the call of a number, and says whether it accepts
   Confirms : (number : ℕ) (accepted : Bool) → Deed
-  -- the point is called for its schedule of a connector over `duration` seconds (OCPP 1.6, 5.7), and
-  -- its present book is kept
+  -- the point is called for its schedule of a connector over `duration` seconds (OCPP 1.6, 5.7),
+  -- and its present book is kept
   Audits : (connector duration : ℕ) (unit : Unit) → Deed
   -- its reply to that call gets this verdict
   Judges : (verdict : Verdict) → Deed
@@ -101,8 +101,8 @@ transactions_after active (Audits connector duration unit) = active
 transactions_after active (Judges verdict) = active
 transactions_after active (RemoteStarts connector id_tag profile) = active
 
--- The traffic of its outbox: a call that is added, or a change of its link or of the first call. The
--- point itself knows that a transaction begins or ends.
+-- The traffic of its outbox: a call that is added, or a change of its link or of the first call.
+-- The point itself knows that a transaction begins or ends.
 abbrev pub traffic_of : Deed → Option Traffic
 traffic_of (Installs row) = Some (Add (bodies.Set row.connector row.profile))
 traffic_of (Clears criteria) = Some (Add (bodies.Clear criteria))

@@ -97,8 +97,8 @@ Origin old events number book ask =
 abbrev pub HasItsBook : MachineState → List Event → Kept → Type 0
 HasItsBook old events kept = Origin old events kept.number kept.book kept.ask
 
--- An answer to a request that was kept before is right for it, and Stopped only if the central system
--- was stopped before, or since.
+-- An answer to a request that was kept before is right for it, and Stopped only if the central
+-- system was stopped before, or since.
 pub record IsRightBefore (old : MachineState) (events : List Event) (number : ℕ)
     (book : BookState) (ask : Ask) (answer : ScheduleAnswer) : Type 0 where
   pub before : IsKeptBefore old events number book ask
@@ -109,7 +109,8 @@ pub record IsRightBefore (old : MachineState) (events : List Event) (number : �
 abbrev pub OpeningsKeepRight : Type 0
 OpeningsKeepRight = (site : SiteState) (numbers : Numbers) → KeepsRight (opening_at site numbers)
 
--- from a state in which all kept requests are right, every legal history leads to another such state
+-- from a state in which all kept requests are right, every legal history leads to another such
+-- state
 abbrev pub RequestsStayRight : Type 0
 RequestsStayRight =
     (old : MachineState) (events : List Event) (new : MachineState)

@@ -68,8 +68,8 @@ abbrev pub BeginsAlone : Deed → Type 0
 BeginsAlone (Starts connector begin number profile) = profile ≡ None
 BeginsAlone deed = Unit {0}
 
--- A point with any rows obeys calls in the order of sending. Its lasting rows are then those that the
--- central system, which began with none, had after the last of these calls.
+-- A point with any rows obeys calls in the order of sending. Its lasting rows are then those that
+-- the central system, which began with none, had after the last of these calls.
 abbrev pub StaysInStep : Type 0
 StaysInStep =
     (deeds : List Deed) (first : Obeying) (later : List Obeying) (rows : List Row)

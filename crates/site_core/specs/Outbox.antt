@@ -1,5 +1,5 @@
--- The calls of the central system to a charge point, and their changes. A call is sent again until it
--- is confirmed, and the next one only then. `record old { .. }` is the outbox with these fields
+-- The calls of the central system to a charge point, and their changes. A call is sent again until
+-- it is confirmed, and the next one only then. `record old { .. }` is the outbox with these fields
 -- changed and all others unchanged.
 use Rattle.std.specs.Prelude.{ℕ, ◌+◌, ◌-◌, ◌<◌, ◌≤◌, ◌≡◌, nat_le, nat_lt, ◌==◌, Bool, true, false, ◌&&◌, List, [], ◌∷◌, ◌++◌, length, drop, map, Option, None, Some, IsSome, is_some, if◌then◌else◌}
 use Rattle.std.specs.List.{list_any, range_with_len}

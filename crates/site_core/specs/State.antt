@@ -79,7 +79,8 @@ outbox_at state place = (point_at state place).outbox
 abbrev pub audit_at : MachineState → ℕ → Option AuditState
 audit_at state place = (point_at state place).audit
 
--- the present link of the point at a place, and of the point of an identity; an unknown point has none
+-- the present link of the point at a place, and of the point of an identity; an unknown point has
+-- none
 abbrev pub link_at : MachineState → Option ℕ → Option ℕ
 link_at state None = None
 link_at state (Some place) = (outbox_at state place).link
@@ -93,8 +94,8 @@ is_this_number number None = false
 is_this_number number (Some other) = other == number
 
 -- The link over which a call can be sent now to the point at a place, and to the point of an
--- identity, if there is such a call. An unknown point has none, and nothing is sent once the central
--- system is stopped.
+-- identity, if there is such a call. An unknown point has none, and nothing is sent once the
+-- central system is stopped.
 abbrev pub link_to_send_at : MachineState → Option ℕ → Option ℕ
 link_to_send_at state None = None
 link_to_send_at state (Some place) = sending_link (outbox_at state place)

@@ -393,7 +393,8 @@ made_at old step place reply = done_at old place reply (deed (point_at old place
 
 -- ---- requests for composite schedules (OCPP 1.6, 5.7)
 
--- Take: the request is kept with the point's present book. `seen` is the version that its client saw.
+-- Take: the request is kept with the point's present book. `seen` is the version that its client
+-- saw.
 abbrev pub refusal_to_take : MachineState → Take → Option Refusal
 refusal_to_take old take =
     if nat_le max_requests (length old.requests) then Some TooManyOpen
@@ -575,8 +576,8 @@ cause_of (Err refusal) = Some refusal
 abbrev pub first_refusal : MachineState → Step → Option Refusal
 first_refusal old step = cause_of (stepped no_answer old step)
 
--- Send over this link sends nothing to the point of this identity: if it is made, it replies Nothing
--- and changes nothing.
+-- Send over this link sends nothing to the point of this identity: if it is made, it replies
+-- Nothing and changes nothing.
 abbrev pub SendsNothing : MachineState → List ℕ → ℕ → Type 0
 SendsNothing old point link =
     IfOk (stepped no_answer old (steps.Send point link)) (λ made. made ≡ unchanged old Nothing)

@@ -1,5 +1,5 @@
--- Histories as they are stored: the step of each event, and for a Compile the answer that it brought.
--- So a history leads to one state, its replay, which determines every reply.
+-- Histories as they are stored: the step of each event, and for a Compile the answer that it
+-- brought. So a history leads to one state, its replay, which determines every reply.
 use Rattle.std.specs.Prelude.{◌≡◌, ℕ, List, [], ◌∷◌, ◌++◌, Some, Result, Ok, IfOk}
 use Rattle.ocpp_scalars.specs.declared.refusal.Refusal.{Refusal}
 use Rattle.ocpp_scalars.specs.ResultSteps.{◌>>=◌}

@@ -1,4 +1,5 @@
--- An explained schedule: intervals of a request, each with one limit for one reason (OCPP 1.6, 3.13 and 5.7).
+-- An explained schedule: intervals of a request, each with one limit for one reason (OCPP 1.6, 3.13
+-- and 5.7).
 use Rattle.std.specs.Prelude.{◌≡◌, ◌≢◌, ℕ, ◌<◌, ◌≤◌, List, [], ◌∷◌, ◌++◌, Option, Some, None}
 use Rattle.std.specs.List.{AllByRecursion}
 use Rattle.meaning.specs.declared.composite.CompositePeriod.{CompositePeriod}

@@ -20,8 +20,8 @@ use Rattle.site_core.specs.Post.{Posts}
 use Rattle.version_store.specs.Passes.{PassState, pass_after}
 use Rattle.version_store.specs.Store.{StoreState, with_event, folded_for, folds}
 
--- One event is added, after a fold if one was due; the state and the reply are the machine's for this
--- event.
+-- One event is added, after a fold if one was due; the state and the reply are the machine's for
+-- this event.
 pub record Adds (old : StoreState) (stored : StoredEvent) (reply : Reply) (new : StoreState)
     : Type 0 where
   pub made : made_of old.present stored ≡ Ok (record { reply = reply; after = new.present })
@@ -91,8 +91,8 @@ abbrev pub ending : Bool → Reply
 ending true = Ended
 ending false = NoSuch
 
--- A start returns the number of the transaction that began, or of the one that is retransmitted. This
--- system draws them from 1 on.
+-- A start returns the number of the transaction that began, or of the one that is retransmitted.
+-- This system draws them from 1 on.
 pub record StartsAs (old : StoreState) (was : PassState) (step : Step) (given : ℕ)
     (new : StoreState) (pass : PassState) : Type 0 where
   pub id : ℤ

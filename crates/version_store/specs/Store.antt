@@ -1,5 +1,5 @@
--- A stored history: the state that it begins with, the events since, and the present state, to which
--- they lead. A long history is folded: it begins again with the present state.
+-- A stored history: the state that it begins with, the events since, and the present state, to
+-- which they lead. A long history is folded: it begins again with the present state.
 use Rattle.std.specs.Prelude.{ℕ, ◌+◌, ◌≡◌, ◌≤◌, ◌⊎◌, nat_le, ◌&&◌, Bool, true, false, List, [], ◌∷◌, ◌++◌, length, Some, is_some, if◌then◌else◌}
 use Rattle.std.specs.List.{AllByRecursion, sum_by}
 use Rattle.site_rules.specs.Site.{SiteState}
@@ -77,11 +77,11 @@ AuditsHaveBooks old events new =
     → IsBegunIn old events place audit ⊎ IsAuditBefore old place audit
 
 -- The present state is the replay of the base and the stored events, and both are a machine's. The
--- replayed history is legal, and so is the one from the opening state to the base. Each kept request
--- has the book that its Take, or the base, gave it, and each answer is right for its book and its
--- `Ask`. Once the central system is stopped, each has one. Each point's audit has the book that the
--- point had when it was begun, and each verdict is right. The changes and answers are those of these
--- histories.
+-- replayed history is legal, and so is the one from the opening state to the base. Each kept
+-- request has the book that its Take, or the base, gave it, and each answer is right for its book
+-- and its `Ask`. Once the central system is stopped, each has one. Each point's audit has the book
+-- that the point had when it was begun, and each verdict is right. The changes and answers are
+-- those of these histories.
 pub record IsStore (store : StoreState) : Type 0 where
   -- until the base
   pub site : SiteState

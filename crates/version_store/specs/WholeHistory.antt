@@ -61,8 +61,8 @@ StoresAnswerOnce = OfEachStore (λ store is whole.
     (number : ℕ) → (takes_of number whole ≤ 1)
     × (takes_of number whole ≡ answers_of number whole + kept_of number store.present.requests))
 
--- each answer that is handed out is right, as in the headline: for the book that the point had at its
--- one Take, and for the `Ask`
+-- each answer that is handed out is right, as in the headline: for the book that the point had at
+-- its one Take, and for the `Ask`
 abbrev pub StoresHandOutRight : Type 0
 StoresHandOutRight = OfEachStore (λ store is whole.
     (number : ℕ) (book : BookState) (ask : Ask) (answer : ScheduleAnswer) (new : StoreState)

@@ -8,7 +8,8 @@ use Rattle.profile.specs.ChargingProfile.{rate}
 use Rattle.profile.specs.Row.{base}
 use Rattle.meaning.specs.View.{PointState, active_since}
 
--- whether a row has a limit for a connector at an instant and is a candidate of a higher stack level
+-- whether a row has a limit for a connector at an instant and is a candidate of a higher stack
+-- level
 abbrev pub is_higher : Purpose → PointState → ℕ → ℕ → ℕ → ℕ → Row → Bool
 is_higher purpose state connector asked instant level row =
     nat_lt level row.profile.stack_level

@@ -19,7 +19,8 @@ use Rattle.sweep_compiler.specs.declared.limit_curve.LimitCurve.{LimitCurve}
 
 -- ---- the bounds of a request
 
--- a connector's ceiling, and the rows that count for it, TxProfiles first, each purpose by falling level
+-- a connector's ceiling, and the rows that count for it, TxProfiles first, each purpose by falling
+-- level
 pub record IsConnectorBound (state : PointState) (asked connector : ℕ) (bound : RunningBound)
     : Type 0 where
   pub own : List Row

@@ -1,4 +1,5 @@
--- The laws of the machine that the proofs of the stored history use. Only private clauses cite them.
+-- The laws of the machine that the proofs of the stored history use. Only private clauses cite
+-- them.
 use Rattle.std.specs.Prelude.{◌≡◌, false}
 use Rattle.site_core.specs.declared.step.Step.{Step}
 use Rattle.site_core.specs.declared.reply.Reply.{Reply}
