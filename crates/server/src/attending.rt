@@ -4,22 +4,21 @@ ghost use Rattle.session.specs.Serving.{KeepsPass};
 
 use crate::session_watch::SessionWatch;
 use bytes::Bytes;
-use ghost_list::ListName;
 use journal::Journal;
 use ocpp_scalars::Moments;
 use server_core::{
     LONGEST_SILENCE, Pace, SILENCE_BEFORE_CALL, SILENCE_BEFORE_PING, TICK, seconds_since,
 };
-use server_ports::{IncomingStream, SeatWorld};
+use server_ports::IncomingStream;
 use session::{
     Context, Ended, Received, SentCall, SessionCore, WatchedSocket, answer_next, send_call,
 };
 use std::rt::Clock;
 use std::sync::Wait;
-use std::sync::ledger::Ledger;
 use std::time::Instant;
 use tungstenite::{Message, NoMask, WebSocket};
 use version_store::Pass;
+use world::World;
 
 /// The most changes of limits in a schedule that a session compiles itself.
 // They take at most some 0.3 milliseconds, mostly less than waking a worker.
@@ -50,66 +49,68 @@ struct CallMoment {
 
 /// Serves messages until the socket is closed or fails, the client is silent for too long, or a
 /// call to it has no reply in time. Returns how the session ended.
-pub(crate) fn run_session<C: Ledger, A: Ledger, R: Wait + Clock, J: Journal<N>, N: ListName>(
-    context: &Context<'_, SeatWorld<C, A, R, J, N>>,
-    watch: &SessionWatch<'_, C, A, R, J, N>,
+pub(crate) fn run_session<R: Wait + Clock, W: World>(
+    context: &Context<'_, W>,
+    watch: &SessionWatch<'_, R>,
     socket: &mut WebSocket<IncomingStream<'_, R>, NoMask>,
     core: &SessionCore,
-    pass: &mut Pass<C, A>,
+    pass: &mut Pass<W::Changes, W::Answers>,
 ) -> Ended
     ensures { KeepsPass pass.old pass.new }
 {
-    let Ok(now) = Instant::now(context.rt) else {
+    let seats = watch.seats;
+    let Ok(now) = Instant::now(&seats.rt) else {
         return Ended::Broken;
     };
-    let mut socket = WatchedSocket::new(context.rt, socket, Some(MOST_OF_OWN));
+    let mut socket = WatchedSocket::new(&seats.rt, socket, Some(MOST_OF_OWN));
     let mut attention = ClientState {
-        call_timeout: watch.seats.options.call_timeout,
+        call_timeout: seats.options.call_timeout,
         begun: now,
         has_spoken: false,
         looked: now,
         is_pinged: false,
         sent: None,
     };
-    let mut pace = Pace::new(&watch.seats.ahead);
-    for _message in context.rt.forever() {
+    let mut pace = Pace::new(&seats.ahead);
+    for _message in seats.rt.forever() {
         let attended = attend_next(context, watch, &mut socket, core, &mut attention, pass);
         if let Err(ended) = attended {
             pace.end();
             return ended;
         }
         let is_ahead = socket.websocket().get_ref().is_ahead();
-        pace.keep(context.rt, is_ahead);
+        pace.keep(&seats.rt, is_ahead);
     }
     unreachable!()
 }
 
 /// Serves the next message, or does what is due if none comes. An error ends the session.
-fn attend_next<C: Ledger, A: Ledger, R: Wait + Clock, J: Journal<N>, N: ListName>(
-    context: &Context<'_, SeatWorld<C, A, R, J, N>>,
-    watch: &SessionWatch<'_, C, A, R, J, N>,
+fn attend_next<R: Wait + Clock, W: World>(
+    context: &Context<'_, W>,
+    watch: &SessionWatch<'_, R>,
     watched: &mut WatchedSocket<'_, IncomingStream<'_, R>, NoMask, R>,
     core: &SessionCore,
     attention: &mut ClientState,
-    pass: &mut Pass<C, A>,
+    pass: &mut Pass<W::Changes, W::Answers>,
 ) -> Result<(), Ended>
     ensures { KeepsPass pass.old pass.new }
 {
+    let rt = &watch.seats.rt;
     let received = answer_next(&*context, watched, core, pass)?;
     let is_last = !watched.has_kept();
     let socket = watched.websocket();
     let sent = match received {
         Received::Message { event, sent } => {
             attention.has_spoken = true;
-            watch.hear(core, event);
+            watch.hear(context, core, event);
             sent
         }
         Received::Control { .. } => {
             // A client that pings all the time would never let a read time out, and get no calls.
-            if seconds_since(context.rt, attention.looked) < TICK {
+            if seconds_since(rt, attention.looked) < TICK {
                 None
             } else {
-                send_to_silent(context, socket, core, attention)?
+                send_to_silent(rt, context, socket, core, attention)?
             }
         }
         Received::Nothing => {
@@ -117,14 +118,14 @@ fn attend_next<C: Ledger, A: Ledger, R: Wait + Clock, J: Journal<N>, N: ListName
             // They are written here.
             let _ = context.journal.write_out();
             keep_alive(socket, attention)?;
-            send_to_silent(context, socket, core, attention)?
+            send_to_silent(rt, context, socket, core, attention)?
         }
     };
     if let Some(call) = sent {
-        attention.note_sent(context.rt, call.number);
+        attention.note_sent(rt, call.number);
         watch.send(call);
     }
-    if let Some(call) = attention.overdue(context, core) {
+    if let Some(call) = attention.overdue(rt, context, core) {
         // The machine has no clock, so only the loss of the link queues the call again.
         watch.give_up(core, call);
         let _ = socket.close(None);
@@ -164,16 +165,17 @@ fn keep_alive<R: Wait + Clock>(
 
 /// Sends the call that waits for a silent point, and returns it. A point that has just connected
 /// first gets the time for its BootNotification.
-fn send_to_silent<C: Ledger, A: Ledger, R: Wait + Clock, J: Journal<N>, N: ListName>(
-    context: &Context<'_, SeatWorld<C, A, R, J, N>>,
+fn send_to_silent<R: Wait + Clock, W: World>(
+    rt: &R,
+    context: &Context<'_, W>,
     socket: &mut WebSocket<IncomingStream<'_, R>, NoMask>,
     core: &SessionCore,
     attention: &mut ClientState,
 ) -> Result<Option<SentCall>, Ended> {
-    if let Ok(now) = Instant::now(context.rt) {
+    if let Ok(now) = Instant::now(rt) {
         attention.looked = now;
     }
-    if !attention.has_spoken && seconds_since(context.rt, attention.begun) < SILENCE_BEFORE_CALL {
+    if !attention.has_spoken && seconds_since(rt, attention.begun) < SILENCE_BEFORE_CALL {
         return Ok(None);
     }
     match context.clock.now() {
@@ -192,17 +194,18 @@ impl ClientState {
     }
 
     /// Returns the number of the last call if it has no reply in time.
-    fn overdue<C: Ledger, A: Ledger, R: Wait + Clock, J: Journal<N>, N: ListName>(
+    fn overdue<R: Wait + Clock, W: World>(
         &mut self,
-        context: &Context<'_, SeatWorld<C, A, R, J, N>>,
+        rt: &R,
+        context: &Context<'_, W>,
         core: &SessionCore,
     ) -> Option<u64> {
         let call = self.sent?;
-        if seconds_since(context.rt, call.moment) < self.call_timeout {
+        if seconds_since(rt, call.moment) < self.call_timeout {
             return None;
         }
         self.sent = None;
-        let book = context.shared.lock(context.rt);
+        let book = context.shared.lock(rt);
         match book.present().outbox_of(core.point_id().as_str()) {
             Some(outbox) if outbox.is_number_in_flight(call.number) => Some(call.number),
             _ => None,

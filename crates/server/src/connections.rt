@@ -3,72 +3,92 @@
 ghost use Rattle.std.specs.Prelude.{◌≡◌, ◌≤◌, IfOk, length, vec_len, vec_capacity};
 
 use crate::connection::run_connection;
-use ocpp_scalars::Moments;
 use session::Context;
-use std::alloc::AllocError;
+use std::alloc::{AllocError, Global};
 use std::marker::{Send, Sync};
-use std::net::TcpListener;
+use std::net::{TcpListener, TcpStream};
 use std::sync::Wait;
-use std::sync::ledger::Ledger;
 use std::thread;
 use std::thread::{JoinHandle, Scope, Threads};
 use version_store::Pass;
-use world::Unrecorded;
+use world::World;
+
+/// What serves a connection.
+pub(crate) trait ConnectionSite {
+    /// The pass with which a connection is served.
+    type Pass;
+
+    /// Serves a connection from its handshake until it ends. Returns the pass.
+    fn run(&self, stream: TcpStream, pass: Self::Pass) -> Self::Pass;
+}
+
+impl<W: World> ConnectionSite for Context<'_, W> {
+    type Pass = Pass<W::Changes, W::Answers>;
+
+    fn run(
+        &self,
+        stream: TcpStream,
+        pass: Pass<W::Changes, W::Answers>,
+    ) -> Pass<W::Changes, W::Answers> {
+        run_connection(self, stream, pass)
+    }
+}
 
 /// The passes of all sessions, once these have ended.
 #[derive(Drop)]
-pub(crate) struct EndedSessions<C: Ledger, A: Ledger> {
-    pub(crate) passes: Vec<Pass<C, A>>,
+pub(crate) struct EndedSessions<P> {
+    pub(crate) passes: Vec<P>,
     /// Whether each connection could be accepted.
     pub(crate) is_accepting: bool,
 }
 
 /// The sessions of all passes, once each has begun.
 #[derive(Drop)]
-struct Begun<C: Ledger, A: Ledger> {
-    sessions: Vec<Session<C, A>>,
+struct Begun<P> {
+    sessions: Vec<Session<P>>,
     /// Whether each connection could be accepted.
     is_accepting: bool,
 }
 
 /// The session of a pass.
 #[derive(Drop)]
-enum Session<C: Ledger, A: Ledger> {
+enum Session<P> {
     /// It is served on a thread of its own, which gives back the pass.
-    Running(JoinHandle<Pass<C, A>>),
+    Running(JoinHandle<P>),
     /// It has ended, or its connection couldn't be accepted.
-    Ended(Pass<C, A>),
+    Ended(P),
 }
 
 /// Accepts a connection for each pass, and serves it on a thread of its own, or on this one if no
 /// thread can be made. Ends when all connections have ended, and returns all passes.
 pub(crate) fn run_connections<
-    C: Ledger + Send + Sync,
-    A: Ledger + Send + Sync,
-    R: Threads + Wait + Sync,
-    M: Moments + Sync,
+    R: Threads + Wait,
+    S: ConnectionSite<Pass = P> + Sync,
+    P: Send + Drop,
 >(
-    context: &Context<'_, Unrecorded<C, A, R, M>>,
+    rt: &R,
+    alloc: Global,
+    site: &S,
     listener: TcpListener,
-    passes: Vec<Pass<C, A>>,
-) -> Result<EndedSessions<C, A>, AllocError>
+    passes: Vec<P>,
+) -> Result<EndedSessions<P>, AllocError>
     ensures { IfOk result (λ served. length served.passes.items ≡ length passes.items) }
 {
     let count = passes.len();
     // Room first: once a session has begun, an allocation failure must not lose its pass.
-    let sessions = Vec::with_capacity(context.alloc, count)?;
-    let ended = Vec::with_capacity(context.alloc, count)?;
+    let sessions = Vec::with_capacity(alloc, count)?;
+    let ended = Vec::with_capacity(alloc, count)?;
     Ok(thread::scope(
         thread::scope_env(),
-        context.rt,
-        |scope| -> EndedSessions<C, A>
+        rt,
+        |scope| -> EndedSessions<P>
             requires { (vec_len sessions ≡ 0) × (length passes.items ≤ vec_capacity sessions)
                 × (vec_len ended ≡ 0) × (length passes.items ≤ vec_capacity ended) }
             ensures { length result.passes.items ≡ length passes.items }
         {
-            let begun = begin_all(scope, context, listener, passes, sessions);
+            let begun = begin_all(scope, site, listener, passes, sessions);
             EndedSessions {
-                passes: end_all(context.rt, begun.sessions, ended),
+                passes: end_all(rt, begun.sessions, ended),
                 is_accepting: begun.is_accepting,
             }
         },
@@ -77,27 +97,20 @@ pub(crate) fn run_connections<
 
 /// Starts a session for each pass, in `room`. Then it closes the listener, so that no client waits
 /// for a connection that is never accepted.
-fn begin_all<
-    's,
-    E,
-    C: Ledger + Send + Sync,
-    A: Ledger + Send + Sync,
-    R: Wait + Sync,
-    M: Moments + Sync,
->(
+fn begin_all<'s, E, S: ConnectionSite<Pass = P> + Sync + 's, P: Send + Drop + 's>(
     scope: &Scope<'s, E>,
-    context: &'s Context<'_, Unrecorded<C, A, R, M>>,
+    site: &'s S,
     listener: TcpListener,
-    passes: Vec<Pass<C, A>>,
-    room: Vec<Session<C, A>>,
-) -> Begun<C, A>
+    passes: Vec<P>,
+    room: Vec<Session<P>>,
+) -> Begun<P>
     requires empty { vec_len room ≡ 0 }
     requires room { length passes.items ≤ vec_capacity room }
     ensures { length result.sessions.items ≡ length passes.items }
 {
     let (mut sessions, mut is_accepting) = (room, true);
     for pass in passes {
-        let session = begin(scope, context, &listener, pass, &mut is_accepting);
+        let session = begin(scope, site, &listener, pass, &mut is_accepting);
         sessions.push(session).unwrap();
     }
     Begun {
@@ -107,20 +120,13 @@ fn begin_all<
 }
 
 /// Starts the session of a pass with the next connection.
-fn begin<
-    's,
-    E,
-    C: Ledger + Send + Sync,
-    A: Ledger + Send + Sync,
-    R: Wait + Sync,
-    M: Moments + Sync,
->(
+fn begin<'s, E, S: ConnectionSite<Pass = P> + Sync + 's, P: Send + Drop + 's>(
     scope: &Scope<'s, E>,
-    context: &'s Context<'_, Unrecorded<C, A, R, M>>,
+    site: &'s S,
     listener: &TcpListener,
-    pass: Pass<C, A>,
+    pass: P,
     is_accepting: &mut bool,
-) -> Session<C, A> {
+) -> Session<P> {
     if !*is_accepting {
         return Session::Ended(pass);
     }
@@ -130,18 +136,14 @@ fn begin<
     };
     // Without Nagle's algorithm an answer leaves at once. If that can't be set, it leaves later.
     let _ = stream.set_nodelay(true);
-    match scope.spawn(move || run_connection(context, stream, pass)) {
+    match scope.spawn(move || site.run(stream, pass)) {
         Ok(session) => Session::Running(session),
         Err(unmade) => Session::Ended((unmade.value)()),
     }
 }
 
 /// Waits until each session has ended, and returns the passes in `room`.
-fn end_all<C: Ledger, A: Ledger, R: Threads>(
-    rt: &R,
-    sessions: Vec<Session<C, A>>,
-    room: Vec<Pass<C, A>>,
-) -> Vec<Pass<C, A>>
+fn end_all<R: Threads + Wait, P: Drop>(rt: &R, sessions: Vec<Session<P>>, room: Vec<P>) -> Vec<P>
     requires empty { vec_len room ≡ 0 }
     requires room { length sessions.items ≤ vec_capacity room }
     ensures { length result.items ≡ length sessions.items }
@@ -154,7 +156,7 @@ fn end_all<C: Ledger, A: Ledger, R: Threads>(
 }
 
 /// Waits until a session has ended, and returns its pass.
-fn pass_of<C: Ledger, A: Ledger, R: Threads>(rt: &R, session: Session<C, A>) -> Pass<C, A> {
+fn pass_of<R: Threads + Wait, P>(rt: &R, session: Session<P>) -> P {
     match session {
         Session::Running(session) => session.join(rt),
         Session::Ended(pass) => pass,

@@ -12,10 +12,10 @@ mod seats;
 mod serving;
 mod session_watch;
 
-pub use seat::keep_seat;
+pub use seat::{SeatedSite, keep_seat};
 pub use seats::{MAX_SEATS, SeatedBook, run_seats};
 pub use server_ports::{
-    BootKeeper, PathPeer, SeatContext, SeatOptions, ServeFault, StatusPort, begin_boots,
-    begin_status, is_own_host, peer_of_path,
+    BootKeeper, PathPeer, SeatContext, SeatOptions, Seats, ServeFault, StatusPort, WatchedSite,
+    begin_boots, begin_status, is_own_host, peer_of_path,
 };
 pub use serving::{MAX_SESSIONS, MAX_WORKERS, serve};

@@ -10,7 +10,7 @@ use crossbeam_channel::Receiver;
 use ghost_list::ListName;
 use journal::Journal;
 use server_ports::{
-    Access, ClientRequest, HandshakeFailure, IncomingStream, SeatContext, SeatWorld,
+    Access, ClientRequest, HandshakeFailure, IncomingStream, SeatContext, SeatWorld, Seats,
     note_handshake_failure, note_operator, note_unknown, shake_hands,
 };
 use session::{Context, Peer, claim_link, release_link};
@@ -24,6 +24,7 @@ use std::thread;
 use std::thread::Threads;
 use tungstenite::{NoMask, WebSocket, WebSocketConfig};
 use version_store::Pass;
+use world::World;
 
 /// The longest message in bytes. A longer one is refused while it comes in.
 // Such a message ends the connection, to bound the memory of each seat.
@@ -36,65 +37,77 @@ const READ_BYTES: usize = 2_048;
 /// The socket of a seat.
 type SeatSocket<'a, R> = WebSocket<IncomingStream<'a, R>, NoMask>;
 
+/// A site that seats serve.
+pub trait SeatedSite {
+    /// The pass that a seat keeps.
+    type Pass;
+
+    /// Serves one connection after another, each with the seat's pass, until no more are sent.
+    /// Returns the pass.
+    fn keep_seat(
+        &self,
+        jobs: Jobs<'_>,
+        streams: &Receiver<TcpStream>,
+        pass: Self::Pass,
+    ) -> Self::Pass;
+}
+
+impl<C: Ledger, A: Ledger, R: Threads + Wait + Clock + Sync, J: Journal<N>, N: ListName> SeatedSite
+    for SeatContext<C, A, R, J, N> {
+    type Pass = Pass<C, A>;
+
+    fn keep_seat(
+        &self,
+        jobs: Jobs<'_>,
+        streams: &Receiver<TcpStream>,
+        pass: Pass<C, A>,
+    ) -> Pass<C, A> {
+        let seats: &Seats<R> = &self.seats;
+        let context: Context<'_, SeatWorld<C, A, R, J, N>> = Context {
+            rt: &seats.rt,
+            alloc: seats.alloc,
+            shared: &self.shared,
+            jobs,
+            clock: &seats.clock,
+            journal: &self.journal,
+            reading: &seats.reading,
+        };
+        keep_seat(seats, &context, streams, pass)
+    }
+}
+
 /// Serves one connection after another, each with the seat's pass, until no more are sent. Returns
 /// the pass, whose counters never decrease.
-pub fn keep_seat<
-    C: Ledger,
-    A: Ledger,
-    R: Threads + Wait + Clock + Sync,
-    J: Journal<N>,
-    N: ListName,
->(
-    seats: &SeatContext<C, A, R, J, N>,
-    jobs: Jobs<'_>,
+pub fn keep_seat<R: Threads + Wait + Clock + Sync, W: World>(
+    seats: &Seats<R>,
+    context: &Context<'_, W>,
     streams: &Receiver<TcpStream>,
-    pass: Pass<C, A>,
-) -> Pass<C, A>
+    pass: Pass<W::Changes, W::Answers>,
+) -> Pass<W::Changes, W::Answers>
     ensures { KeepsPass pass result }
 {
-    let context = context_of(seats, jobs);
     let mut pass = pass;
     for _connection in seats.rt.forever() {
         let Ok(stream) = streams.recv(&seats.rt) else {
             return pass;
         };
-        pass = run_incoming(seats, &context, stream, pass);
+        pass = run_incoming(seats, context, stream, pass);
         seats.free.add(&seats.rt);
     }
     unreachable!()
 }
 
-/// Returns the context of a seat's sessions.
-fn context_of<
-    's,
-    C: Ledger + 's,
-    A: Ledger + 's,
-    R: Wait + Clock + 's,
-    J: Journal<N> + 's,
-    N: ListName + 's,
->(seats: &'s SeatContext<C, A, R, J, N>, jobs: Jobs<'s>) -> Context<'s, SeatWorld<C, A, R, J, N>> {
-    Context {
-        rt: &seats.rt,
-        alloc: seats.alloc,
-        shared: &seats.shared,
-        jobs,
-        clock: &seats.clock,
-        journal: &seats.journal,
-        reading: &seats.reading,
-    }
-}
-
 /// Serves a connection from its handshake until it ends. Returns the pass.
-fn run_incoming<C: Ledger, A: Ledger, R: Threads + Wait + Clock + Sync, J: Journal<N>, N: ListName>(
-    seats: &SeatContext<C, A, R, J, N>,
-    context: &Context<'_, SeatWorld<C, A, R, J, N>>,
+fn run_incoming<R: Threads + Wait + Clock + Sync, W: World>(
+    seats: &Seats<R>,
+    context: &Context<'_, W>,
     stream: TcpStream,
-    pass: Pass<C, A>,
-) -> Pass<C, A>
+    pass: Pass<W::Changes, W::Answers>,
+) -> Pass<W::Changes, W::Answers>
     ensures { KeepsPass pass result }
 {
     let from = stream.peer_addr().ok();
-    let Some(stream) = IncomingStream::new(context.rt, context.alloc, &seats.long_messages, stream)
+    let Some(stream) = IncomingStream::new(&seats.rt, seats.alloc, &seats.long_messages, stream)
     else {
         return pass;
     };
@@ -126,8 +139,8 @@ fn run_incoming<C: Ledger, A: Ledger, R: Threads + Wait + Clock + Sync, J: Journ
 }
 
 /// Does the handshake with a client, which may have to give way until it is complete.
-fn shake_in_time<'a, C: Ledger, A: Ledger, R: Threads + Wait + Clock + Sync, J, N: ListName>(
-    seats: &SeatContext<C, A, R, J, N>,
+fn shake_in_time<'a, R: Threads + Wait + Clock + Sync>(
+    seats: &Seats<R>,
     stream: IncomingStream<'a, R>,
 ) -> Result<(SeatSocket<'a, R>, ClientRequest), HandshakeFailure> {
     let entry = Access::Guarded {
@@ -168,13 +181,13 @@ fn limits() -> WebSocketConfig {
 
 /// Serves a session after its handshake. A point's older connection is shut once this one has its
 /// link, and this one is shut once a later one has. Returns the pass.
-fn run_admitted<C: Ledger, A: Ledger, R: Wait + Clock, J: Journal<N>, N: ListName>(
-    seats: &SeatContext<C, A, R, J, N>,
-    context: &Context<'_, SeatWorld<C, A, R, J, N>>,
+fn run_admitted<R: Wait + Clock, W: World>(
+    seats: &Seats<R>,
+    context: &Context<'_, W>,
     socket: SeatSocket<'_, R>,
     admitted: Admitted,
-    pass: Pass<C, A>,
-) -> Pass<C, A>
+    pass: Pass<W::Changes, W::Answers>,
+) -> Pass<W::Changes, W::Answers>
     ensures { KeepsPass pass result }
 {
     let Admitted { mut core, place } = admitted;
@@ -192,7 +205,7 @@ fn run_admitted<C: Ledger, A: Ledger, R: Wait + Clock, J: Journal<N>, N: ListNam
         Peer::Operator { .. } => None,
     };
     if let Some(link) = link {
-        seats.present.enter(context.rt, place, link, share);
+        seats.present.enter(&seats.rt, place, link, share);
     }
     let watch = SessionWatch { seats, place, link };
     watch.begin(&core);
@@ -205,7 +218,7 @@ fn run_admitted<C: Ledger, A: Ledger, R: Wait + Clock, J: Journal<N>, N: ListNam
     // The lines of its last message as well, for which perhaps no message leaves.
     let _ = context.journal.write_out();
     if let Some(link) = link {
-        seats.present.leave(context.rt, place, link);
+        seats.present.leave(&seats.rt, place, link);
     }
     pass
 }

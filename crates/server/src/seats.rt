@@ -2,13 +2,15 @@
 
 ghost use Rattle.std.specs.Prelude.{◌≡◌, ◌≤◌, ◌+◌, true, IfOk, length};
 
-use crate::seat::keep_seat;
+use crate::seat::SeatedSite;
 use crossbeam_channel::{Receiver, bounded};
 use ghost_list::{ListName, Unnamed};
-use journal::Journal;
-use server_ports::{JobSenders, SeatContext, ServeFault, accept_connections, begin_workers};
+use server_ports::{
+    CompiledSite, JobSenders, Seats, ServeFault, accept_connections, begin_workers,
+};
 use site_rules::Site;
 use std::alloc::{AllocError, Global};
+use std::marker::Send;
 use std::net::{TcpListener, TcpStream};
 use std::rt::Clock;
 use std::sync::ledger::{Blank, Ledger};
@@ -75,15 +77,14 @@ impl<C: Ledger, A: Ledger, N: ListName> SeatedBook<C, A, N> {
 /// long as the program does. Returns the number of seats: fewer than passes if a thread couldn't
 /// be made, but at least one.
 pub fn run_seats<
-    C: Ledger + Shareable,
-    A: Ledger + Shareable,
-    R: Threads + Wait + Clock + Eprint + Copy + Shareable,
-    J: Journal<N> + Shareable,
-    N: ListName + Shareable,
+    R: Threads + Wait + Clock + Eprint + Shareable,
+    S: CompiledSite + SeatedSite<Pass = P> + Shareable,
+    P: Send + Drop + 'static,
 >(
-    context: &Arc<SeatContext<C, A, R, J, N>, Global>,
+    seats: &Arc<Seats<R>, Global>,
+    site: &Arc<S, Global>,
     listener: TcpListener,
-    passes: Vec<Pass<C, A>>,
+    passes: Vec<P>,
     workers: usize,
 ) -> Result<usize, ServeFault>
     requires workers { 1 ≤ workers }
@@ -91,39 +92,35 @@ pub fn run_seats<
     ensures at_most { IfOk result (λ seats. seats ≤ length passes.items) }
 {
     let wanted = passes.len();
-    let jobs = begin_workers(context, workers)?;
-    let (streams, queue) = bounded(context.alloc, wanted)?;
-    let seats = begin_seats(context, &jobs, &queue, passes)?;
-    if seats == 0 {
+    let jobs = begin_workers(&seats.rt, seats.alloc, site, workers)?;
+    let (streams, queue) = bounded(seats.alloc, wanted)?;
+    let begun = begin_seats(seats, site, &jobs, &queue, passes)?;
+    if begun == 0 {
         return Err(ServeFault::OutOfMemory);
     }
-    if seats < wanted {
-        let _ = eprintln!(context.rt;
-            "central: {seats} seats of {wanted}: for the others no thread could be made"
+    if begun < wanted {
+        let _ = eprintln!(seats.rt;
+            "central: {begun} seats of {wanted}: for the others no thread could be made"
         );
     }
-    context.watch.set_seats(&context.rt, seats as u64);
-    begin_writer(context)?;
-    let own = Arc::try_clone(context)?;
-    let accepting = thread::Builder::new().spawn(&context.rt, move || {
+    seats.watch.set_seats(&seats.rt, begun as u64);
+    begin_writer(seats)?;
+    let own = Arc::try_clone(seats)?;
+    let accepting = thread::Builder::new().spawn(&seats.rt, move || {
         accept_connections(&own, &listener, &streams)
     });
     match accepting {
-        Ok(_) => Ok(seats),
+        Ok(_) => Ok(begun),
         Err(_) => Err(ServeFault::OutOfMemory),
     }
 }
 
 /// Starts the thread that writes lines for people to standard error.
-fn begin_writer<
-    C: Ledger + Shareable,
-    A: Ledger + Shareable,
-    R: Wait + Threads + Eprint + Shareable,
-    J: Shareable,
-    N: ListName + Shareable,
->(context: &Arc<SeatContext<C, A, R, J, N>, Global>) -> Result<(), ServeFault> {
-    let own = Arc::try_clone(context)?;
-    let writer = thread::Builder::new().spawn(&context.rt, move || own.notices.write_all(&own.rt));
+fn begin_writer<R: Wait + Threads + Eprint + Shareable>(
+    seats: &Arc<Seats<R>, Global>,
+) -> Result<(), ServeFault> {
+    let own = Arc::try_clone(seats)?;
+    let writer = thread::Builder::new().spawn(&seats.rt, move || own.notices.write_all(&own.rt));
     match writer {
         Ok(_) => Ok(()),
         Err(_) => Err(ServeFault::OutOfMemory),
@@ -131,49 +128,38 @@ fn begin_writer<
 }
 
 /// Starts a seat for each pass. Returns the number of seats that have a thread.
-fn begin_seats<
-    C: Ledger + Shareable,
-    A: Ledger + Shareable,
-    R: Threads + Wait + Clock + Copy + Shareable,
-    J: Journal<N> + Shareable,
-    N: ListName + Shareable,
->(
-    context: &Arc<SeatContext<C, A, R, J, N>, Global>,
+fn begin_seats<R: Threads + Wait, S: SeatedSite<Pass = P> + Shareable, P: Send + Drop + 'static>(
+    seats: &Seats<R>,
+    site: &Arc<S, Global>,
     jobs: &JobSenders,
     queue: &Receiver<TcpStream>,
-    passes: Vec<Pass<C, A>>,
+    passes: Vec<P>,
 ) -> Result<usize, ServeFault>
     ensures { IfOk result (λ seats. seats ≤ length passes.items) }
 {
-    let mut seats = 0usize;
+    let mut begun = 0usize;
     for pass in passes {
-        if begin_seat(context, jobs, queue, pass)? {
+        if begin_seat(&seats.rt, site, jobs, queue, pass)? {
             // The seat counts as free before the first connection is accepted.
-            context.free.add(&context.rt);
-            seats += 1;
+            seats.free.add(&seats.rt);
+            begun += 1;
         }
     }
-    Ok(seats)
+    Ok(begun)
 }
 
 /// Starts a seat. Returns false if no thread can be made for it.
-fn begin_seat<
-    C: Ledger + Shareable,
-    A: Ledger + Shareable,
-    R: Threads + Wait + Clock + Copy + Shareable,
-    J: Journal<N> + Shareable,
-    N: ListName + Shareable,
->(
-    context: &Arc<SeatContext<C, A, R, J, N>, Global>,
+fn begin_seat<R: Threads, S: SeatedSite<Pass = P> + Shareable, P: Send + Drop + 'static>(
+    rt: &R,
+    site: &Arc<S, Global>,
     jobs: &JobSenders,
     queue: &Receiver<TcpStream>,
-    pass: Pass<C, A>,
+    pass: P,
 ) -> Result<bool, ServeFault> {
-    let own = Arc::try_clone(context)?;
+    let own = Arc::try_clone(site)?;
     let (jobs, queue) = (jobs.share()?, queue.clone()?);
-    let seat = thread::Builder::new().stack_size(SEAT_STACK).spawn(
-        &context.rt,
-        move || keep_seat(&own, jobs.jobs(), &queue, pass),
-    );
+    let seat = thread::Builder::new()
+        .stack_size(SEAT_STACK)
+        .spawn(rt, move || own.keep_seat(jobs.jobs(), &queue, pass));
     Ok(seat.is_ok())
 }

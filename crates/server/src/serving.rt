@@ -117,7 +117,7 @@ fn run_beside_workers<
     listener: TcpListener,
     shared: &Shared<C, A>,
     passes: Vec<Pass<C, A>>,
-) -> Result<EndedSessions<C, A>, AllocError>
+) -> Result<EndedSessions<Pass<C, A>>, AllocError>
     requires { 1 ≤ plan.workers }
     ensures { IfOk result (λ served. length served.passes.items ≡ length passes.items) }
 {
@@ -131,7 +131,7 @@ fn run_beside_workers<
     thread::scope(
         thread::scope_env(),
         rt,
-        |scope| -> Result<EndedSessions<C, A>, AllocError>
+        |scope| -> Result<EndedSessions<Pass<C, A>>, AllocError>
             requires { 1 ≤ workers }
             ensures { IfOk result (λ served. length served.passes.items ≡ length passes.items) }
         {
@@ -143,7 +143,7 @@ fn run_beside_workers<
             drop(pool);
             let (journal, reading) = (NoJournal, Mutex::new(()));
             let context = Context::unrecorded(rt, alloc, shared, &jobs, clock, &journal, &reading);
-            let served = run_connections(&context, listener, passes);
+            let served = run_connections(rt, alloc, &context, listener, passes);
             shared.lock(rt).finish();
             shared.wake();
             // The scope joins the workers, which end once the last sender is dropped.

@@ -1,36 +1,27 @@
 //! Observations of a session: for the status of its site, and as lines for people.
 
-use ghost_list::ListName;
-use journal::Journal;
 use messages::ActionKind;
 use ocpp_scalars::{Instant, Moments};
 use server_core::{PointReply, Rejected};
-use server_ports::SeatContext;
-use session::{Breach, Ended, SentCall, SessionCore, SessionEvent};
+use server_ports::Seats;
+use session::{Breach, Context, Ended, SentCall, SessionCore, SessionEvent};
 use site_status::{Boot, CallNumbers, Observation, SentMoment};
 use std::alloc::{AllocError, Global};
 use std::rt::Clock;
 use std::sync::Wait;
-use std::sync::ledger::Ledger;
+use world::World;
 
 /// The observer of a session of a point or of an operator.
 #[derive(Drop)]
-pub(crate) struct SessionWatch<'a, C: Ledger, A: Ledger, R, J, N: ListName> {
-    pub(crate) seats: &'a SeatContext<C, A, R, J, N>,
+pub(crate) struct SessionWatch<'a, R> {
+    pub(crate) seats: &'a Seats<R>,
     /// The place of its point in the site.
     pub(crate) place: usize,
     /// The link of a point. An operator has none.
     pub(crate) link: Option<u64>,
 }
 
-impl<C: Ledger, A: Ledger, R: Wait + Clock, J: Journal<N>, N: ListName> SessionWatch<
-    '_,
-    C,
-    A,
-    R,
-    J,
-    N,
-> {
+impl<R: Wait + Clock> SessionWatch<'_, R> {
     /// Records that the session has begun.
     pub(crate) fn begin(&self, core: &SessionCore) {
         let seats = self.seats;
@@ -58,19 +49,24 @@ impl<C: Ledger, A: Ledger, R: Wait + Clock, J: Journal<N>, N: ListName> SessionW
     }
 
     /// Records a message of the session, with its event.
-    pub(crate) fn hear(&self, core: &SessionCore, event: SessionEvent) {
+    pub(crate) fn hear<W: World>(
+        &self,
+        context: &Context<'_, W>,
+        core: &SessionCore,
+        event: SessionEvent,
+    ) {
         let Some(moment) = self.seats.clock.now() else {
             return;
         };
         if self.link.is_none() {
             if let SessionEvent::Added = event {
-                self.see_calls(core, moment);
+                self.see_calls(context, core, moment);
             }
             return;
         }
         self.see(Observation::Heard { moment });
         match event {
-            SessionEvent::Boot => self.hear_boot(core, moment),
+            SessionEvent::Boot => self.hear_boot(context, core, moment),
             SessionEvent::Reply { call, rejection } => {
                 let reply = PointReply {
                     call,
@@ -100,9 +96,9 @@ impl<C: Ledger, A: Ledger, R: Wait + Clock, J: Journal<N>, N: ListName> SessionW
     }
 
     /// Records when the last call of the point was added.
-    fn see_calls(&self, core: &SessionCore, moment: Instant) {
+    fn see_calls<W: World>(&self, context: &Context<'_, W>, core: &SessionCore, moment: Instant) {
         let seats = self.seats;
-        let book = seats.shared.lock(&seats.rt);
+        let book = context.shared.lock(context.rt);
         let numbers = match book.present().outbox_of(core.point_id().as_str()) {
             Some(outbox) => Some(CallNumbers::of(outbox)),
             None => None,
@@ -115,9 +111,8 @@ impl<C: Ledger, A: Ledger, R: Wait + Clock, J: Journal<N>, N: ListName> SessionW
         }
     }
 
-    fn hear_boot(&self, core: &SessionCore, moment: Instant) {
-        let seats = self.seats;
-        let book = seats.shared.lock(&seats.rt);
+    fn hear_boot<W: World>(&self, context: &Context<'_, W>, core: &SessionCore, moment: Instant) {
+        let book = context.shared.lock(context.rt);
         let first_call = match book.present().outbox_of(core.point_id().as_str()) {
             Some(outbox) => outbox.first_number(),
             None => 0,

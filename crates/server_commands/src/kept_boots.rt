@@ -3,8 +3,8 @@
 use journal_file::{open_boots, read_boots};
 use server::BootKeeper;
 use site_rules::Site;
-use site_status::Boot;
-use std::alloc::{AllocError, AllocGlobal};
+use site_status::{Boot, BootLine, push_boot_line};
+use std::alloc::{AllocError, AllocGlobal, Global};
 use std::fs::File;
 use std::io;
 use std::os::unix::fs::FileExt;
@@ -23,7 +23,10 @@ pub struct KeptBoots {
 /// nothing.
 #[derive(Drop)]
 pub struct BootsFile {
+    alloc: Global,
     file: File,
+    /// The identities of the points, each at its place in the site.
+    points: Vec<String>,
 }
 
 impl KeptBoots {
@@ -33,19 +36,59 @@ impl KeptBoots {
         folder: &str,
         site: &Site,
     ) -> Result<KeptBoots, AllocError> {
+        let boots = read_boots(rt, folder, site)?;
+        let Some(file) = open_boots(rt, folder)? else {
+            return Ok(KeptBoots { boots, file: None });
+        };
+        let file = BootsFile {
+            alloc: rt.alloc(),
+            file,
+            points: identities(rt.alloc(), site)?,
+        };
         Ok(KeptBoots {
-            boots: read_boots(rt, folder, site)?,
-            file: open_boots(rt, folder)?.map(|file| BootsFile { file }),
+            boots,
+            file: Some(file),
         })
     }
+}
+
+/// Returns the identity of each point, at its place in the site.
+fn identities(alloc: Global, site: &Site) -> Result<Vec<String>, AllocError> {
+    let mut identities = Vec::new(alloc);
+    for place in 0..site.len() {
+        if let Some(point) = site.point(place) {
+            identities.push(String::from_str(alloc, point.id)?)?;
+        }
+    }
+    Ok(identities)
 }
 
 impl BootKeeper for BootsFile {
     /// Writes the lines over the old ones in place. If a crash tears a line meanwhile, the next
     /// start ignores it.
-    fn keep(&self, lines: &str) -> io::Result<()> {
+    fn keep(&self, boots: &[Option<Boot>]) -> io::Result<()> {
+        let lines = boot_lines(self.alloc, self.points.as_slice(), boots)?;
         self.file.write_all_at(lines.as_bytes(), 0)?;
         self.file.set_len(lines.len() as u64)?;
         self.file.sync_data()
     }
+}
+
+/// Returns a line for each boot. The boots are in the order of the points.
+fn boot_lines(
+    alloc: Global,
+    points: &[String],
+    boots: &[Option<Boot>],
+) -> Result<String, AllocError> {
+    let mut lines = String::new(alloc);
+    for (place, boot) in boots.iter().enumerate() {
+        if let (Some(point), Some(boot)) = (points.get(place), *boot) {
+            let line = BootLine {
+                point: point.as_str(),
+                boot,
+            };
+            push_boot_line(&mut lines, &line)?;
+        }
+    }
+    Ok(lines)
 }

@@ -2,7 +2,7 @@
 
 ghost use Rattle.std.specs.Prelude.{◌≡◌, ◌≤◌, ◌+◌, true};
 
-use crate::kept_boots::KeptBoots;
+use crate::kept_boots::{BootsFile, KeptBoots};
 use crate::serving::stop_of;
 use command_io::{ProgramFault, read_digested_site, read_key_file};
 use ghost_list::{ListName, Unnamed};
@@ -11,7 +11,8 @@ use journal_file::{
     FolderFault, JournalFile, OpenJournal, Resumed, open_journal, report_error, restore_shared,
 };
 use server::{
-    SeatContext, SeatOptions, SeatedBook, StatusPort, begin_boots, begin_status, run_seats,
+    SeatContext, SeatOptions, SeatedBook, Seats, StatusPort, WatchedSite, begin_boots,
+    begin_status, run_seats,
 };
 use site_keys::Keys;
 use site_rules::Site;
@@ -26,7 +27,6 @@ use std::sync::ledger::{Blank, Ledger};
 use std::sync::{Arc, Wait};
 use std::thread;
 use std::thread::Threads;
-use version_store::Shared;
 use world::Shareable;
 
 // The command line has its limits from another crate, so this proves that they are the server's.
@@ -213,33 +213,34 @@ fn run_counted<
     let port = begin_port(rt, status, status_address)?;
     let (journal, resumed) = restore_shared(rt, opened, &digest, &shared, restoring, syncs)?;
     print_resumed(rt, &resumed)?;
-    let context = context_of(rt, shared, journal, options)?;
-    context.resume_rejections(resumed.rejected);
-    begin_lines(rt, &context)?;
-    keep_boots(&context, boots)?;
-    port.watch(&context)?;
-    if let Err(fault) = run_seats(&context, listener, seats, workers as usize) {
+    let journal = Arc::new(rt.alloc(), journal)?;
+    begin_lines(rt, &journal)?;
+    let site = SeatContext::make(*rt, rt.alloc(), shared, Arc::try_clone(&journal)?, options)?;
+    let site = Arc::new(rt.alloc(), site)?;
+    site.seats.resume_rejections(resumed.rejected);
+    site.resume_boots(boots.boots.as_slice())?;
+    keep_boots(&site.seats, boots.file)?;
+    port.watch(&site)?;
+    if let Err(fault) = run_seats(&site.seats, &site, listener, seats, workers as usize) {
         return Err(stop_of(fault));
     }
     if println!(rt; "listening {listen}").is_err() {
         return Err(ProgramFault::Write);
     }
     // Without its journal no answer may leave, so the program ends, and its unit restarts it.
-    context.journal().until_broken();
+    journal.until_broken();
     Err(ProgramFault::Folder(FolderFault::Write))
 }
 
 /// Starts the status port, if one is wanted. It answers already while the site is being restored.
 fn begin_port<
-    C: Ledger + Shareable,
-    A: Ledger + Shareable,
-    N: ListName + Shareable,
-    R: Eprint + AllocGlobal + Clock + RandomSource + Threads + Wait + Copy + Shareable,
+    R: AllocGlobal + Clock + RandomSource + Threads + Wait + Copy + Shareable,
+    S: WatchedSite + Shareable,
 >(
     rt: &R,
     status: Option<TcpListener>,
     address: Option<&str>,
-) -> Result<Arc<StatusPort<C, A, R, JournalFile<R, N>, N>, Global>, ProgramFault> {
+) -> Result<Arc<StatusPort<R, S>, Global>, ProgramFault> {
     let address = owned(rt.alloc(), address)?;
     let port = Arc::new(rt.alloc(), StatusPort::new(*rt, rt.alloc(), address))?;
     if let Some(listener) = status {
@@ -260,58 +261,29 @@ fn owned(alloc: Global, text: Option<&str>) -> Result<Option<String>, AllocError
 
 /// Starts the thread that writes lines for people about the journal.
 fn begin_lines<
-    C: Ledger + Shareable,
-    A: Ledger + Shareable,
+    R: Eprint + AllocGlobal + Clock + Threads + Wait + Shareable,
     N: ListName + Shareable,
-    R: Eprint + AllocGlobal + Clock + Threads + Wait + Copy + Shareable,
->(
-    rt: &R,
-    context: &Arc<SeatContext<C, A, R, JournalFile<R, N>, N>, Global>,
-) -> Result<(), ProgramFault> {
-    let own = Arc::try_clone(context)?;
-    let writer = thread::Builder::new().spawn(rt, move || own.journal().write_lines());
+>(rt: &R, journal: &Arc<JournalFile<R, N>, Global>) -> Result<(), ProgramFault> {
+    let own = Arc::try_clone(journal)?;
+    let writer = thread::Builder::new().spawn(rt, move || own.write_lines());
     match writer {
         Ok(_) => Ok(()),
         Err(_) => Err(ProgramFault::OutOfMemory),
     }
 }
 
-/// Resumes the boots that the folder keeps, and starts to keep later ones.
-fn keep_boots<
-    C: Ledger + Shareable,
-    A: Ledger + Shareable,
-    N: ListName + Shareable,
-    R: Eprint + AllocGlobal + Clock + Threads + Wait + Copy + Shareable,
->(
-    context: &Arc<SeatContext<C, A, R, JournalFile<R, N>, N>, Global>,
-    kept: KeptBoots,
+/// Starts to keep the boots of points, if there is a file for them.
+fn keep_boots<R: Clock + Threads + Wait + Shareable>(
+    seats: &Arc<Seats<R>, Global>,
+    file: Option<BootsFile>,
 ) -> Result<(), ProgramFault> {
-    let KeptBoots { boots, file } = kept;
-    context.resume_boots(boots.as_slice())?;
     let Some(file) = file else {
         return Ok(());
     };
-    match begin_boots(context, file) {
+    match begin_boots(seats, file) {
         Ok(()) => Ok(()),
         Err(fault) => Err(stop_of(fault)),
     }
-}
-
-/// Returns the state that the threads share which serve this book.
-fn context_of<
-    C: Ledger,
-    A: Ledger,
-    N: ListName,
-    R: Clock + Wait + Eprint + AllocGlobal + Copy + Drop,
->(
-    rt: &R,
-    shared: Shared<C, A, N>,
-    journal: JournalFile<R, N>,
-    options: SeatOptions,
-) -> Result<Arc<SeatContext<C, A, R, JournalFile<R, N>, N>, Global>, AllocError> {
-    let alloc = rt.alloc();
-    let context = SeatContext::make(*rt, alloc, shared, journal, options)?;
-    Ok(Arc::new(alloc, context)?)
 }
 
 fn print_resumed<R: Print>(rt: &R, resumed: &Resumed) -> Result<(), ProgramFault> {

@@ -1,14 +1,12 @@
 //! Accepts connections: each gets a free seat, or the answer that there is none.
 
-use crate::seat_context::SeatContext;
+use crate::seats::Seats;
 use crossbeam_channel::Sender;
-use ghost_list::ListName;
 use server_core::LineThrottle;
 use std::io::{Read, Write};
 use std::net::{Shutdown, TcpListener, TcpStream};
 use std::rt::Clock;
 use std::sync::Wait;
-use std::sync::ledger::Ledger;
 use std::thread;
 use std::time::Duration;
 
@@ -31,8 +29,8 @@ const NO_SEAT: &[u8] =
 
 /// Accepts connections forever, and sends each to a free seat. If none is free, refuses and closes
 /// the connection.
-pub fn accept_connections<C: Ledger, A: Ledger, R: Wait + Clock, J, N: ListName>(
-    seats: &SeatContext<C, A, R, J, N>,
+pub fn accept_connections<R: Wait + Clock>(
+    seats: &Seats<R>,
     listener: &TcpListener,
     streams: &Sender<TcpStream>,
 ) {
@@ -57,9 +55,7 @@ pub fn accept_connections<C: Ledger, A: Ledger, R: Wait + Clock, J, N: ListName>
 
 /// Takes a seat for a connection. If none is free, the oldest handshake gives way, once it has had
 /// its time.
-fn take_seat<C: Ledger, A: Ledger, R: Wait + Clock, J, N: ListName>(
-    seats: &SeatContext<C, A, R, J, N>,
-) -> bool {
+fn take_seat<R: Wait + Clock>(seats: &Seats<R>) -> bool {
     let rt = &seats.rt;
     if seats.free.take(rt) {
         return true;
@@ -81,8 +77,8 @@ fn take_seat<C: Ledger, A: Ledger, R: Wait + Clock, J, N: ListName>(
 
 /// Accepts the next connection. Returns none after a pause if it couldn't be accepted: a file
 /// descriptor may be free then.
-fn accept_next<C: Ledger, A: Ledger, R: Wait + Clock, J, N: ListName>(
-    seats: &SeatContext<C, A, R, J, N>,
+fn accept_next<R: Wait + Clock>(
+    seats: &Seats<R>,
     listener: &TcpListener,
     failed: &mut LineThrottle,
 ) -> Option<TcpStream> {
@@ -102,10 +98,7 @@ fn accept_next<C: Ledger, A: Ledger, R: Wait + Clock, J, N: ListName>(
 }
 
 /// Reports that all seats are taken.
-fn say_full<C: Ledger, A: Ledger, R: Wait + Clock, J, N: ListName>(
-    seats: &SeatContext<C, A, R, J, N>,
-    full: &mut LineThrottle,
-) {
+fn say_full<R: Wait + Clock>(seats: &Seats<R>, full: &mut LineThrottle) {
     if full.is_due(&seats.rt) {
         seats.notices.say(&seats.rt, &seats.clock, "seats", FULL);
     }

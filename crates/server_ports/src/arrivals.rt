@@ -2,18 +2,16 @@
 
 use crate::handshake::{ClientRequest, HandshakeFailure};
 use crate::request_words::{push_path, said_of_operator};
-use crate::seat_context::SeatContext;
-use ghost_list::ListName;
+use crate::seats::Seats;
 use std::alloc::{AllocError, Global};
 use std::net::SocketAddr;
 use std::rt::Clock;
 use std::sync::Wait;
-use std::sync::ledger::Ledger;
 
 /// Reports and counts a connection that wasn't let in. A handshake that failed by itself, as that
 /// of a port probe, is not reported.
-pub fn note_handshake_failure<C: Ledger, A: Ledger, R: Wait + Clock, J, N: ListName>(
-    seats: &SeatContext<C, A, R, J, N>,
+pub fn note_handshake_failure<R: Wait + Clock>(
+    seats: &Seats<R>,
     unshaken: HandshakeFailure,
     from: Option<SocketAddr>,
 ) {
@@ -24,8 +22,8 @@ pub fn note_handshake_failure<C: Ledger, A: Ledger, R: Wait + Clock, J, N: ListN
 
 /// Reports and counts a connection that was closed because the site has no point of its path, or
 /// because its client didn't offer OCPP 1.6.
-pub fn note_unknown<C: Ledger, A: Ledger, R: Wait + Clock, J, N: ListName>(
-    seats: &SeatContext<C, A, R, J, N>,
+pub fn note_unknown<R: Wait + Clock>(
+    seats: &Seats<R>,
     asked: &ClientRequest,
     from: Option<SocketAddr>,
 ) {
@@ -36,8 +34,8 @@ pub fn note_unknown<C: Ledger, A: Ledger, R: Wait + Clock, J, N: ListName>(
 
 /// Reports that an operator has connected, with its address and user. The journal records only that
 /// a change came from an operator.
-pub fn note_operator<C: Ledger, A: Ledger, R: Wait + Clock, J, N: ListName>(
-    seats: &SeatContext<C, A, R, J, N>,
+pub fn note_operator<R: Wait + Clock>(
+    seats: &Seats<R>,
     asked: &ClientRequest,
     from: Option<SocketAddr>,
 ) {
@@ -54,8 +52,8 @@ fn push_unknown(what: &mut String, asked: &ClientRequest) -> Result<(), AllocErr
     push_path(what, asked.path.as_str())
 }
 
-fn note_refused<C: Ledger, A: Ledger, R: Wait + Clock, J, N: ListName>(
-    seats: &SeatContext<C, A, R, J, N>,
+fn note_refused<R: Wait + Clock>(
+    seats: &Seats<R>,
     from: Option<SocketAddr>,
     what: Result<String, AllocError>,
 ) {
@@ -64,8 +62,8 @@ fn note_refused<C: Ledger, A: Ledger, R: Wait + Clock, J, N: ListName>(
 }
 
 /// Reports an event of the client with this address.
-fn say_from<C: Ledger, A: Ledger, R: Wait + Clock, J, N: ListName>(
-    seats: &SeatContext<C, A, R, J, N>,
+fn say_from<R: Wait + Clock>(
+    seats: &Seats<R>,
     from: Option<SocketAddr>,
     what: Result<String, AllocError>,
 ) {

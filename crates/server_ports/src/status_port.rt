@@ -1,18 +1,15 @@
 //! The status port of a site: read-only, over HTTP/1.1, with a few threads of its own.
 
-use crate::seat_context::SeatContext;
 use crate::serve_fault::ServeFault;
 use crate::status_service::StatusService;
-use ghost_list::ListName;
+use crate::watched_site::WatchedSite;
 use http_server::{Config, Connection, serve};
 use server_core::{LONGEST_STATUS, StatusStream};
-use site_status::WatchedJournal;
 use std::alloc::{AllocError, Global};
 use std::hash::RandomState;
 use std::net::{TcpListener, TcpStream};
 use std::random::RandomSource;
 use std::rt::Clock;
-use std::sync::ledger::Ledger;
 use std::sync::{Arc, Mutex, Wait};
 use std::thread::Threads;
 use std::time::{Duration, Instant};
@@ -33,43 +30,40 @@ const LONGEST_BODY: usize = 0;
 
 /// The state that the threads of a status port share.
 #[derive(Drop)]
-pub struct StatusPort<C: Ledger, A: Ledger, R, J, N: ListName> {
+pub struct StatusPort<R, S> {
     pub rt: R,
     pub alloc: Global,
     /// The address at which the port listens, as it was given, if it answers only requests for this
     /// machine. None if it is open to others, which may have any name for it.
     pub address: Option<String>,
     /// The site that is watched. None while it is being restored.
-    pub seats: Mutex<Option<SharedSeats<C, A, R, J, N>>>,
+    watched: Mutex<Option<Arc<S, Global>>>,
 }
 
-/// The state that the seats of a site share.
-pub type SharedSeats<C, A, R, J, N> = Arc<SeatContext<C, A, R, J, N>, Global>;
-
-impl<C: Ledger, A: Ledger, R: Wait + Drop, J: Drop, N: ListName> StatusPort<C, A, R, J, N> {
+impl<R: Wait, S: Drop> StatusPort<R, S> {
     /// Returns the port of a site that is being restored. The address is there if the port answers
     /// only requests for this machine.
-    pub fn new(rt: R, alloc: Global, address: Option<String>) -> StatusPort<C, A, R, J, N> {
+    pub fn new(rt: R, alloc: Global, address: Option<String>) -> StatusPort<R, S> {
         StatusPort {
             rt,
             alloc,
             address,
-            seats: Mutex::new(None),
+            watched: Mutex::new(None),
         }
     }
 
     /// Watches this restored site from now on.
-    pub fn watch(&self, seats: &Arc<SeatContext<C, A, R, J, N>, Global>) -> Result<(), AllocError> {
-        let seats = Arc::try_clone(seats)?;
-        *self.seats.lock(&self.rt) = Some(seats);
+    pub fn watch(&self, site: &Arc<S, Global>) -> Result<(), AllocError> {
+        let site = Arc::try_clone(site)?;
+        *self.watched.lock(&self.rt) = Some(site);
         Ok(())
     }
 
     /// Returns the site that is watched, if it is restored.
-    pub fn seats(&self) -> Result<Option<SharedSeats<C, A, R, J, N>>, AllocError> {
-        let seats = self.seats.lock(&self.rt);
-        match &*seats {
-            Some(seats) => Ok(Some(Arc::try_clone(seats)?)),
+    pub fn site(&self) -> Result<Option<Arc<S, Global>>, AllocError> {
+        let watched = self.watched.lock(&self.rt);
+        match &*watched {
+            Some(site) => Ok(Some(Arc::try_clone(site)?)),
             None => Ok(None),
         }
     }
@@ -77,12 +71,9 @@ impl<C: Ledger, A: Ledger, R: Wait + Drop, J: Drop, N: ListName> StatusPort<C, A
 
 /// Starts the threads of a status port. They run as long as the program does.
 pub fn begin_status<
-    C: Ledger + Shareable,
-    A: Ledger + Shareable,
-    R: Threads + Wait + Clock + RandomSource + Copy + Shareable,
-    J: WatchedJournal + Shareable,
-    N: ListName + Shareable,
->(port: &Arc<StatusPort<C, A, R, J, N>, Global>, listener: TcpListener) -> Result<(), ServeFault> {
+    R: Threads + Wait + Clock + RandomSource + Shareable,
+    S: WatchedSite + Shareable,
+>(port: &Arc<StatusPort<R, S>, Global>, listener: TcpListener) -> Result<(), ServeFault> {
     let Ok(listener) = Arc::new(port.alloc, listener) else {
         return Err(ServeFault::OutOfMemory);
     };
@@ -99,13 +90,10 @@ pub fn begin_status<
 }
 
 /// Answers one connection after another, forever.
-fn answer_all<
-    C: Ledger,
-    A: Ledger,
-    R: Wait + Clock + RandomSource + Drop,
-    J: WatchedJournal + Drop,
-    N: ListName,
->(port: &StatusPort<C, A, R, J, N>, listener: &TcpListener) {
+fn answer_all<R: Wait + Clock + RandomSource + Drop, S: WatchedSite + Drop>(
+    port: &StatusPort<R, S>,
+    listener: &TcpListener,
+) {
     for _connection in port.rt.forever() {
         match listener.accept() {
             Ok((stream, _)) => {
@@ -118,13 +106,10 @@ fn answer_all<
 }
 
 /// Answers the request of a connection, within the deadline.
-fn answer_connection<
-    C: Ledger,
-    A: Ledger,
-    R: Wait + Clock + RandomSource + Drop,
-    J: WatchedJournal + Drop,
-    N: ListName,
->(port: &StatusPort<C, A, R, J, N>, stream: &TcpStream) -> io::Result<()> {
+fn answer_connection<R: Wait + Clock + RandomSource + Drop, S: WatchedSite + Drop>(
+    port: &StatusPort<R, S>,
+    stream: &TcpStream,
+) -> io::Result<()> {
     let now = Instant::now(&port.rt)?;
     let Some(deadline) = now.checked_add(Duration::from_secs(LONGEST_STATUS)) else {
         return Ok(());

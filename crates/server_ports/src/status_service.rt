@@ -1,31 +1,22 @@
 //! The answers of the status port.
 
 use crate::own_host::is_for_this_machine;
-use crate::seat_context::SeatContext;
 use crate::status_port::StatusPort;
+use crate::watched_site::WatchedSite;
 use bytes::Bytes;
-use ghost_list::ListName;
 use http::{HeaderName, HeaderValue, Method, Request, StatusCode};
 use http_server::{Response, Service};
-use ocpp_scalars::Moments;
-use server_core::Seen;
-use site_status::{
-    Health, JournalReport, SiteCounts, SiteReport, StatusAnswer, StatusPath, WatchedJournal,
-    answer_of, health_answer, not_found, status_path,
-};
+use site_status::{Health, StatusAnswer, health_answer, not_found, status_path};
 use std::alloc::{AllocError, Global};
-use std::rt::Clock;
 use std::sync::Wait;
-use std::sync::ledger::Ledger;
 
 /// The HTTP service of a status port.
 #[derive(Drop)]
-pub struct StatusService<'a, C: Ledger, A: Ledger, R, J, N: ListName> {
-    pub port: &'a StatusPort<C, A, R, J, N>,
+pub struct StatusService<'a, R, S> {
+    pub port: &'a StatusPort<R, S>,
 }
 
-impl<C: Ledger, A: Ledger, R: Wait + Clock + Drop, J: WatchedJournal + Drop, N: ListName> Service
-    for StatusService<'_, C, A, R, J, N> {
+impl<R: Wait + Drop, S: WatchedSite + Drop> Service for StatusService<'_, R, S> {
     ghost answers = { λ _ _ _ _. Unit {0} };
 
     fn call(
@@ -62,13 +53,7 @@ impl<C: Ledger, A: Ledger, R: Wait + Clock + Drop, J: WatchedJournal + Drop, N: 
     }
 }
 
-impl<
-    C: Ledger,
-    A: Ledger,
-    R: Wait + Clock + Drop,
-    J: WatchedJournal + Drop,
-    N: ListName,
-> StatusService<'_, C, A, R, J, N> {
+impl<R: Wait + Drop, S: WatchedSite + Drop> StatusService<'_, R, S> {
     /// Returns whether a request is for this machine, or true if the port is open to others.
     fn is_for_us(&self, request: &Request<Bytes>) -> bool {
         match &self.port.address {
@@ -77,54 +62,17 @@ impl<
         }
     }
 
-    /// Returns the answer to a request. The book is locked while it is copied, which shares its
-    /// contents, and not while a text is made.
+    /// Returns the answer to a request.
     fn answer(&self, request: &Request<Bytes>) -> Result<StatusAnswer, AllocError> {
         let alloc = self.port.alloc;
         let Some(path) = status_path(request.uri().path()) else {
             return not_found(alloc);
         };
-        let Some(seats) = self.port.seats()? else {
-            return health_answer(alloc, Health::Restoring);
-        };
-        let journal = seats.journal.report();
-        if let StatusPath::Health = path {
-            return health_answer(alloc, Health::of(Some(journal.state)));
+        match self.port.site()? {
+            Some(site) => site.answer(path),
+            None => health_answer(alloc, Health::Restoring),
         }
-        answer_by(&seats, journal, path)
     }
-}
-
-/// Returns the answer at a path that reports the state of the site.
-fn answer_by<C: Ledger, A: Ledger, R: Wait + Clock, J, N: ListName>(
-    seats: &SeatContext<C, A, R, J, N>,
-    journal: JournalReport,
-    path: StatusPath<'_>,
-) -> Result<StatusAnswer, AllocError> {
-    let Some(moment) = seats.clock.now() else {
-        return Err(AllocError);
-    };
-    let Seen { points, counts } = seats.watch.copy(&seats.rt, seats.alloc)?;
-    let free_seats = seats.free.count(&seats.rt);
-    let book = seats.shared.lock(&seats.rt);
-    let (copied, totals) = (book.present().copy(), book.totals());
-    drop(book);
-    let machine = copied?;
-    let waiting_since = seats.watch.waiting_since(&seats.rt, seats.alloc, &machine)?;
-    let report = SiteReport {
-        moment,
-        machine: &machine,
-        points: points.as_slice(),
-        waiting_since: waiting_since.as_slice(),
-        counts: SiteCounts {
-            free_seats,
-            changes: totals.changes,
-            answers: totals.answers,
-            ..counts
-        },
-        journal,
-    };
-    answer_of(seats.alloc, path, &report)
 }
 
 /// Fills in the response with an answer.

@@ -5,9 +5,10 @@ ghost use Rattle.std.specs.Prelude.{◌≡◌, ◌≤◌, ◌+◌, ◌/◌};
 use crate::seat_context::SeatContext;
 use crate::serve_fault::ServeFault;
 use compile_pool::{Jobs, MAX_JOBS, Open, run_pool};
-use crossbeam_channel::{Sender, bounded};
+use crossbeam_channel::{Receiver, Sender, bounded};
 use ghost_list::ListName;
 use std::alloc::{AllocError, Global};
+use std::marker::{Send, Sync};
 use std::sync::ledger::Ledger;
 use std::sync::{Arc, Wait};
 use std::thread;
@@ -41,17 +42,33 @@ impl JobSenders {
     }
 }
 
+/// A site whose jobs workers compile.
+pub trait CompiledSite {
+    /// Compiles the jobs of a queue with this number of workers, until the last sender is dropped.
+    fn run_workers(&self, workers: usize, queue: &Receiver<Job>) -> usize
+        requires { 1 ≤ workers };
+}
+
+impl<
+    C: Ledger + Send + Sync,
+    A: Ledger + Send + Sync,
+    R: Threads + Wait + Sync,
+    J,
+    N: ListName + Send + Sync,
+> CompiledSite for SeatContext<C, A, R, J, N> {
+    fn run_workers(&self, workers: usize, queue: &Receiver<Job>) -> usize {
+        let seats = &self.seats;
+        run_pool(&seats.rt, seats.alloc, workers, queue, &self.shared, &Open)
+    }
+}
+
 /// Starts the workers on threads of their own. Half of them take short jobs, and half of them long
 /// ones: at least one each. If no thread can be made, no worker takes the jobs, and sessions
 /// compile themselves.
-pub fn begin_workers<
-    C: Ledger + Shareable,
-    A: Ledger + Shareable,
-    R: Threads + Wait + Copy + Shareable,
-    J: Shareable,
-    N: ListName + Shareable,
->(
-    context: &Arc<SeatContext<C, A, R, J, N>, Global>,
+pub fn begin_workers<R: Threads, S: CompiledSite + Shareable>(
+    rt: &R,
+    alloc: Global,
+    site: &Arc<S, Global>,
     workers: usize,
 ) -> Result<JobSenders, ServeFault>
     requires { 1 ≤ workers }
@@ -60,33 +77,28 @@ pub fn begin_workers<
     let for_long = (workers / 2).max(1);
     let for_short = (workers - workers / 2).max(1);
     Ok(JobSenders {
-        short: begin_pool(context, for_short, MAX_JOBS)?,
-        long: begin_pool(context, for_long, MAX_LONG_JOBS)?,
+        short: begin_pool(rt, alloc, site, for_short, MAX_JOBS)?,
+        long: begin_pool(rt, alloc, site, for_long, MAX_LONG_JOBS)?,
     })
 }
 
 /// Starts `workers` threads on one queue of at most `most_waiting` jobs. Returns its sender.
-fn begin_pool<
-    C: Ledger + Shareable,
-    A: Ledger + Shareable,
-    R: Threads + Wait + Copy + Shareable,
-    J: Shareable,
-    N: ListName + Shareable,
->(
-    context: &Arc<SeatContext<C, A, R, J, N>, Global>,
+fn begin_pool<R: Threads, S: CompiledSite + Shareable>(
+    rt: &R,
+    alloc: Global,
+    site: &Arc<S, Global>,
     workers: usize,
     most_waiting: usize,
 ) -> Result<Sender<Job>, ServeFault>
     requires { 1 ≤ workers }
 {
-    let (jobs, queue) = bounded(context.alloc, most_waiting)?;
-    let (rt, alloc) = (context.rt, context.alloc);
-    let shared = Arc::try_clone(&context.shared)?;
+    let (jobs, queue) = bounded(alloc, most_waiting)?;
+    let own = Arc::try_clone(site)?;
     let pool = thread::Builder::new().spawn(
-        &context.rt,
+        rt,
         move || -> usize
             requires { 1 ≤ workers }
-        { run_pool(&rt, alloc, workers, &queue, &shared, &Open) },
+        { own.run_workers(workers, &queue) },
     );
     // If no thread could be made, the queue was dropped with its closure, and each send fails.
     drop(pool);
