@@ -11,7 +11,7 @@ pub fails_for : (reason : NotCountedReason) (asked : RowInRequest) (number : ℕ
     → FailsOnce reason asked second
 fails_for reason asked number row_at_connector second of there failing = record {
   connector = number;
-  row_at_connector = there;
+  looked_at = there;
   from = subst (λ (ask : Ask). ask.start ≤ second) of.ask failing.from;
   before = subst (λ (ask : Ask). second < ask.start + ask.duration) of.ask failing.before;
   fails = λ is. of.says NotLeast second (failing.fails is);

@@ -16,8 +16,9 @@ pub record IsSoUntil (fact : ℕ → Type 0) (from until : ℕ) : Type 0 where
 
 -- a reason why a row doesn't prevail holds
 abbrev pub Holds : WhyNot → RowAtConnector → ℕ → Type 0
-Holds why row_at_connector second =
-    holds_for why (point_state row_at_connector.view) row_at_connector.at row_at_connector.ask.start second row_at_connector.row.now ≡ true
+Holds why checked second =
+    holds_for why (point_state checked.view) checked.at checked.ask.start second checked.row.now
+    ≡ true
 
 -- a row of a purpose prevails, and has at least this stack level
 pub record Reaches (least : ℕ) (given : Option RowLimit) : Type 0 where
@@ -27,25 +28,28 @@ pub record Reaches (least : ℕ) (given : Option RowLimit) : Type 0 where
 
 -- a reason holds for a row at the connector for which it is checked
 abbrev pub Says : NotCountedReason → RowAtConnector → ℕ → Type 0
-Says reason row_at_connector second =
-    SaysAt reason (point_state row_at_connector.view) row_at_connector.connector row_at_connector.ask.start second row_at_connector.row.now
+Says reason checked second =
+    SaysAt reason (point_state checked.view) checked.connector checked.ask.start second
+    checked.row.now
 
 -- a reason may fail at an instant: if it is BehindOthers, the row prevails then; nothing is claimed
 -- of other reasons
 abbrev pub Fails : NotCountedReason → RowAtConnector → ℕ → Type 0
-Fails reason row_at_connector second = reason ≡ BehindOthers → Says NotLeast row_at_connector second
+Fails reason checked second = reason ≡ BehindOthers → Says NotLeast checked second
 
 -- a second of a request at which a reason may fail, or the fact that it holds at each
-pub record IsFailing (reason : NotCountedReason) (row_at_connector : RowAtConnector) (second : ℕ) : Type 0 where
-  pub from : row_at_connector.ask.start ≤ second
-  pub before : second < row_at_connector.ask.start + row_at_connector.ask.duration
-  pub fails : Fails reason row_at_connector second
+pub record IsFailing (reason : NotCountedReason) (checked : RowAtConnector) (second : ℕ)
+    : Type 0 where
+  pub from : checked.ask.start ≤ second
+  pub before : second < checked.ask.start + checked.ask.duration
+  pub fails : Fails reason checked second
 
 abbrev pub FirstFailing : NotCountedReason → RowAtConnector → Option ℕ → Type 0
-FirstFailing reason row_at_connector None =
-    (second : ℕ) → row_at_connector.ask.start ≤ second → second < row_at_connector.ask.start + row_at_connector.ask.duration
-    → Says reason row_at_connector second
-FirstFailing reason row_at_connector (Some second) = IsFailing reason row_at_connector second
+FirstFailing reason checked None =
+    (second : ℕ) → checked.ask.start ≤ second
+    → second < checked.ask.start + checked.ask.duration
+    → Says reason checked second
+FirstFailing reason checked (Some second) = IsFailing reason checked second
 
 -- ---- over the connectors for which a row is checked
 
@@ -55,10 +59,10 @@ SaysOf reason row connector second =
     SaysAt reason (point_state row.view) connector row.ask.start second row.row.now
 
 -- the row as it is checked for a connector: a reason that holds for it holds at that connector
-pub record IsOf (asked : RowInRequest) (number : ℕ) (row_at_connector : RowAtConnector) : Type 0 where
-  pub ask : row_at_connector.ask ≡ asked.ask
+pub record IsOf (asked : RowInRequest) (number : ℕ) (checked : RowAtConnector) : Type 0 where
+  pub ask : checked.ask ≡ asked.ask
   pub says :
-      (reason : NotCountedReason) (second : ℕ) → Says reason row_at_connector second
+      (reason : NotCountedReason) (second : ℕ) → Says reason checked second
       → SaysOf reason asked number second
 
 -- a connector for which a row is checked
@@ -73,7 +77,7 @@ FoundConnector row (Some connector) = IsLookedAt row connector
 -- a connector for which a reason may fail at a second
 pub record FailsOnce (reason : NotCountedReason) (row : RowInRequest) (second : ℕ) : Type 0 where
   pub connector : ℕ
-  pub row_at_connector : IsLookedAt row connector
+  pub looked_at : IsLookedAt row connector
   pub from : row.ask.start ≤ second
   pub before : second < row.ask.start + row.ask.duration
   pub fails : reason ≡ BehindOthers → SaysOf NotLeast row connector second
