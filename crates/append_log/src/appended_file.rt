@@ -14,26 +14,26 @@ pub trait AppendedFile {
     /// The contents of the file, now and before.
     ghost history: { Self → History };
 
-    /// Appends a first part of the bytes, and returns its length: at least 1, unless there are no
-    /// bytes.
+    /// Appends a first part of a log's bytes to its file, and returns its length: at least 1,
+    /// unless there are no bytes.
     fn append(&mut self, bytes: &[u8]) -> Result<usize, WriteFault>
         requires { (history self.old).now.has_failed ≡ false }
         ensures count { IfOk result (TakesSome bytes.now) }
         ensures history { history self.new ≡ after_append (history self.old) bytes.now result };
 
-    /// Syncs all appended bytes to the disk.
+    /// Syncs to the disk all bytes that a log appended to its file.
     fn sync(&mut self) -> io::Result<()>
         requires { (history self.old).now.has_failed ≡ false }
         ensures { history self.new ≡ after_sync (history self.old) (is_ok result) };
 
-    /// Cuts the file to a length, and syncs that to the disk.
+    /// Cuts a log's file to a length, and syncs that to the disk.
     fn cut(&mut self, end: u64) -> io::Result<()>
         requires usable { (history self.old).now.has_failed ≡ false }
         requires within { end ≤ length (file_of (history self.old).now) }
         ensures { history self.new ≡ after_cut (history self.old) end (is_ok result) };
 
-    /// Tries to cut off the bytes that aren't on disk: they may be in the system's memory only, and
-    /// a restart shouldn't read them. A crash leaves the same as before the call.
+    /// Tries to cut off a log's bytes that aren't on disk: they may be in the system's memory only,
+    /// and a restart shouldn't read them. A crash leaves the same as before the call.
     fn cut_unsynced(&mut self)
         requires { (history self.old).now.has_failed ≡ true }
         ensures { history self.new ≡ history self.old };

@@ -45,7 +45,7 @@ pub fn call_site<R: ClientRuntime + Files<File = File> + Input>(
     Ok(caller.status())
 }
 
-/// Returns the options for sending messages. Reads the login from its file.
+/// Returns the options of `call` for sending messages. Reads the login from its file.
 fn send_options<'a, R: Files<File = File> + Eprint + AllocGlobal>(
     rt: &R,
     calling: Calling<'a>,
@@ -58,8 +58,9 @@ fn send_options<'a, R: Files<File = File> + Eprint + AllocGlobal>(
     })
 }
 
-/// Returns which calls go to which points: to the point of the undone line, to every point of the
-/// site, or to the point of the URL. Leaves out the calls that are held back, and prints why.
+/// Returns which calls of `call` go to which points: to the point of the undone line, to every
+/// point of the site, or to that of the URL. Leaves out the calls that are held back, and prints
+/// why.
 fn visits_of<R: Files<File = File> + Clock + Print + Eprint + AllocGlobal>(
     rt: &R,
     calling: Calling<'_>,
@@ -81,7 +82,7 @@ fn visits_of<R: Files<File = File> + Clock + Print + Eprint + AllocGlobal>(
     Ok(visits)
 }
 
-/// Refuses a URL that can't be an operator's, and options without those that they need.
+/// Refuses a URL of `call` that can't be an operator's, and options without those that they need.
 fn check_url(alloc: Global, calling: Calling<'_>) -> Result<(), ProgramFault> {
     let wants_site = calling.all || calling.folder.is_some();
     if wants_site != calling.site.is_some() {
@@ -107,7 +108,7 @@ fn check_url(alloc: Global, calling: Calling<'_>) -> Result<(), ProgramFault> {
     Ok(())
 }
 
-/// Returns the undo of the requested line, if there is one.
+/// Returns the undo of the journal's line that `--undo` requests, if there is one.
 fn undo_in<R: Files<File = File> + Clock + Eprint + AllocGlobal>(
     rt: &R,
     calling: Calling<'_>,
@@ -121,7 +122,7 @@ fn undo_in<R: Files<File = File> + Clock + Eprint + AllocGlobal>(
     Ok(Some(undo_of(rt, folder, site, number)?))
 }
 
-/// Takes the calls out of an undo.
+/// Takes the calls to a charge point out of an undo, if there is one.
 fn undo_calls(alloc: Global, undo: &mut Option<Undoing>) -> Vec<GivenCall> {
     match undo {
         Some(undoing) => mem::replace(&mut undoing.undo.calls, Vec::new(alloc)),
@@ -129,7 +130,7 @@ fn undo_calls(alloc: Global, undo: &mut Option<Undoing>) -> Vec<GivenCall> {
     }
 }
 
-/// Returns the points that get this many calls: all of the site, or that of the URL.
+/// Returns the points to which `call` sends this many calls: all of the site, or that of the URL.
 fn plain_visits(
     alloc: Global,
     calling: Calling<'_>,
@@ -146,8 +147,8 @@ fn plain_visits(
     }
 }
 
-/// Returns the visit to the point of the undone line. The operator's URL lacks its identity, or has
-/// it.
+/// Returns the visit that sends the calls of an undo to the point of the undone line. The
+/// operator's URL lacks its identity, or has it.
 fn undo_visit(
     alloc: Global,
     url: &str,

@@ -37,7 +37,7 @@ pub fn given_calls<R: Files<File = File> + Eprint + AllocGlobal>(
     Ok(calls)
 }
 
-/// Returns the SetChargingProfile with the payload of a file.
+/// Returns the SetChargingProfile that an operator sends by `call`, with the payload of a file.
 fn set_profile_of<R: Files<File = File> + Eprint + AllocGlobal>(
     rt: &R,
     path: &str,
@@ -47,7 +47,8 @@ fn set_profile_of<R: Files<File = File> + Eprint + AllocGlobal>(
     Ok(GivenCall::with_json("set-profile", payload, frame))
 }
 
-/// Adds the calls of the options that change nothing.
+/// Adds the operator's calls by the options `--ask`, `--audit` and `--status` of `call`, which
+/// change nothing.
 fn push_questions(
     alloc: Global,
     calling: Calling<'_>,
@@ -68,7 +69,7 @@ fn push_questions(
     Ok(())
 }
 
-/// Returns the number of the connector at which a transaction is to start.
+/// Returns the number of the connector at which a transaction is to start by `--remote-start`.
 fn connector_of(starting: Starting<'_>) -> Result<u32, ProgramFault> {
     match starting.connector.parse::<u32>() {
         Ok(connector) => Ok(connector),
@@ -76,7 +77,8 @@ fn connector_of(starting: Starting<'_>) -> Result<u32, ProgramFault> {
     }
 }
 
-/// Returns the RemoteStartTransaction at a connector, with the profile of its file if one is given.
+/// Returns an operator's RemoteStartTransaction at a connector, with the profile of its file if one
+/// is given.
 fn remote_start_of<R: Files<File = File> + Eprint + AllocGlobal>(
     rt: &R,
     connector: u32,

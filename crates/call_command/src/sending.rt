@@ -49,7 +49,7 @@ pub fn send_calls<R: ClientRuntime>(
     Ok(())
 }
 
-/// Sends the calls that go to a point.
+/// Connects as the operator of a charge point, and sends the calls that go to that point.
 fn send_to<R: ClientRuntime>(
     caller: &mut Caller<'_, R>,
     calls: &[GivenCall],
@@ -93,7 +93,7 @@ pub fn send_lines<R: ClientRuntime, S: Read + Drop>(
     Ok(())
 }
 
-/// Connects to the operator's URL, or to that of this point, unless it is a dry run.
+/// Connects to the operator's URL, or to that of this point, unless `call` is a dry run.
 fn reach<R: ClientRuntime>(
     caller: &Caller<'_, R>,
     point: Option<&str>,
@@ -107,7 +107,8 @@ fn reach<R: ClientRuntime>(
     Ok(Destination { label, client })
 }
 
-/// Returns a connected client.
+/// Returns an operator's client, connected to the URL of `call`, or to the one that it makes for
+/// this point.
 fn connected<R: ClientRuntime>(
     caller: &Caller<'_, R>,
     point: Option<&str>,
@@ -126,7 +127,8 @@ fn connected<R: ClientRuntime>(
     Ok(OperatorClient::new(alloc, socket))
 }
 
-/// Sends a message, or prints it in a dry run.
+/// Sends an operator's message and reports its answer, or prints the message in a dry run of
+/// `call`.
 fn send<R: ClientRuntime, N: Display + Copy + Drop>(
     caller: &mut Caller<'_, R>,
     callee: &mut Destination<R>,
@@ -151,7 +153,7 @@ fn send<R: ClientRuntime, N: Display + Copy + Drop>(
     }
 }
 
-/// Closes the connection, if there is one.
+/// Closes the operator's connection for a point, if there is one.
 fn leave<R: RandomSource + Drop>(callee: Destination<R>) {
     let Destination { label, client } = callee;
     drop(label);

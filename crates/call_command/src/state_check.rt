@@ -40,7 +40,8 @@ pub fn check_visits<R: Files<File = File> + Clock + Print + Eprint + AllocGlobal
     Ok(())
 }
 
-/// Returns the calls of a visit that its point would accept. They are the next lines of the script.
+/// Returns an operator's calls to a point that the point would accept. They are the next lines of
+/// the script.
 fn passed_calls<R: Print + Eprint + AllocGlobal>(
     alloc: Global,
     caller: &mut Caller<'_, R>,

@@ -62,7 +62,7 @@ pub fn hold_undo<R: Print + Eprint + AllocGlobal>(
     Ok(())
 }
 
-/// Prints the beginning of the undone line.
+/// Prints the beginning of the journal's line that an undo is to revert.
 fn say_line<R: Eprint + AllocGlobal>(rt: &R, number: u64, line: &[u8]) -> Result<(), AllocError> {
     let mut shown = String::new(rt.alloc());
     for character in str::from_utf8(line)
@@ -76,7 +76,7 @@ fn say_line<R: Eprint + AllocGlobal>(rt: &R, number: u64, line: &[u8]) -> Result
     Ok(())
 }
 
-/// Prints which profiles can't be restored.
+/// Prints which charging profiles an undo can't restore.
 fn say_lost<R: Eprint>(rt: &R, lost: &[LostProfile]) {
     for LostProfile { id, connector } in lost {
         let _ = eprintln!(rt;

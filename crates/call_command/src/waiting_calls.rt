@@ -34,7 +34,8 @@ pub fn say_waiting<R: Files<File = File> + Clock + Eprint + AllocGlobal>(
     Ok(())
 }
 
-/// Reads the site file of this path. Returns the request to follow its journal without notes.
+/// Reads the site file of this path. Returns the request to follow the site's journal without
+/// notes.
 fn quiet_request<'a, R: Files<File = File> + AllocGlobal>(
     rt: &R,
     folder: &'a str,
@@ -52,7 +53,7 @@ fn quiet_request<'a, R: Files<File = File> + AllocGlobal>(
     })
 }
 
-/// Prints which of the points with calls aren't connected, or have calls that wait.
+/// Prints which of the points that an operator calls aren't connected, or have calls that wait.
 fn say_of_points<R: Eprint>(rt: &R, followed: &FollowedJournal, visits: &[Visit]) {
     for visit in visits {
         let outbox = followed.machine().outbox_of(visit.id.as_str());
@@ -62,7 +63,8 @@ fn say_of_points<R: Eprint>(rt: &R, followed: &FollowedJournal, visits: &[Visit]
     }
 }
 
-/// Prints whether a point isn't connected, or has calls that wait behind the one in flight.
+/// Prints whether a point that an operator calls isn't connected, or has calls that wait behind the
+/// one in flight.
 fn say_of_point<R: Eprint>(rt: &R, id: &str, outbox: &Outbox) {
     if outbox.link().is_none() {
         let (count, waits) = counted(outbox.len());
@@ -76,7 +78,7 @@ fn say_of_point<R: Eprint>(rt: &R, id: &str, outbox: &Outbox) {
     }
 }
 
-/// Returns a number of calls, and the words for it.
+/// Returns how many calls wait for a point, and the words for it.
 fn counted(calls: usize) -> (usize, &'static str) {
     (
         calls,

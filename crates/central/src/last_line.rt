@@ -23,7 +23,8 @@ struct LastLine {
 }
 
 impl LastLine {
-    /// Writes the line, if it can be written.
+    /// Writes the program's last line, that its journal is broken, to standard error if it can be
+    /// written.
     fn write<R: Eprint + Wait>(&self, rt: &R) {
         let _ = rt.eprintln(&ProgramFault::Folder(FolderFault::Write));
         *self.is_written.lock(rt) = true;

@@ -31,6 +31,7 @@ use std::sync::Wait;
 use std::thread::Threads;
 use std::{env, io};
 
+/// Runs the program `central` on this machine, and returns its exit status.
 fn main(rt: HostRuntime) -> ExitCode {
     let screen = Screen {
         is_terminal: rt.stdout().is_terminal(),
@@ -38,7 +39,7 @@ fn main(rt: HostRuntime) -> ExitCode {
     ExitCode::from(run(&rt, screen))
 }
 
-/// Does the job of the command line. Returns the exit status.
+/// Does the job of the command line. If it fails, prints why. Returns the program's exit status.
 fn run<
     R: Runtime
         + Files<File = File>
@@ -62,7 +63,7 @@ fn run<
     }
 }
 
-/// Does the job of the command line, or prints why there is none.
+/// Does the job that the program's command line names, or prints why there is none.
 fn do_job<
     R: Runtime
         + Files<File = File>
@@ -97,29 +98,30 @@ fn do_job<
         // Without `--site` no site file is read, so nothing is named.
         Ok(Job::Call(calling)) => {
             let status = call_site(rt, calling);
-            naming(rt, calling.site.unwrap_or(""), status)
+            naming_site_file(rt, calling.site.unwrap_or(""), status)
         }
         Ok(Job::Point(pointing)) => {
             let status = run_point(rt, pointing);
-            naming(rt, pointing.site, status)
+            naming_site_file(rt, pointing.site, status)
         }
         Ok(Job::Explain(explaining)) => {
             let status = explain_file(rt, screen, explaining);
-            naming(rt, explaining.site, status)
+            naming_site_file(rt, explaining.site, status)
         }
         Ok(Job::Check(checking)) => {
             let status = check_file(rt, checking);
-            naming(rt, checking.site, status)
+            naming_site_file(rt, checking.site, status)
         }
         Ok(Job::Show(showing)) => {
             let status = show_file(rt, showing);
-            naming(rt, showing.site, status)
+            naming_site_file(rt, showing.site, status)
         }
         Err(error) => refuse(rt, error),
     }
 }
 
-/// Runs a site. If its file has a fault, also prints which command reports all faults.
+/// Does the job of `run` on a site. If the site's file has a fault, also prints which command
+/// reports all faults.
 fn run_site<
     R: Files<File = File>
         + Print
@@ -141,7 +143,7 @@ fn run_site<
 {
     let path = running.site;
     let run = naming_folder(rt, running.folder, run_file(rt, running));
-    match naming(rt, path, run) {
+    match naming_site_file(rt, path, run) {
         Ok(()) => Ok(0),
         Err(ProgramFault::Site(fault)) => {
             let fault = ProgramFault::Site(fault);
@@ -155,7 +157,7 @@ fn run_site<
 }
 
 /// Prints the name of the site file that a job couldn't read, if that is why it stopped.
-fn naming<T, R: Files<File = File> + Eprint>(
+fn naming_site_file<T, R: Files<File = File> + Eprint>(
     rt: &R,
     path: &str,
     done: Result<T, ProgramFault>,
@@ -166,7 +168,8 @@ fn naming<T, R: Files<File = File> + Eprint>(
     done
 }
 
-/// Prints the name of the folder on which another process runs, if that is why a job stopped.
+/// Prints the name of the site's folder that another `central run` uses, if that is why a job
+/// stopped.
 fn naming_folder<T, R: Eprint>(
     rt: &R,
     path: &str,
@@ -193,7 +196,8 @@ fn command_words<R: Env + AllocGlobal>(rt: &R) -> Result<Vec<String>, ProgramFau
     Ok(words)
 }
 
-/// Prints why a command line has no job, or the help that it requests. Returns the exit status.
+/// Prints why the program's command line has no job, or the help that it requests. Returns the exit
+/// status.
 fn refuse<R: Print + Eprint>(rt: &R, error: clap::Error) -> Result<u8, ProgramFault> {
     if error.kind() == ErrorKind::OutOfMemory {
         return Err(ProgramFault::OutOfMemory);

@@ -51,8 +51,8 @@ impl Address {
         }
     }
 
-    /// Returns the same address with credentials: a name, a colon and a password (HTTP Basic, RFC
-    /// 7617).
+    /// Returns the same address of the central system with a client's credentials: a name, a colon
+    /// and a password (HTTP Basic, RFC 7617).
     fn with_login(self, alloc: Global, login: &str) -> Result<Address, ClientFault> {
         let Address { mut request, .. } = self;
         let coded = STANDARD.encode(alloc, login.as_bytes())?;
@@ -71,7 +71,8 @@ impl Address {
     }
 }
 
-/// Returns whether a path ends in `/operator/ID`.
+/// Returns whether a URL's path ends in `/operator/ID`, which is where the central system takes an
+/// operator's calls.
 fn is_operators(path: &str) -> bool {
     match path.rsplit_once('/') {
         Some((before, id)) => !id.is_empty() && before.ends_with("/operator"),
@@ -105,7 +106,8 @@ pub fn connect<R: Net<Stream = TcpStream> + RandomSource + Copy + Drop>(
     }
 }
 
-/// Returns why a server refused a client with or without a login, by the status of its response.
+/// Returns why the central system refused a client with or without a login, by the HTTP status of
+/// its response.
 fn refusal_of(status: StatusCode, has_login: bool) -> ClientFault {
     match status.as_u16() {
         401 if has_login => ClientFault::WrongLogin,
@@ -115,7 +117,8 @@ fn refusal_of(status: StatusCode, has_login: bool) -> ClientFault {
     }
 }
 
-/// Builds the request of the handshake.
+/// Builds the request of the WebSocket handshake with the central system at a URL, which offers
+/// OCPP 1.6.
 fn request_to(alloc: Global, url: &str) -> Result<Request<()>, ClientFault> {
     let mut request = match request_of(alloc, url) {
         Ok(request) => request,

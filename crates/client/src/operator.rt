@@ -31,7 +31,7 @@ pub struct AnswerLines<'a, W: Write> {
 }
 
 impl<W: Write> AnswerLines<'_, W> {
-    /// Writes a message.
+    /// Writes a message that arrived for the operator's client as a line of output.
     fn write(&mut self, text: &str) -> Result<(), ClientFault> {
         let start = self.start;
         match writeln!(self.writer, "{start}{text}").and_then(|()| self.writer.flush()) {
@@ -90,8 +90,8 @@ impl<S: Read + Write + OpenStream + Drop, K: MaskKeys + Drop> OperatorClient<S, 
     }
 }
 
-/// Returns the id of the CALL in a message, even of a malformed one: the central system answers
-/// that.
+/// Returns the id of the CALL that an operator is to send, even of a malformed one: the central
+/// system answers that.
 fn id_of_call(memory: &mut ReadingMemory, text: &str) -> Result<Option<MessageId>, ClientFault> {
     match read_frame(memory, text) {
         Ok(Frame::Call { id, .. }) => Ok(Some(id)),
@@ -109,7 +109,7 @@ enum AnswerVerdict {
     Refused,
 }
 
-/// Returns the outcome of the CALL of this id, if a message is its answer.
+/// Returns the outcome of the operator's CALL of this id, if a message is its answer.
 fn verdict_of(
     memory: &mut ReadingMemory,
     text: &str,
@@ -122,6 +122,8 @@ fn verdict_of(
     }
 }
 
+/// Returns the outcome of the operator's CALL of this id, if this frame answers it: a CALLERROR or
+/// the status Rejected is a refusal.
 fn verdict_in(frame: &Frame<'_>, call: &str) -> Option<AnswerVerdict> {
     match frame {
         Frame::Reply { id, payload } => {
@@ -138,7 +140,7 @@ fn verdict_in(frame: &Frame<'_>, call: &str) -> Option<AnswerVerdict> {
     }
 }
 
-/// Returns whether the payload of an answer has the status Rejected.
+/// Returns whether the payload of an answer to an operator's CALL has the status Rejected.
 fn is_rejected(payload: &Payload<'_>) -> bool {
     match text_field(payload.root(), "status") {
         Field::Value(status) => status == "Rejected",

@@ -47,7 +47,8 @@ impl<S: Read + Write + OpenStream + Drop, K: MaskKeys + Drop, W: Write> Terminal
         Ok(faults)
     }
 
-    /// Follows a line. Returns the name of its fault, if it has one.
+    /// Does what a line on standard input asks of the simulated charge point. Returns the name of its
+    /// fault, if it has one.
     fn take_line<R: Wait + Clock, M: Moments>(
         &mut self,
         rt: &R,
@@ -67,8 +68,8 @@ impl<S: Read + Write + OpenStream + Drop, K: MaskKeys + Drop, W: Write> Terminal
         }
     }
 
-    /// Makes the call of a step, and then the remote starts that came meanwhile. Returns the name
-    /// of the fault, if the step makes no call.
+    /// Makes the simulated point's call of a step, and then the remote starts that came meanwhile.
+    /// Returns the name of the fault, if the step makes no call.
     fn make_step<R: Wait, M: Moments>(
         &mut self,
         rt: &R,
@@ -85,7 +86,8 @@ impl<S: Read + Write + OpenStream + Drop, K: MaskKeys + Drop, W: Write> Terminal
         Ok(None)
     }
 
-    /// Makes the accepted remote starts, which are the only steps left.
+    /// Makes the remote starts that the simulated point has accepted, which are the only steps
+    /// left.
     fn make_starts<R: Wait, M: Moments>(&mut self, rt: &R, clock: &M) -> Result<(), ClientFault> {
         for _start in rt.forever() {
             if !self.make_call(rt, clock)? {
@@ -95,7 +97,8 @@ impl<S: Read + Write + OpenStream + Drop, K: MaskKeys + Drop, W: Write> Terminal
         unreachable!()
     }
 
-    /// Makes the call of the next step, and waits for its reply. Returns whether a step makes one.
+    /// Makes the call of the simulated point's next step, and waits for its reply. Returns whether
+    /// a step makes one.
     fn make_call<R: Wait, M: Moments>(&mut self, rt: &R, clock: &M) -> Result<bool, ClientFault> {
         let Ok(call) = self.point.next_call(present(clock)?) else {
             return Err(ClientFault::OutOfMemory);
@@ -113,7 +116,8 @@ impl<S: Read + Write + OpenStream + Drop, K: MaskKeys + Drop, W: Write> Terminal
         Ok(true)
     }
 
-    /// Answers the messages of this many seconds, and makes the remote starts among them.
+    /// Lets the simulated point answer the messages of this many seconds, and make the remote
+    /// starts among them.
     fn pause<R: Wait + Clock, M: Moments>(
         &mut self,
         rt: &R,
@@ -143,7 +147,7 @@ impl<S: Read + Write + OpenStream + Drop, K: MaskKeys + Drop, W: Write> Terminal
         Ok(())
     }
 
-    /// Sets the longest time that a read waits for a message.
+    /// Sets the longest time that the simulated point's read waits for a message.
     fn wait_at_most(&mut self, time: Option<Duration>) -> Result<(), ClientFault> {
         match self.socket.get_ref().set_read_timeout(time) {
             Ok(()) => Ok(()),
@@ -151,7 +155,8 @@ impl<S: Read + Write + OpenStream + Drop, K: MaskKeys + Drop, W: Write> Terminal
         }
     }
 
-    /// Takes the next message, if one comes within that time, and answers it.
+    /// Takes the next message to the simulated point, if one comes within the time of a read, and
+    /// answers it.
     fn take_message<M: Moments>(&mut self, clock: &M) -> Result<(), ClientFault> {
         let Received::Text(text) = receive(&mut self.socket)? else {
             return Ok(());
@@ -164,12 +169,16 @@ impl<S: Read + Write + OpenStream + Drop, K: MaskKeys + Drop, W: Write> Terminal
         }
     }
 
+    /// Sends a message of the simulated point to the central system, and writes it as a line of
+    /// output after `sent`.
     fn send(&mut self, text: &str) -> Result<(), ClientFault> {
         send(self.alloc, &mut self.socket, text)?;
         write_text(self.writer, "sent", text)
     }
 }
 
+/// Returns the present time for the calls and answers of the simulated point, or a fault if there
+/// is no clock.
 fn present<M: Moments>(clock: &M) -> Result<Instant, ClientFault> {
     match clock.now() {
         Some(now) => Ok(now),
@@ -177,6 +186,7 @@ fn present<M: Moments>(clock: &M) -> Result<Instant, ClientFault> {
     }
 }
 
+/// Writes a message of the simulated point as a line of output, after `sent` or `got`.
 fn write_text<W: Write>(writer: &mut W, what: &str, text: &str) -> Result<(), ClientFault> {
     match writeln!(writer, "{what} {text}").and_then(|()| writer.flush()) {
         Ok(()) => Ok(()),
@@ -184,6 +194,7 @@ fn write_text<W: Write>(writer: &mut W, what: &str, text: &str) -> Result<(), Cl
     }
 }
 
+/// Writes the fault of a line for the simulated point as `! NUMBER NAME`.
 fn write_fault<W: Write>(writer: &mut W, number: u64, name: &str) -> Result<(), ClientFault> {
     match writeln!(writer, "! {number} {name}").and_then(|()| writer.flush()) {
         Ok(()) => Ok(()),

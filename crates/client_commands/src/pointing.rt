@@ -40,7 +40,8 @@ pub fn run_point<R: ClientRuntime + Files<File = File> + Input>(
     }
 }
 
-/// Makes a simulated point with the ceilings of the site's point of this identity.
+/// Makes the simulated charge point of `point`, with the ceilings of the site's point of this
+/// identity.
 fn point_of_site(alloc: Global, site: &Site, id: &str) -> Result<SimPoint, ProgramFault> {
     let Some(place) = site.place_of(id) else {
         return Err(ProgramFault::NoSuchPoint);

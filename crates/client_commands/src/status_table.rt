@@ -58,7 +58,7 @@ pub fn status_table(alloc: Global, state: &str) -> Result<StatusTable, ProgramFa
     })
 }
 
-/// Appends the table of points, and their warnings.
+/// Appends the table of charge points that `status` prints, and their warnings.
 fn push_points(page: &mut Page, points: &[Value<'_>]) {
     let mut table = Table::new(page.allocator(), &HEADINGS);
     for point in points {
@@ -70,7 +70,7 @@ fn push_points(page: &mut Page, points: &[Value<'_>]) {
     }
 }
 
-/// Appends the row of a point.
+/// Appends the row of a charge point to the table of `status`.
 fn push_row(table: &mut Table, alloc: Global, point: &Value<'_>) {
     table.begin_row();
     table.cell(text_in(point, "id").unwrap_or(NONE));
@@ -84,7 +84,8 @@ fn push_row(table: &mut Table, alloc: Global, point: &Value<'_>) {
     table.made_cell(rejected_cell(alloc, point));
 }
 
-/// Returns the number of calls that a point rejected, and the last of them with its reason.
+/// Returns a cell in the table of `status`: the number of calls that a point rejected, and the last
+/// of them with its reason.
 fn rejected_cell(alloc: Global, point: &Value<'_>) -> Result<String, AllocError> {
     let mut cell = String::from_str(alloc, number_in(point, "rejections").unwrap_or(NONE))?;
     let Some(rejected) = point.get("rejected") else {
@@ -102,7 +103,8 @@ fn rejected_cell(alloc: Global, point: &Value<'_>) -> Result<String, AllocError>
     Ok(cell)
 }
 
-/// Appends a warning for a point, if it needs one.
+/// Appends a warning for a charge point below the table of `status`, if it may have forgotten its
+/// profiles.
 fn push_warning(page: &mut Page, point: &Value<'_>) {
     let (Some(true), Some(id)) = (flag_in(point, "mayHaveForgotten"), text_in(point, "id")) else {
         return;
@@ -113,14 +115,18 @@ fn push_warning(page: &mut Page, point: &Value<'_>) {
     );
 }
 
+/// Returns the text of a field of the status port's `/state.json`, if there is one.
 fn text_in<'a>(object: &Value<'a>, key: &str) -> Option<&'a str> {
     object.get(key)?.as_str()
 }
 
+/// Returns the number in a field of the status port's `/state.json`, as it is written, if there is
+/// one.
 fn number_in<'a>(object: &Value<'a>, key: &str) -> Option<&'a str> {
     object.get(key)?.as_number()
 }
 
+/// Returns the truth value of a field of the status port's `/state.json`, if there is one.
 fn flag_in(object: &Value<'_>, key: &str) -> Option<bool> {
     object.get(key)?.as_bool()
 }

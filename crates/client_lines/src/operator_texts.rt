@@ -56,12 +56,15 @@ pub fn status_call(alloc: Global) -> Result<String, AllocError> {
     write_call(alloc, "status", "PointStatus", "{}")
 }
 
+/// Returns the payload of an operator's GetCompositeSchedule or AuditPoint, by the connector and
+/// the seconds of an option.
 fn payload_of(alloc: Global, connector: &str, seconds: &str) -> Result<String, AllocError> {
     let (connector, seconds) = (json_number(connector), json_number(seconds));
     format!(in alloc; "{{\"connectorId\":{connector},\"duration\":{seconds}}}")
 }
 
-/// Returns a whole number as JSON writes it. The command line also accepts `+1` and `007`.
+/// Returns a whole number of an option as JSON writes it in an operator's call. The command line
+/// also accepts `+1` and `007`.
 fn json_number(number: &str) -> &str {
     match number.trim_start_matches('+').trim_start_matches('0') {
         "" => "0",

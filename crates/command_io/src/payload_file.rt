@@ -34,7 +34,8 @@ pub fn read_payload_file<R: Files<File = File> + Eprint + AllocGlobal>(
     }
 }
 
-/// Prints why a file can't be used to standard error.
+/// Prints to standard error why the file of a message's payload can't be used, and returns the
+/// fault.
 fn unusable<R: Eprint>(rt: &R, path: &str, why: &str) -> Result<String, ProgramFault> {
     let _ = eprintln!(rt; "central: {path}: {why}");
     Err(ProgramFault::File)

@@ -163,7 +163,7 @@ impl ProgramFault {
     }
 }
 
-/// Returns the program's exit status if a folder's journal can't be used.
+/// Returns the program's exit status if the journal in a site's folder can't be used.
 fn folder_status(fault: &FolderFault) -> u8
     ensures { result ≡ folder_status fault.now }
 {

@@ -23,8 +23,9 @@ use crate::option_row::OptionRow::{
 };
 use jobs::{MAX_CALL_TIMEOUT, MAX_CONNECTORS, MAX_LINE, MAX_SEATS, MAX_SESSIONS, MAX_WORKERS};
 
-/// `run --site F --data DIR --listen A [--keys FILE] [--seats N] [--workers N]
-/// [--call-timeout SECONDS] [--status B] [--status-open]`.
+/// Returns the definition of the command `run`, with its options and their help: `run --site F
+/// --data DIR --listen A [--keys FILE] [--seats N] [--workers N] [--call-timeout SECONDS]
+/// [--status B] [--status-open]`.
 pub(crate) fn run() -> CommandRow
     ensures { app_of_row result ≡ run_command }
 {
@@ -52,7 +53,8 @@ pub(crate) fn run() -> CommandRow
     }
 }
 
-/// `status --url U`.
+/// Returns the definition of the command `status`, with its options and their help: `status
+/// --url U`.
 pub(crate) fn status() -> CommandRow
     ensures { app_of_row result ≡ status_command }
 {
@@ -64,7 +66,8 @@ pub(crate) fn status() -> CommandRow
     }
 }
 
-/// `key --name NAME [--operator]`.
+/// Returns the definition of the command `key`, with its options and their help: `key --name NAME
+/// [--operator]`.
 pub(crate) fn key() -> CommandRow
     ensures { app_of_row result ≡ key_command }
 {
@@ -79,7 +82,8 @@ pub(crate) fn key() -> CommandRow
     }
 }
 
-/// `serve --site F --listen A --workers N --sessions K`.
+/// Returns the definition of the command `serve`, with its options and their help: `serve --site F
+/// --listen A --workers N --sessions K`.
 pub(crate) fn serve() -> CommandRow
     ensures { app_of_row result ≡ serve_command }
 {
@@ -96,9 +100,10 @@ pub(crate) fn serve() -> CommandRow
     }
 }
 
-/// `call --url U [--login FILE] [--all] [--site F] [--data DIR] [--set-profile FILE]
-/// [--clear CRITERIA] [--remote-start CONNECTOR TAG [FILE]] [--ask CONNECTOR SECONDS]
-/// [--audit CONNECTOR SECONDS] [--status] [--undo LINE] [--force] [--dry-run]`.
+/// Returns the definition of the command `call`, with its options and their help: `call --url U
+/// [--login FILE] [--all] [--site F] [--data DIR] [--set-profile FILE] [--clear CRITERIA]
+/// [--remote-start CONNECTOR TAG [FILE]] [--ask CONNECTOR SECONDS] [--audit CONNECTOR SECONDS]
+/// [--status] [--undo LINE] [--force] [--dry-run]`.
 pub(crate) fn call() -> CommandRow
     ensures { app_of_row result ≡ call_command }
 {
@@ -125,7 +130,8 @@ pub(crate) fn call() -> CommandRow
     }
 }
 
-/// `point --url U --site F --id ID [--login FILE]`.
+/// Returns the definition of the command `point`, with its options and their help: `point --url U
+/// --site F --id ID [--login FILE]`.
 pub(crate) fn point() -> CommandRow
     ensures { app_of_row result ≡ point_command }
 {
@@ -142,7 +148,8 @@ pub(crate) fn point() -> CommandRow
     }
 }
 
-/// `journal --data DIR`.
+/// Returns the definition of the command `journal`, with its options and their help: `journal
+/// --data DIR`.
 pub(crate) fn journal() -> CommandRow
     ensures { app_of_row result ≡ journal_command }
 {
@@ -154,7 +161,8 @@ pub(crate) fn journal() -> CommandRow
     }
 }
 
-/// `replay --site F [--data DIR | --script FILE]`.
+/// Returns the definition of the command `replay`, with its options and their help: `replay
+/// --site F [--data DIR | --script FILE]`.
 pub(crate) fn replay() -> CommandRow
     ensures { app_of_row result ≡ replay_command }
 {
@@ -170,8 +178,9 @@ pub(crate) fn replay() -> CommandRow
     }
 }
 
-/// `explain --site F --point ID --connector C --start INSTANT --duration D
-/// [--data DIR | --script FILE] [--at PLACE] [--zone NAME] [--picture FILE] [--json]`.
+/// Returns the definition of the command `explain`, with its options and their help: `explain
+/// --site F --point ID --connector C --start INSTANT --duration D [--data DIR | --script FILE]
+/// [--at PLACE] [--zone NAME] [--picture FILE] [--json]`.
 pub(crate) fn explain() -> CommandRow
     ensures { app_of_row result ≡ explain_command }
 {
@@ -195,7 +204,8 @@ pub(crate) fn explain() -> CommandRow
     }
 }
 
-/// `check --site F [--keys FILE] [--data DIR | --script FILE] [--trace]`.
+/// Returns the definition of the command `check`, with its options and their help: `check --site F
+/// [--keys FILE] [--data DIR | --script FILE] [--trace]`.
 pub(crate) fn check() -> CommandRow
     ensures { app_of_row result ≡ check_command }
 {
@@ -213,7 +223,8 @@ pub(crate) fn check() -> CommandRow
     }
 }
 
-/// `show --site F [--data DIR | --script FILE] [--at PLACE] [--json]`.
+/// Returns the definition of the command `show`, with its options and their help: `show --site F
+/// [--data DIR | --script FILE] [--at PLACE] [--json]`.
 pub(crate) fn show() -> CommandRow
     ensures { app_of_row result ≡ show_command }
 {

@@ -38,7 +38,7 @@ pub(crate) enum OptionRow {
     Starting(&'static str, &'static str),
 }
 
-/// Returns the clap argument of an option.
+/// Returns the clap argument of an option of the command line.
 pub(crate) fn arg_of<'a>(alloc: Global, row: &OptionRow) -> Arg<'a>
     ensures rule { rule_of result ≡ rule_of_row row.now }
     ensures global { result.global ≡ false }
@@ -67,7 +67,7 @@ pub(crate) fn arg_of<'a>(alloc: Global, row: &OptionRow) -> Arg<'a>
     }
 }
 
-/// Returns the argument of an option that takes a value.
+/// Returns the clap argument of an option of the command line that takes a value.
 fn option<'a>(alloc: Global, name: &'a str, help: &'a str) -> Arg<'a>
     ensures rule { rule_of result ≡ option name.now }
     ensures global { result.global ≡ false }

@@ -44,7 +44,7 @@ pub fn job_of<'a>(alloc: Global, words: &'a [String]) -> Result<Job<'a>, Error>
     Ok(job)
 }
 
-/// Returns the job of a subcommand with its options.
+/// Returns the job of a subcommand of the command line with its options.
 fn job_named<'a>(name: &str, given: &ArgMatches<'a>) -> Option<Job<'a>>
     ensures { IfSome result (λ job. IsJob name.now (rows_of (found_of given.now)) job) }
 {
@@ -75,7 +75,8 @@ fn job_named<'a>(name: &str, given: &ArgMatches<'a>) -> Option<Job<'a>>
     reader_named(name, given)
 }
 
-/// Returns the job of a subcommand that reads a script or a journal, and prints its content.
+/// Returns the job of a subcommand of the command line that reads a script or a journal, and prints
+/// its content.
 fn reader_named<'a>(name: &str, given: &ArgMatches<'a>) -> Option<Job<'a>>
     ensures { IfSome result (λ job. IsJob name.now (rows_of (found_of given.now)) job) }
 {
@@ -90,7 +91,7 @@ fn reader_named<'a>(name: &str, given: &ArgMatches<'a>) -> Option<Job<'a>>
     page_named(name, given)
 }
 
-/// Returns the job of a subcommand that prints a page for people.
+/// Returns the job of a subcommand of the command line that prints a page for people.
 fn page_named<'a>(name: &str, given: &ArgMatches<'a>) -> Option<Job<'a>>
     ensures { IfSome result (λ job. IsJob name.now (rows_of (found_of given.now)) job) }
 {
@@ -109,6 +110,7 @@ fn page_named<'a>(name: &str, given: &ArgMatches<'a>) -> Option<Job<'a>>
     None
 }
 
+/// Returns the job of `serve` with the options on the command line.
 fn serving_of<'a>(given: &ArgMatches<'a>) -> Option<Serving<'a>>
     ensures { IfSome result (λ serving. IsServing (rows_of (found_of given.now)) serving) }
 {
@@ -128,6 +130,7 @@ fn serving_of<'a>(given: &ArgMatches<'a>) -> Option<Serving<'a>>
     })
 }
 
+/// Returns the job of `replay` with the options on the command line.
 fn replaying_of<'a>(given: &ArgMatches<'a>) -> Option<Replaying<'a>>
     ensures { IfSome result (λ replaying. IsReplaying (rows_of (found_of given.now)) replaying) }
 {
@@ -136,6 +139,8 @@ fn replaying_of<'a>(given: &ArgMatches<'a>) -> Option<Replaying<'a>>
     Some(Replaying { site, source })
 }
 
+/// Returns the job of `run` with the options on the command line, and the defaults of those that
+/// aren't given.
 fn running_of<'a>(given: &ArgMatches<'a>) -> Option<Running<'a>>
     ensures { IfSome result (λ running. IsRunning (rows_of (found_of given.now)) running) }
 {
@@ -164,6 +169,7 @@ fn running_of<'a>(given: &ArgMatches<'a>) -> Option<Running<'a>>
     })
 }
 
+/// Returns the job of `key` with the options on the command line.
 fn key_making_of<'a>(given: &ArgMatches<'a>) -> Option<KeyMaking<'a>>
     ensures { IfSome result (λ making. IsKeyMaking (rows_of (found_of given.now)) making) }
 {
@@ -172,6 +178,7 @@ fn key_making_of<'a>(given: &ArgMatches<'a>) -> Option<KeyMaking<'a>>
     Some(KeyMaking { name, is_operator })
 }
 
+/// Returns the job of `call` with the options on the command line.
 fn calling_of<'a>(given: &ArgMatches<'a>) -> Option<Calling<'a>>
     ensures { IfSome result (λ calling. IsCalling (rows_of (found_of given.now)) calling) }
 {
@@ -207,7 +214,8 @@ fn calling_of<'a>(given: &ArgMatches<'a>) -> Option<Calling<'a>>
     })
 }
 
-/// Returns the remote start, if one is given. None if it has neither two nor three values.
+/// Returns the remote start that `call` is to request by `--remote-start`, if one is given. None if
+/// it has neither two nor three values.
 fn starting_of<'a>(given: &ArgMatches<'a>) -> Option<Option<Starting<'a>>>
     ensures { IfSome result (λ starting.
         IsStarting (all_of (codes "remote-start") (rows_of (found_of given.now))) starting) }
@@ -228,7 +236,8 @@ fn starting_of<'a>(given: &ArgMatches<'a>) -> Option<Option<Starting<'a>>>
     }
 }
 
-/// Returns the request in the two values of an option, if it is given. None if there aren't two.
+/// Returns the connector and the seconds in the two values of an option of `call`, if it is given.
+/// None if there aren't two.
 fn asking_of<'a>(given: &ArgMatches<'a>, option: &str) -> Option<Option<Asking<'a>>>
     ensures { IfSome result
         (λ asking. IsAsking (all_of option.now (rows_of (found_of given.now))) asking) }
@@ -240,6 +249,7 @@ fn asking_of<'a>(given: &ArgMatches<'a>, option: &str) -> Option<Option<Asking<'
     }
 }
 
+/// Returns the job of `point` with the options on the command line.
 fn pointing_of<'a>(given: &ArgMatches<'a>) -> Option<Pointing<'a>>
     ensures { IfSome result (λ pointing. IsPointing (rows_of (found_of given.now)) pointing) }
 {
@@ -255,6 +265,7 @@ fn pointing_of<'a>(given: &ArgMatches<'a>) -> Option<Pointing<'a>>
     })
 }
 
+/// Returns the job of `explain` with the options on the command line.
 fn explaining_of<'a>(given: &ArgMatches<'a>) -> Option<Explaining<'a>>
     ensures { IfSome result
         (λ explaining. IsExplaining (rows_of (found_of given.now)) explaining) }
@@ -283,6 +294,7 @@ fn explaining_of<'a>(given: &ArgMatches<'a>) -> Option<Explaining<'a>>
     })
 }
 
+/// Returns the job of `check` with the options on the command line.
 fn checking_of<'a>(given: &ArgMatches<'a>) -> Option<Checking<'a>>
     ensures { IfSome result (λ checking. IsChecking (rows_of (found_of given.now)) checking) }
 {
@@ -298,6 +310,7 @@ fn checking_of<'a>(given: &ArgMatches<'a>) -> Option<Checking<'a>>
     })
 }
 
+/// Returns the job of `show` with the options on the command line.
 fn showing_of<'a>(given: &ArgMatches<'a>) -> Option<Showing<'a>>
     ensures { IfSome result (λ showing. IsShowing (rows_of (found_of given.now)) showing) }
 {
@@ -312,7 +325,8 @@ fn showing_of<'a>(given: &ArgMatches<'a>) -> Option<Showing<'a>>
     })
 }
 
-/// Returns the source of the script. None if two options name one.
+/// Returns the source of the script that a command reads, by `--data` and `--script`. None if both
+/// options name one.
 fn source_of<'a>(given: &ArgMatches<'a>) -> Option<Source<'a>>
     ensures { IfSome result (λ source. IsSource (rows_of (found_of given.now)) source) }
 {
@@ -325,14 +339,14 @@ fn source_of<'a>(given: &ArgMatches<'a>) -> Option<Source<'a>>
     }
 }
 
-/// Returns whether two options name a script.
+/// Returns whether both `--data` and `--script` name a script for a command.
 fn has_two_scripts(given: &ArgMatches<'_>) -> bool
     ensures { result ≡ has_two_scripts (rows_of (found_of given.now)) }
 {
     text_of(given, "data").is_some() && text_of(given, "script").is_some()
 }
 
-/// Returns the value of an option.
+/// Returns the value of an option of the command line.
 fn text_of<'a>(given: &ArgMatches<'a>, option: &str) -> Option<&'a str>
     ensures { option_map (λ text. text.now) result
         ≡ first_of option.now (rows_of (found_of given.now)) }
@@ -340,7 +354,7 @@ fn text_of<'a>(given: &ArgMatches<'a>, option: &str) -> Option<&'a str>
     given.get_str(option)
 }
 
-/// Returns the values of an option.
+/// Returns the values of an option of the command line.
 fn texts_of<'b, 'a>(given: &'b ArgMatches<'a>, option: &str) -> Option<&'b [&'a str]>
     ensures { option_map (λ texts. map (λ text. text.now) texts.now) result
         ≡ all_of option.now (rows_of (found_of given.now)) }
@@ -348,7 +362,7 @@ fn texts_of<'b, 'a>(given: &'b ArgMatches<'a>, option: &str) -> Option<&'b [&'a 
     given.get_raw(option)
 }
 
-/// Returns the whole number that is the value of an option.
+/// Returns the whole number that is the value of an option of the command line.
 fn number_of(given: &ArgMatches<'_>, option: &str) -> Option<u64>
     ensures { IfSome result
         (λ number. IsNumber option.now (rows_of (found_of given.now)) number) }
@@ -356,14 +370,14 @@ fn number_of(given: &ArgMatches<'_>, option: &str) -> Option<u64>
     given.get_one(option)
 }
 
-/// Returns the whole number that is the value of an option, if it is given.
+/// Returns the whole number that is the value of an option of the command line, if it is given.
 fn optional_number_of(given: &ArgMatches<'_>, option: &str) -> Option<u64>
     ensures { IsOptionalNumber option.now (rows_of (found_of given.now)) result }
 {
     given.get_one(option)
 }
 
-/// Returns whether an option without a value is given.
+/// Returns whether an option without a value is given on the command line.
 fn is_given(given: &ArgMatches<'_>, option: &str) -> bool
     ensures { IsFlag option.now (rows_of (found_of given.now)) result }
 {

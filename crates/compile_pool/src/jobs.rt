@@ -42,7 +42,8 @@ impl<'a> Jobs<'a> {
         }
     }
 
-    /// Returns the channel of a job. Only a short job gets that of short ones.
+    /// Returns the channel to the workers that compile a job. Only a short job gets that of short
+    /// ones.
     fn channel_of(&self, job: &Job, short: bool) -> &'a Sender<Job>
         requires { IsTrue short → IsShort job.now }
         ensures { (result ≡ self.now.long)

@@ -20,8 +20,8 @@ use std::thread::Threads;
 use sweep_compiler::Compiled;
 use version_store::{Book, Job, Shared};
 
-/// Compiles the schedule of a job for the book that its point had when it was taken. If memory runs
-/// out, that is the answer.
+/// Compiles the composite schedule of a worker's job, for the book that its point had when the
+/// request was taken. If memory runs out, that is the answer.
 fn compile_job(alloc: Global, job: Job) -> (u64, Compiled)
     ensures number { result.0 ≡ job.number }
     ensures compiled { IsOfJob job result.1 }
@@ -30,8 +30,8 @@ fn compile_job(alloc: Global, job: Job) -> (u64, Compiled)
     (number, Compiled::make(alloc, book, ask))
 }
 
-/// Posts a compiled answer, or drops it if the book refuses it: its request was answered or handed
-/// out meanwhile.
+/// Posts the compiled answer to a request for a composite schedule, or drops it if the book refuses
+/// it. Then its request was answered or handed out meanwhile.
 fn post_or_drop<C: Ledger, A: Ledger, N: ListName>(
     book: &mut Book<C, A, N>,
     number: u64,
@@ -73,8 +73,8 @@ pub fn answer_unmade<C: Ledger, A: Ledger, R: Wait, N: ListName>(
     post_or_drop(&mut book, number, unmade);
 }
 
-/// Returns a job whose request has no answer yet, to be compiled. Otherwise it comes back as an
-/// error: its session has ended, or the central system is stopped.
+/// Returns a worker's job whose request for a composite schedule has no answer yet. Otherwise it
+/// comes back as an error: its session has ended, or the central system is stopped.
 fn job_to_begin<C: Ledger, A: Ledger, N: ListName>(
     book: &Book<C, A, N>,
     job: Job,

@@ -16,8 +16,9 @@ const UPPER: u64 = BOTTOM + 54;
 
 pub(crate) const LOWER: u64 = UPPER + 26;
 
-/// Appends the strip: a field for each interval with the name of its cause, or only its letter if
-/// the name doesn't fit. Each field has a title that a pointing device shows.
+/// Appends to `explain`'s picture the strip that names the cause of each interval's limit, or only
+/// its letter if the name doesn't fit. Each interval's field has a title that a pointing device
+/// shows.
 pub(crate) fn push_causes(
     alloc: Global,
     out: &mut Page,
@@ -51,6 +52,8 @@ struct IntervalBand<'a> {
 }
 
 impl<'a> IntervalBand<'a> {
+    /// Returns the field of an interval in the strip of `explain`'s picture that names the causes
+    /// of limits.
     fn of(scale: Scale, interval: &'a Interval, is_odd: bool) -> IntervalBand<'a> {
         let left = scale.x(interval.start);
         IntervalBand {
@@ -62,6 +65,8 @@ impl<'a> IntervalBand<'a> {
     }
 }
 
+/// Appends the field of an interval to the strip of causes in `explain`'s picture, with its limit,
+/// length and cause as the title.
 fn push_field(
     alloc: Global,
     out: &mut Page,
@@ -84,7 +89,8 @@ fn push_field(
     out.push_str("</title></rect>\n");
 }
 
-/// Appends the name of a cause if its field has room for it, or else the letter if that fits.
+/// Appends the name of a cause to its field in `explain`'s picture if there is room for it, or else
+/// the letter if that fits.
 fn push_name(
     alloc: Global,
     out: &mut Page,
@@ -110,11 +116,14 @@ fn push_name(
     Ok(())
 }
 
-/// Returns whether an ASCII text fits into a field, at 7 units a character and a margin of 4.
+/// Returns whether an ASCII text fits into an interval's field in `explain`'s picture, at 7 units a
+/// character and a margin of 4.
 fn has_room(field: IntervalBand<'_>, text: &str) -> bool {
     (text.len() as u64).saturating_mul(7).saturating_add(4) <= field.breadth
 }
 
+/// Appends the name or the letter of a cause in the middle of its interval's field in `explain`'s
+/// picture.
 fn push_middle(out: &mut Page, field: IntervalBand<'_>, text: &str) {
     let (x, base) = (field.left.saturating_add(field.breadth / 2), UPPER + 17);
     write!(out, "<text class=\"name\" x=\"{x}\" y=\"{base}\">");

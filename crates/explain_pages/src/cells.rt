@@ -34,6 +34,8 @@ pub(crate) struct CellMaker<'a> {
 }
 
 impl<'a> CellMaker<'a> {
+    /// Returns a formatter of the intervals of an explained schedule as table cells, with times
+    /// local to a zone or in UTC.
     pub(crate) fn new(
         explained: &'a ExplainedRequest<'a>,
         zone: Option<ZoneClock<'a>>,
@@ -46,7 +48,8 @@ impl<'a> CellMaker<'a> {
         }
     }
 
-    /// Formats the next interval.
+    /// Formats the next interval of an explained schedule as table cells: its times, its length,
+    /// its limit and the cause.
     pub(crate) fn cells(
         &mut self,
         alloc: Global,
@@ -72,6 +75,8 @@ impl<'a> CellMaker<'a> {
         })
     }
 
+    /// Returns the start or the end of an explained schedule's interval as a time of day, after its
+    /// date if `dated`.
     fn time(&self, alloc: Global, time: ClockTime, dated: bool) -> Result<String, AllocError> {
         let mut out = Page::new(alloc);
         if dated {
@@ -83,7 +88,7 @@ impl<'a> CellMaker<'a> {
     }
 }
 
-/// Formats all intervals.
+/// Formats all intervals of an explained schedule as the cells of `explain`'s table.
 pub(crate) fn all_cells(
     alloc: Global,
     explained: &ExplainedRequest<'_>,

@@ -19,7 +19,8 @@ pub(crate) struct ClockTime {
 }
 
 impl ClockTime {
-    /// Returns the UTC time of a moment, in seconds since 1970.
+    /// Returns the date and time of day in UTC of a moment in seconds since 1970, for the times of
+    /// an explained schedule.
     pub(crate) fn of(moment: u64) -> ClockTime {
         // A request may end one second after the last instant, which is 24:00 of the last day.
         if moment > LAST_SECOND {
@@ -34,13 +35,14 @@ impl ClockTime {
         }
     }
 
-    /// Returns the local time of a moment in a zone, or the UTC time without one.
+    /// Returns the local time in a zone of a moment of an explained schedule, or the UTC time
+    /// without a zone.
     pub(crate) fn shown(zone: Option<ZoneClock<'_>>, moment: u64) -> ClockTime {
         ClockTime::of(shown_at(zone, moment))
     }
 }
 
-/// Appends a time of day, `hh:mm` or `hh:mm:ss`.
+/// Appends a time of day of an explained schedule, `hh:mm` or `hh:mm:ss`.
 pub(crate) fn push_time(out: &mut Page, second: u64, with_seconds: bool) {
     push_two_digits(out, second / 3600);
     out.push(':');
@@ -51,25 +53,26 @@ pub(crate) fn push_time(out: &mut Page, second: u64, with_seconds: bool) {
     }
 }
 
-/// Appends the last two digits of a number.
+/// Appends the last two digits of a number, in a time of day or an offset from UTC.
 pub(crate) fn push_two_digits(out: &mut Page, number: u64) {
     push_digit(out, number / 10 % 10);
     push_digit(out, number % 10);
 }
 
+/// Appends the last digit of a number, in a time of day or an offset from UTC.
 fn push_digit(out: &mut Page, digit: u64) {
     let digit = char::from_digit((digit % 10) as u32, 10);
     out.push(digit.unwrap_or('0'));
 }
 
-/// Appends the date of a day, `YYYY-MM-DD`.
+/// Appends the date of a day of an explained schedule, `YYYY-MM-DD`.
 pub(crate) fn push_date(alloc: Global, out: &mut Page, day: u64) {
     if let Some(instant) = Instant::try_new(day.saturating_mul(DAY)) {
         out.push_made(date_text(alloc, instant));
     }
 }
 
-/// Returns the date of an instant.
+/// Returns the date of an instant of an explained schedule, `YYYY-MM-DD`.
 fn date_text(alloc: Global, instant: Instant) -> Result<String, AllocError> {
     let text = instant_text(alloc, instant)?;
     match text.as_str().split_once('T') {
@@ -78,14 +81,14 @@ fn date_text(alloc: Global, instant: Instant) -> Result<String, AllocError> {
     }
 }
 
-/// Returns an instant as `YYYY-MM-DDThh:mm:ssZ`.
+/// Returns an instant of an explained schedule as `YYYY-MM-DDThh:mm:ssZ`.
 pub(crate) fn instant_text(alloc: Global, instant: Instant) -> Result<String, AllocError> {
     let mut text = String::new(alloc);
     push_instant(&mut text, instant)?;
     Ok(text)
 }
 
-/// Returns the day of the week, such as `Mon`.
+/// Returns the day of the week for a date in `explain`'s picture, such as `Mon`.
 pub(crate) fn weekday(day: u64) -> &'static str {
     match day % 7 {
         // 1970-01-01 was a Thursday.
@@ -99,7 +102,8 @@ pub(crate) fn weekday(day: u64) -> &'static str {
     }
 }
 
-/// Returns whether a time of the intervals isn't a whole minute, local to a zone or in UTC.
+/// Returns whether a time of an explained schedule isn't a whole minute, local to a zone or in UTC,
+/// so that its times need seconds.
 pub(crate) fn needs_seconds(explained: &ExplainedRequest<'_>, zone: Option<ZoneClock<'_>>) -> bool {
     for interval in explained.intervals {
         if has_seconds(zone, explained.moment(interval.start))
@@ -111,6 +115,8 @@ pub(crate) fn needs_seconds(explained: &ExplainedRequest<'_>, zone: Option<ZoneC
     has_seconds(zone, explained.moment(0)) || has_seconds(zone, explained.end())
 }
 
+/// Returns whether a moment of an explained schedule isn't a whole minute, local to a zone or in
+/// UTC.
 fn has_seconds(zone: Option<ZoneClock<'_>>, moment: u64) -> bool {
     shown_at(zone, moment) % 60 != 0
 }

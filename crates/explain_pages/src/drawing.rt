@@ -23,7 +23,7 @@ pub(crate) struct PictureInput<'a> {
     pub(crate) limit: &'a Steps,
 }
 
-/// Appends the data of a path along steps.
+/// Appends the SVG path data of a line along steps, in the picture of an explained schedule.
 pub(crate) fn push_path(out: &mut Page, scale: Scale, steps: &Steps) {
     let mut is_down = false;
     for step in &steps.items {
@@ -47,7 +47,7 @@ pub(crate) fn push_path(out: &mut Page, scale: Scale, steps: &Steps) {
     }
 }
 
-/// Appends the limit as a thick line, with the area below it.
+/// Appends the limit to `explain`'s picture as a thick line, with the area below it.
 pub(crate) fn push_limit_line(out: &mut Page, scale: Scale, steps: &Steps) {
     out.push_str("<path class=\"area\" d=\"");
     push_path(out, scale, steps);
@@ -58,7 +58,8 @@ pub(crate) fn push_limit_line(out: &mut Page, scale: Scale, steps: &Steps) {
     out.push_str("\"/>\n");
 }
 
-/// Appends the line of an entry, styled by the entry's place.
+/// Appends the line of a profile or a ceiling to `explain`'s picture, styled by the place of its
+/// entry.
 pub(crate) fn push_entry_line(out: &mut Page, scale: Scale, place: usize, entry: &LimitEntry) {
     match &entry.line {
         LimitLine::Steps(steps) => {
@@ -77,7 +78,7 @@ pub(crate) fn push_entry_line(out: &mut Page, scale: Scale, place: usize, entry:
     }
 }
 
-/// Returns the CSS class of a ceiling's line.
+/// Returns the CSS class of a ceiling's line in `explain`'s picture.
 pub(crate) fn ceiling_class(entry: &LimitEntry) -> &'static str {
     match entry.cause {
         Cause::PointCeiling => "ceiling whole",
@@ -85,14 +86,16 @@ pub(crate) fn ceiling_class(entry: &LimitEntry) -> &'static str {
     }
 }
 
-/// Appends the CSS classes of a profile's colour and dash pattern, by the profile's place.
+/// Appends the CSS classes of a profile's colour and dash pattern in `explain`'s picture, by the
+/// profile's place.
 pub(crate) fn push_style(out: &mut Page, place: usize) {
     // Six colours and eight dashes give 24 different lines before one repeats.
     let (colour, dash) = (place % 6, place % 8);
     write!(out, "c{colour} d{dash}");
 }
 
-/// Appends the letter of an entry by its place: A to Z, then A1, B1 and so on.
+/// Appends the letter of an entry in `explain`'s picture by its place: A to Z, then A1, B1 and so
+/// on.
 pub(crate) fn push_letter(out: &mut Page, place: usize) {
     out.push((b'A' + (place % 26) as u8) as char);
     if place >= 26 {
@@ -101,7 +104,7 @@ pub(crate) fn push_letter(out: &mut Page, place: usize) {
     }
 }
 
-/// Appends the ticks of the limit axis, each with a grid line.
+/// Appends the ticks of the limit axis to `explain`'s picture, each with a grid line.
 pub(crate) fn push_limit_axis(out: &mut Page, scale: Scale, unit: Unit) {
     for count in 0..=MOST_LIMITS {
         let limit = scale.step.saturating_mul(count);
@@ -111,6 +114,7 @@ pub(crate) fn push_limit_axis(out: &mut Page, scale: Scale, unit: Unit) {
     }
 }
 
+/// Appends a tick of the limit axis to `explain`'s picture: its grid line and its limit.
 fn push_limit_tick(out: &mut Page, scale: Scale, limit: u32, unit: Unit) {
     let y = scale.y(limit);
     write!(out, "<path class=\"grid\" d=\"M{LEFT} {y}H{RIGHT}\"/>");
@@ -125,7 +129,7 @@ fn push_limit_tick(out: &mut Page, scale: Scale, limit: u32, unit: Unit) {
     out.push_str("</text>\n");
 }
 
-/// Appends the ticks of the time axis, and the dates.
+/// Appends the ticks of the time axis, and the dates, to `explain`'s picture.
 pub(crate) fn push_time_axis(
     alloc: Global,
     out: &mut Page,
@@ -145,12 +149,14 @@ pub(crate) fn push_time_axis(
     push_dates(alloc, out, explained, scale);
 }
 
-/// Returns the second of a request at which a moment is, at most the request's duration.
+/// Returns the second of the explained request at which a moment is, at most the request's
+/// duration, to place it in the picture.
 fn second_at(explained: &ExplainedRequest<'_>, moment: u64) -> u32 {
     let second = moment.saturating_sub(explained.moment(0));
     second.min(u64::from(explained.ask.duration)) as u32
 }
 
+/// Appends a tick of the time axis to `explain`'s picture: its grid line and its time of day.
 fn push_time_tick(out: &mut Page, x: u64, moment: u64, step: u64) {
     let (foot, base) = (BOTTOM + 5, BOTTOM + 20);
     let has_seconds = step % 60 != 0;
@@ -165,8 +171,8 @@ fn push_time_tick(out: &mut Page, x: u64, moment: u64, step: u64) {
     out.push_str("</text>\n");
 }
 
-/// Appends the date at the start of the request, and at each midnight in it. In more than 8 days
-/// only each second or fourth midnight has one.
+/// Appends to the time axis of `explain`'s picture the date at the start of the request, and at
+/// each midnight in it. In more than 8 days only each second or fourth midnight has one.
 fn push_dates(alloc: Global, out: &mut Page, explained: &ExplainedRequest<'_>, scale: Scale) {
     let (start, end) = (explained.moment(0), explained.end());
     let step = u64::from(date_step(explained.ask.duration).max(1));
@@ -185,6 +191,8 @@ fn push_dates(alloc: Global, out: &mut Page, explained: &ExplainedRequest<'_>, s
     }
 }
 
+/// Appends the date of a day to the time axis of `explain`'s picture, with a mark and the day of
+/// the week.
 fn push_day(alloc: Global, out: &mut Page, day: u64, x: u64) {
     let (upper, lower, text) = (BOTTOM + 27, BOTTOM + 42, x.saturating_add(5));
     write!(out, "<path class=\"day\" d=\"M{x} {upper}V{lower}\"/>");

@@ -20,7 +20,8 @@ use recurrence::{next_change, rate_at};
 const END_OF_TIME: u64 = LAST_SECOND + 1;
 
 impl RowAtConnector<'_> {
-    /// Returns whether the row is installed at another connector.
+    /// Returns whether a charging profile's row is installed at another connector, which is a
+    /// reason why it doesn't prevail.
     pub(crate) fn is_elsewhere(&self) -> bool
         ensures { result ≡ is_elsewhere self.now.row.now.profile.purpose self.now.at
             self.now.row.now.connector }
@@ -33,7 +34,8 @@ impl RowAtConnector<'_> {
         }
     }
 
-    /// Returns whether the row needs a transaction, and there is none.
+    /// Returns whether a charging profile's row needs a transaction and there is none, which is a
+    /// reason why it doesn't prevail.
     pub(crate) fn lacks_transaction(&self) -> bool
         ensures { result
             ≡ lacks_transaction (point_state self.now.view) self.now.at self.now.row.now }
@@ -42,7 +44,8 @@ impl RowAtConnector<'_> {
             && self.view.active_since(self.at).is_none()
     }
 
-    /// Returns whether the connector has a TxDefaultProfile of its own at the row's stack level.
+    /// Returns whether the row is a TxDefaultProfile of connector 0, and the connector has one of
+    /// its own at the same stack level.
     pub(crate) fn is_hidden(&self) -> bool
         ensures { result ≡ true
             → is_hidden (point_state self.now.view) self.now.at self.now.row.now ≡ true }
@@ -53,7 +56,8 @@ impl RowAtConnector<'_> {
             && !is_candidate(Purpose::TxDefaultProfile, self.view.rows, self.at, self.row)
     }
 
-    /// Returns the instant from which a row counts its seconds if it has no start of its own.
+    /// Returns the instant from which a charging profile's row counts its seconds if it has no
+    /// start of its own.
     pub(crate) fn base_of(&self, row: &Row) -> Instant
         ensures { result ≡ base row.now (active_since (point_state self.now.view) self.now.at)
             self.now.ask.start }
@@ -61,7 +65,7 @@ impl RowAtConnector<'_> {
         row.base(self.view.active_since(self.at), self.ask.start)
     }
 
-    /// Returns the instant at which the row's schedule begins.
+    /// Returns the instant at which the charging schedule of the row's profile begins.
     pub(crate) fn anchor(&self) -> Instant
         ensures { result ≡ anchor self.now.row.now.profile (base self.now.row.now
             (active_since (point_state self.now.view) self.now.at) self.now.ask.start) }
@@ -69,7 +73,8 @@ impl RowAtConnector<'_> {
         self.row.profile.anchor(self.base_of(self.row))
     }
 
-    /// Returns until when the row's schedule remains past its duration, if it is.
+    /// Returns until when the schedule of the row's charging profile remains past its duration, if
+    /// it is past it at an instant.
     pub(crate) fn over_until(&self, instant: Instant) -> Option<u64>
         ensures { IfSome result (IsSoUntil (Holds PastDuration self.now) instant) }
     {
@@ -83,7 +88,8 @@ impl RowAtConnector<'_> {
         Some(counts_on_until(profile, base, instant, offset))
     }
 
-    /// Returns until when none of the row's periods has begun, if none has.
+    /// Returns until when none of the periods of the row's charging profile has begun, if none has
+    /// at an instant.
     pub(crate) fn ahead_until(&self, instant: Instant) -> Option<u64>
         ensures { IfSome result (IsSoUntil (Holds BeforeFirstPeriod self.now) instant) }
     {
@@ -104,8 +110,8 @@ impl RowAtConnector<'_> {
         }
     }
 
-    /// Returns until when a profile of the row's purpose with a higher stack level has a limit, if
-    /// one has.
+    /// Returns until when a profile of the row's purpose with a higher stack level has a limit, and
+    /// so takes precedence, if one has.
     pub(crate) fn above_until(&self, instant: Instant) -> Option<u64>
         ensures { IfSome result (IsSoUntil (Holds BelowHigherLevel self.now) instant) }
     {
@@ -113,7 +119,8 @@ impl RowAtConnector<'_> {
         self.other_until(profile.purpose, profile.stack_level + 1, instant)
     }
 
-    /// Returns until when a TxProfile has a limit, if the row is a TxDefaultProfile and one has.
+    /// Returns until when a TxProfile has a limit, and so takes precedence, if the row is a
+    /// TxDefaultProfile and one has.
     pub(crate) fn tx_until(&self, instant: Instant) -> Option<u64>
         ensures { IfSome result (IsSoUntil (Holds BehindTxProfile self.now) instant) }
     {
@@ -123,8 +130,8 @@ impl RowAtConnector<'_> {
         }
     }
 
-    /// Returns until when a row of a purpose at the stack level `least` or above has a limit, if
-    /// one has.
+    /// Returns until when a profile of a purpose at the stack level `least` or above has a limit,
+    /// and may take precedence, if one has.
     fn other_until(&self, purpose: Purpose, least: u32, instant: Instant) -> Option<u64>
         ensures { IfSome result (IsSoUntil (λ k. Reaches least (prevailing_row purpose
             (point_state self.now.view) self.now.at self.now.ask.start k)) instant) }
@@ -146,14 +153,16 @@ impl RowAtConnector<'_> {
     }
 }
 
-/// Returns the end of time for a reason that always holds, and `None` for one that never does.
+/// Returns until when a reason why a profile doesn't prevail holds: to the end of time for one that
+/// always holds, and `None` for one that never does.
 pub(crate) fn always(holds: bool) -> Option<u64>
     ensures { result ≡ (if holds then Some (last_second + 1) else None) }
 {
     if holds { Some(END_OF_TIME) } else { None }
 }
 
-/// Returns the seconds of `bound` if it is still to come.
+/// Returns the seconds of a profile's `validFrom` or schedule start if that is still to come: until
+/// then the profile doesn't prevail.
 pub(crate) fn before(bound: Option<Instant>, instant: Instant) -> Option<u64>
     ensures { IfSome result (λ until. (instant < until) × (bound ≡ Some until)) }
 {
@@ -165,7 +174,8 @@ pub(crate) fn before(bound: Option<Instant>, instant: Instant) -> Option<u64>
     }
 }
 
-/// Returns until when a profile keeps the limit that it has at an instant, or keeps having none.
+/// Returns until when a charging profile keeps the limit that it has at an instant, or keeps having
+/// none.
 pub(crate) fn rate_until(profile: &Profile, base: Instant, instant: Instant) -> u64
     ensures { IsSoUntil
         (λ k. rate profile.now base k ≡ rate profile.now base instant) instant result }
@@ -176,8 +186,8 @@ pub(crate) fn rate_until(profile: &Profile, base: Instant, instant: Instant) -> 
     }
 }
 
-/// Returns an instant until which a profile that has a limit now keeps having one. It may have one
-/// for longer.
+/// Returns an instant until which a charging profile that has a limit now keeps having one. It may
+/// have one for longer.
 fn limit_until(profile: &Profile, base: Instant, instant: Instant) -> u64
     requires { is_some (rate profile.now base instant) ≡ true }
     ensures { IsSoUntil (λ k. is_some (rate profile.now base k) ≡ true) instant result }
@@ -190,7 +200,8 @@ fn limit_until(profile: &Profile, base: Instant, instant: Instant) -> u64
     rate_until(profile, base, instant)
 }
 
-/// Returns the end of the validity of a profile that is valid at an instant.
+/// Returns the end of the validity of a charging profile that is valid at an instant: its
+/// `validTo`, or the end of time.
 fn valid_until(profile: &Profile, instant: Instant) -> u64
     requires { is_before instant profile.now.valid_to ≡ true }
     ensures { IsSoUntil (λ k. is_before k profile.now.valid_to ≡ true) instant result }
@@ -201,7 +212,8 @@ fn valid_until(profile: &Profile, instant: Instant) -> u64
     }
 }
 
-/// Returns until when a schedule counts on from the offset that it has at an instant.
+/// Returns until when a charging schedule counts on from the offset that it has at an instant. A
+/// recurring one then begins again.
 fn counts_on_until(profile: &Profile, base: Instant, instant: Instant, at: u64) -> u64
     requires { offset profile.now base instant ≡ Some at }
     ensures { IsSoUntil

@@ -31,7 +31,8 @@ pub fn write_json(alloc: Global, explained: &ExplainedRequest<'_>) -> Result<Str
     line.finish_line()
 }
 
-/// Appends the fields of the request.
+/// Appends the fields of the request to the JSON of an explained schedule: point, connector, unit,
+/// start and duration.
 fn push_asked(line: &mut JsonPage, explained: &ExplainedRequest<'_>) {
     line.text("point", explained.point);
     line.number("connector", u64::from(explained.ask.connector));
@@ -40,6 +41,8 @@ fn push_asked(line: &mut JsonPage, explained: &ExplainedRequest<'_>) {
     line.number("duration", u64::from(explained.ask.duration));
 }
 
+/// Appends an interval to the JSON of an explained schedule, with its limit, its cause and its
+/// shares.
 fn push_interval(line: &mut JsonPage, explained: &ExplainedRequest<'_>, interval: &Interval) {
     line.begin_object();
     // A moment after the last instant becomes null.
@@ -54,6 +57,7 @@ fn push_interval(line: &mut JsonPage, explained: &ExplainedRequest<'_>, interval
     line.end_object();
 }
 
+/// Appends a connector's share of a summed limit to the JSON of an explained schedule.
 fn push_share(line: &mut JsonPage, share: &Share) {
     line.begin_object();
     line.number("connector", u64::from(share.connector));
@@ -61,7 +65,8 @@ fn push_share(line: &mut JsonPage, share: &Share) {
     line.end_object();
 }
 
-/// Appends the fields `limit` and `cause`.
+/// Appends the fields `limit` and `cause` of an interval or a share to the JSON of an explained
+/// schedule.
 fn push_limit(line: &mut JsonPage, limit: u32, cause: Cause) {
     line.tenths("limit", limit);
     line.object("cause");
@@ -77,7 +82,7 @@ fn push_limit(line: &mut JsonPage, limit: u32, cause: Cause) {
     line.end_object();
 }
 
-/// Appends the fields of a profile.
+/// Appends the fields that identify a charging profile to the JSON of an explained schedule.
 fn push_profile(line: &mut JsonPage, profile: PrevailingProfile) {
     line.integer("chargingProfileId", profile.id);
     line.text("purpose", purpose_name(profile.purpose));
@@ -85,6 +90,8 @@ fn push_profile(line: &mut JsonPage, profile: PrevailingProfile) {
     line.number("connector", u64::from(profile.connector));
 }
 
+/// Appends a profile that never sets the limit, with the reason, to the JSON of an explained
+/// schedule.
 fn push_not_counted(line: &mut JsonPage, one: &NotCounted) {
     line.begin_object();
     push_profile(line, one.profile);

@@ -17,14 +17,16 @@ const FIRST: u64 = LOWER + 30;
 
 const LINE: u64 = 22;
 
-/// Returns the lower edge of a legend with a number of entries, with some room below it.
+/// Returns the lower edge of the legend in `explain`'s picture for a number of entries, with some
+/// room below it.
 pub(crate) fn lower_edge(entries: usize) -> u64 {
     (entries as u64)
         .saturating_mul(LINE)
         .saturating_add(FIRST + 24)
 }
 
-/// Appends the legend: the limit, and each entry with its letter, a piece of its line and its name.
+/// Appends the legend of `explain`'s picture: the limit, and each entry with its letter, a piece of
+/// its line and its name.
 pub(crate) fn push_legend(alloc: Global, out: &mut Page, sketch: PictureInput<'_>) {
     push_sample(out, "limit", FIRST);
     push_text(out, limit_text(alloc, sketch), FIRST);
@@ -36,14 +38,15 @@ pub(crate) fn push_legend(alloc: Global, out: &mut Page, sketch: PictureInput<'_
     }
 }
 
-/// Returns the middle of an entry's line, by the entry's place.
+/// Returns the middle of an entry's line in the legend of `explain`'s picture, by the entry's
+/// place.
 fn middle_of(place: usize) -> u64 {
     (place as u64)
         .saturating_mul(LINE)
         .saturating_add(FIRST + LINE)
 }
 
-/// Appends the letter of an entry and a piece of its line.
+/// Appends the letter of an entry and a piece of its line to the legend of `explain`'s picture.
 fn push_entry(out: &mut Page, place: usize, entry: &LimitEntry, middle: u64) {
     let base = middle.saturating_add(4);
     write!(out, "<text class=\"letter\" x=\"{LEFT}\" y=\"{base}\">");
@@ -61,12 +64,13 @@ fn push_entry(out: &mut Page, place: usize, entry: &LimitEntry, middle: u64) {
     }
 }
 
-/// Appends a piece of a line with a CSS class.
+/// Appends a piece of a line with a CSS class to the legend of `explain`'s picture.
 fn push_sample(out: &mut Page, class: &str, middle: u64) {
     let (from, to) = (LEFT + 28, LEFT + 88);
     write!(out, "<path class=\"{class}\" d=\"M{from} {middle}H{to}\"/>");
 }
 
+/// Appends the name of the limit or of an entry to its line in the legend of `explain`'s picture.
 fn push_text(out: &mut Page, made: Result<String, AllocError>, middle: u64) {
     let (x, base) = (LEFT + 100, middle.saturating_add(4));
     write!(out, "<text x=\"{x}\" y=\"{base}\">");
@@ -74,7 +78,8 @@ fn push_text(out: &mut Page, made: Result<String, AllocError>, middle: u64) {
     out.push_str("</text>\n");
 }
 
-/// Returns the name of the limit, with a note if the picture cuts its line.
+/// Returns the name of the limit in the legend of `explain`'s picture, with a note if the picture
+/// cuts its line.
 fn limit_text(alloc: Global, sketch: PictureInput<'_>) -> Result<String, AllocError> {
     let mut text = Page::new(alloc);
     text.push_str("the limit");
@@ -82,7 +87,8 @@ fn limit_text(alloc: Global, sketch: PictureInput<'_>) -> Result<String, AllocEr
     text.finish()
 }
 
-/// Returns the name of an entry, with a note if the picture cuts its line or leaves it out.
+/// Returns the name of an entry in the legend of `explain`'s picture, with a note if the picture
+/// cuts its line or leaves it out.
 fn entry_text(
     alloc: Global,
     explained: &ExplainedRequest<'_>,
@@ -107,7 +113,7 @@ fn entry_text(
     text.finish()
 }
 
-/// Appends until when a line is drawn, if it is cut.
+/// Appends to the legend of `explain`'s picture until when a line is drawn, if it is cut.
 pub(crate) fn push_cut(
     alloc: Global,
     out: &mut Page,

@@ -12,7 +12,7 @@ const APART: (u64, u64) = (20, 13);
 /// The number of positions tried before a letter is left out.
 const TRIES: usize = 12;
 
-/// Appends the letter of each entry above the beginning of its line.
+/// Appends to `explain`'s picture the letter of each entry above the beginning of its line.
 pub(crate) fn push_letters(
     alloc: Global,
     out: &mut Page,
@@ -34,7 +34,8 @@ pub(crate) fn push_letters(
     Ok(())
 }
 
-/// Returns the spot above the start of a line, or at the right edge for a ceiling.
+/// Returns the spot of an entry's letter in `explain`'s picture: above the start of its line, or at
+/// the right edge for a ceiling.
 fn beginning(scale: Scale, line: &LimitLine) -> Option<(u64, u64)> {
     match line {
         LimitLine::Level(_) if scale.is_passed_by(line) => None,
@@ -51,12 +52,13 @@ fn beginning(scale: Scale, line: &LimitLine) -> Option<(u64, u64)> {
     }
 }
 
-/// Returns the height just above a limit's line.
+/// Returns the height of an entry's letter in `explain`'s picture, just above a limit's line.
 fn above(scale: Scale, limit: u32) -> u64 {
     scale.y(limit).saturating_sub(6)
 }
 
-/// Returns the first free spot beside a spot: to its right, or to its left in the right half.
+/// Returns the first free spot for a letter of `explain`'s picture beside a spot: to its right, or
+/// to its left in the right half.
 fn free_spot(spots: &[(u64, u64)], spot: (u64, u64)) -> Option<(u64, u64)> {
     // Two lines may begin at one point. A letter that finds no free spot is only in the legend.
     let (mut x, y) = spot;
@@ -74,6 +76,7 @@ fn free_spot(spots: &[(u64, u64)], spot: (u64, u64)) -> Option<(u64, u64)> {
     None
 }
 
+/// Returns whether letters at two spots of `explain`'s picture would overlap.
 fn is_near(one: (u64, u64), other: (u64, u64)) -> bool {
     one.0.abs_diff(other.0) < APART.0 && one.1.abs_diff(other.1) < APART.1
 }

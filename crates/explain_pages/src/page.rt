@@ -44,6 +44,8 @@ const HEAD: &str = r#"<h2 id="intervals">Each limit, and why</h2>
 <tbody>
 "#;
 
+/// Appends the table of an explained schedule's intervals to `explain`'s HTML page, up to
+/// `MAX_INTERVALS`.
 fn push_table(
     alloc: Global,
     out: &mut Page,
@@ -64,7 +66,8 @@ fn push_table(
     Ok(())
 }
 
-/// Appends the number of intervals that the table leaves out, if there are any.
+/// Appends to `explain`'s HTML page the number of intervals that its table leaves out, if there are
+/// any.
 fn push_note(out: &mut Page, count: usize) {
     if count <= MAX_INTERVALS {
         return;
@@ -74,14 +77,16 @@ fn push_note(out: &mut Page, count: usize) {
     out.push_str("</p>\n");
 }
 
-/// Appends the length, the limit and the cause, and ends the row.
+/// Appends the length, the limit and the cause of an interval to the table of `explain`'s HTML
+/// page, and ends the row.
 fn push_cells(out: &mut Page, cells: &Cells) {
     push_element(out, "</td><td>", cells.length.as_str(), "</td>");
     push_element(out, "<td class=\"number\">", cells.limit.as_str(), "</td>");
     push_element(out, "<td>", cells.why.as_str(), "</td></tr>\n");
 }
 
-/// Appends a clock time as an element `time`, with its instant for programs.
+/// Appends a clock time to `explain`'s HTML page as an element `time`, with its instant for
+/// programs.
 fn push_clock(out: &mut Page, moment: u64, text: &str) {
     // The end of the calendar's last day has no `Instant`.
     let Some(instant) = Instant::try_new(moment) else {
@@ -94,6 +99,8 @@ fn push_clock(out: &mut Page, moment: u64, text: &str) {
     push_element(out, "\">", text, "</time>");
 }
 
+/// Appends to `explain`'s HTML page the list of the profiles that never set the limit, each with
+/// the reason.
 fn push_not_counted(alloc: Global, out: &mut Page, all: &[NotCounted]) {
     if all.is_empty() {
         return;

@@ -36,7 +36,8 @@ pub fn write_picture(
     out.finish()
 }
 
-/// Appends the element `svg`.
+/// Appends the element `svg` with the picture of an explained schedule, for the SVG file and for
+/// the HTML page.
 pub(crate) fn push_picture(
     alloc: Global,
     out: &mut Page,
@@ -64,6 +65,7 @@ pub(crate) fn push_picture(
     Ok(())
 }
 
+/// Appends the start tag of the element `svg` of `explain`'s picture, with its size.
 fn push_opening(out: &mut Page, height: u64) {
     out.push_str("<svg xmlns=\"http://www.w3.org/2000/svg\" class=\"hilfrogwy\" role=\"img\"");
     // A screen reader takes the picture as one image, and reads out these two elements for it.
@@ -72,7 +74,7 @@ fn push_opening(out: &mut Page, height: u64) {
     write!(out, " width=\"{BREADTH}\" height=\"{height}\">\n");
 }
 
-/// Appends the title and the description.
+/// Appends the title and the description of `explain`'s picture, which a screen reader reads out.
 fn push_description(
     alloc: Global,
     out: &mut Page,
@@ -95,7 +97,8 @@ fn push_description(
     Ok(())
 }
 
-/// Appends the number of intervals that aren't shown, if there are any.
+/// Appends the number of intervals that the description of `explain`'s picture or the table of its
+/// HTML page leaves out, if there are any.
 pub(crate) fn push_more(out: &mut Page, count: usize, shown: usize) {
     if count > shown {
         let more = count - shown;
@@ -103,7 +106,8 @@ pub(crate) fn push_more(out: &mut Page, count: usize, shown: usize) {
     }
 }
 
-/// Appends the heading above the plot: the point, the connector, the unit and the time.
+/// Appends the heading above the plot of `explain`'s picture: the point, the connector, the unit
+/// and the time.
 fn push_head(alloc: Global, out: &mut Page, explained: &ExplainedRequest<'_>) {
     write!(out, "<text class=\"head\" x=\"{LEFT}\" y=\"30\">");
     push_made_escaped(out, place(alloc, explained));
@@ -123,7 +127,8 @@ fn push_head(alloc: Global, out: &mut Page, explained: &ExplainedRequest<'_>) {
     out.push_str("</text>\n");
 }
 
-/// Appends the axes, the lines, the letters, the causes and the legend.
+/// Appends the drawing of `explain`'s picture: the axes, the lines, the letters, the causes and the
+/// legend.
 fn push_drawing(alloc: Global, out: &mut Page, sketch: PictureInput<'_>) -> Result<(), AllocError> {
     let scale = sketch.scale;
     push_limit_axis(out, scale, sketch.explained.unit);

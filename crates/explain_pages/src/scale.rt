@@ -33,9 +33,9 @@ pub(crate) struct Scale {
 }
 
 impl Scale {
-    /// Returns a scale that has room for the limits. It ignores a profile's steps and a ceiling
-    /// above twice the largest limit: the ceiling is left out if it is above the plot, and the
-    /// profile is drawn at the upper edge there.
+    /// Returns a scale for `explain`'s picture that has room for the limits. It ignores a profile's
+    /// steps and a ceiling above twice the largest limit: the ceiling is left out if it is above
+    /// the plot, and the profile is drawn at the upper edge there.
     pub(crate) fn of(explained: &ExplainedRequest<'_>, entries: &[LimitEntry]) -> Scale {
         let limit = largest_limit(explained);
         let bound = match limit {
@@ -57,7 +57,8 @@ impl Scale {
         }
     }
 
-    /// Returns the position of a second of the request between the left and the right edge.
+    /// Returns the position of a second of the explained request in `explain`'s picture, between
+    /// the left and the right edge of the plot.
     pub(crate) fn x(self, second: u32) -> u64
         ensures left { LEFT ≤ result }
         ensures right { result ≤ RIGHT }
@@ -67,7 +68,8 @@ impl Scale {
         LEFT + share.min(breadth)
     }
 
-    /// Returns the position of a limit between the upper and the lower edge.
+    /// Returns the position of a limit in `explain`'s picture, between the upper and the lower edge
+    /// of the plot.
     pub(crate) fn y(self, limit: u32) -> u64
         ensures upper { TOP ≤ result }
         ensures lower { result ≤ BOTTOM }
@@ -77,7 +79,8 @@ impl Scale {
         BOTTOM - share.min(height)
     }
 
-    /// Returns whether a line goes above the upper edge.
+    /// Returns whether the line of a profile or a ceiling goes above the upper edge of `explain`'s
+    /// picture.
     pub(crate) fn is_passed_by(self, line: &LimitLine) -> bool {
         match line {
             LimitLine::Level(limit) => u64::from(*limit) > self.top,
@@ -87,7 +90,8 @@ impl Scale {
     }
 }
 
-/// Returns the largest limit of a line that isn't above a bound, or 0.
+/// Returns the largest limit of a profile's or a ceiling's line that isn't above a bound, or 0, for
+/// the scale of `explain`'s picture.
 fn largest_within(line: &LimitLine, bound: u32) -> u32 {
     match line {
         LimitLine::Level(limit) if *limit <= bound => *limit,
@@ -96,6 +100,8 @@ fn largest_within(line: &LimitLine, bound: u32) -> u32 {
     }
 }
 
+/// Returns the largest limit of a profile's steps that isn't above a bound, or 0, for the scale of
+/// `explain`'s picture.
 fn largest_step(steps: &Steps, bound: u32) -> u32 {
     let mut largest = 0;
     for step in &steps.items {

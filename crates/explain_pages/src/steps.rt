@@ -36,13 +36,14 @@ pub(crate) struct Steps {
 }
 
 impl Steps {
-    /// Returns whether any step has a limit.
+    /// Returns whether any step of a line in `explain`'s picture has a limit.
     pub(crate) fn has_limit(&self) -> bool {
         self.items.iter().any(|step| step.limit.is_some())
     }
 }
 
-/// Returns the limits of a profile over a request, counted from a base.
+/// Returns the limits of a charging profile over the explained request, counted from a base, as the
+/// steps of its line in the picture.
 pub(crate) fn profile_steps(
     alloc: Global,
     profile: &Profile,
@@ -74,8 +75,9 @@ pub(crate) fn profile_steps(
     })
 }
 
-/// Returns the first instant of a request at which a profile has a limit, counted from a base. If
-/// none of the first `MAX_STEPS` steps has one, it is the start of the request.
+/// Returns the first instant of the explained request at which a charging profile has a limit,
+/// counted from a base. If none of the first `MAX_STEPS` steps has one, it is the start of the
+/// request.
 pub(crate) fn first_limit(profile: &Profile, base: Instant, ask: &Ask) -> Instant {
     let mut instant = ask.start;
     for _ in 0..MAX_STEPS {
@@ -90,13 +92,15 @@ pub(crate) fn first_limit(profile: &Profile, base: Instant, ask: &Ask) -> Instan
     ask.start
 }
 
-/// Returns the second of a request at which an instant is, at most the request's duration.
+/// Returns the second of the explained request at which an instant is, at most the request's
+/// duration.
 fn second_of(ask: &Ask, instant: Instant) -> u32 {
     let second = instant.seconds().saturating_sub(ask.start.seconds());
     second.min(u64::from(ask.duration)) as u32
 }
 
-/// Returns the limits of the intervals.
+/// Returns the limits of an explained schedule's intervals, as the steps of the thick line in its
+/// picture.
 pub(crate) fn interval_steps(
     alloc: Global,
     explained: &ExplainedRequest<'_>,

@@ -32,8 +32,8 @@ pub fn write_table(
     out.finish()
 }
 
-/// Appends a line with the point, the connector, the time and the unit, and then the clock changes
-/// of the zone.
+/// Appends the head of `explain`'s table: a line with the point, the connector, the time and the
+/// unit, and the clock changes of the zone.
 fn push_heading(
     alloc: Global,
     out: &mut Page,
@@ -58,7 +58,8 @@ fn push_heading(
     out.push('\n');
 }
 
-/// Appends a line for each clock change of a zone within the explained time.
+/// Appends to the head of `explain`'s table a line for each clock change of the time zone within
+/// the explained time.
 fn push_changes(alloc: Global, out: &mut Page, clock: ZoneClock<'_>, columns: Option<usize>) {
     let margins = Margins { indent: 0, columns };
     // The first shift is the offset at the start of the request, not a change of the clock.
@@ -81,7 +82,8 @@ fn push_changes(alloc: Global, out: &mut Page, clock: ZoneClock<'_>, columns: Op
     }
 }
 
-/// Returns the point, the connector, and the start, the end and the length of the time.
+/// Returns the heading of an explained schedule: the point, the connector, and the start, the end
+/// and the length of the time.
 pub(crate) fn heading(
     alloc: Global,
     explained: &ExplainedRequest<'_>,
@@ -99,7 +101,7 @@ pub(crate) fn heading(
     text.finish()
 }
 
-/// Returns the point and the connector in words.
+/// Returns the charge point and the connector of an explained schedule in words.
 pub(crate) fn place(alloc: Global, explained: &ExplainedRequest<'_>) -> Result<String, AllocError> {
     let mut text = Page::new(alloc);
     text.push_str(explained.point);
@@ -112,7 +114,7 @@ pub(crate) fn place(alloc: Global, explained: &ExplainedRequest<'_>) -> Result<S
     text.finish()
 }
 
-/// Appends a second of the request as date and time, local to a zone or in UTC.
+/// Appends a second of an explained schedule's request as date and time, local to a zone or in UTC.
 pub(crate) fn push_moment(
     alloc: Global,
     out: &mut Page,
@@ -137,6 +139,7 @@ struct Widths {
 }
 
 impl Widths {
+    /// Returns the width of the widest cell in each column of `explain`'s table.
     fn of(all: &[Cells]) -> Widths {
         let mut widths = Widths {
             from: 0,
@@ -155,7 +158,7 @@ impl Widths {
         widths
     }
 
-    /// Returns the widths with a heading above each column.
+    /// Returns the widths of the columns of `explain`'s table with a heading above each.
     fn with_names(self) -> Widths {
         Widths {
             from: self.from.max("from".len()),
@@ -166,7 +169,8 @@ impl Widths {
         }
     }
 
-    /// Returns the width of a line up to the limit, with the blanks between the columns.
+    /// Returns the width of a line of `explain`'s table up to the limit, with the blanks between
+    /// the columns.
     fn numbers(self) -> usize {
         self.from
             .saturating_add(self.to)
@@ -175,7 +179,7 @@ impl Widths {
             .saturating_add(6)
     }
 
-    /// Returns the width of a whole line, with two blanks before the cause.
+    /// Returns the width of a whole line of `explain`'s table, with two blanks before the cause.
     fn whole(self) -> usize {
         self.numbers().saturating_add(2).saturating_add(self.why)
     }
@@ -195,7 +199,8 @@ enum Layout {
 }
 
 impl Layout {
-    /// Returns the first layout in which a bar has its minimum width, or else paragraphs.
+    /// Returns the first layout of `explain`'s table in which a bar has its minimum width, or else
+    /// paragraphs.
     fn of(bare: Widths, columns: Option<usize>) -> Layout {
         let Some(columns) = columns else {
             return Layout::Plain;
@@ -228,6 +233,8 @@ struct Sheet<'a> {
     largest: u32,
 }
 
+/// Appends the intervals of an explained schedule to `explain`'s table, in the layout that fits
+/// into the columns.
 fn push_intervals(
     alloc: Global,
     out: &mut Page,
@@ -256,7 +263,7 @@ fn push_intervals(
     Ok(())
 }
 
-/// Returns the largest limit of the intervals, in tenths.
+/// Returns the largest limit of an explained schedule's intervals, in tenths.
 pub(crate) fn largest_limit(explained: &ExplainedRequest<'_>) -> u32 {
     let mut largest = 0;
     for interval in explained.intervals {
@@ -266,6 +273,7 @@ pub(crate) fn largest_limit(explained: &ExplainedRequest<'_>) -> u32 {
 }
 
 impl Sheet<'_> {
+    /// Appends the headings of the columns of `explain`'s table, unless its layout is paragraphs.
     fn push_head(&self, out: &mut Page) {
         if let Layout::Paragraphs(_) = self.layout {
             return;
@@ -287,7 +295,7 @@ impl Sheet<'_> {
         }
     }
 
-    /// Appends an interval.
+    /// Appends an interval of an explained schedule to `explain`'s table, in the table's layout.
     fn push(&self, alloc: Global, out: &mut Page, cells: &Cells) {
         match self.layout {
             Layout::Plain => {
@@ -310,6 +318,8 @@ impl Sheet<'_> {
         }
     }
 
+    /// Appends an interval to `explain`'s table as a paragraph: a line with its times, a line with
+    /// its limit, length and bar, and its cause.
     fn push_paragraph(&self, alloc: Global, out: &mut Page, cells: &Cells, room: usize) {
         let mut line = Page::new(alloc);
         line.push_str(cells.from.as_str());
@@ -329,6 +339,7 @@ impl Sheet<'_> {
         self.push_why(out, cells, 2);
     }
 
+    /// Appends the times, the length and the limit of an interval to its line of `explain`'s table.
     fn push_numbers(&self, out: &mut Page, cells: &Cells) {
         push_right(out, cells.from.as_str(), self.widths.from);
         out.push_str("  ");
@@ -339,6 +350,7 @@ impl Sheet<'_> {
         push_right(out, cells.limit.as_str(), self.widths.limit);
     }
 
+    /// Appends the cause of an interval's limit to `explain`'s table, as indented lines of its own.
     fn push_why(&self, out: &mut Page, cells: &Cells, indent: usize) {
         let margins = Margins {
             indent,
@@ -347,7 +359,8 @@ impl Sheet<'_> {
         push_lines(out, cells.why.as_str(), margins);
     }
 
-    /// Appends the bar of a limit after two blanks, and returns its length.
+    /// Appends the bar of an interval's limit to `explain`'s table after two blanks, and returns
+    /// its length.
     fn push_bar(&self, out: &mut Page, cells: &Cells, room: usize) -> usize {
         let bar = bar_of(cells.tenths, self.largest, room);
         if bar > 0 {
@@ -360,14 +373,16 @@ impl Sheet<'_> {
     }
 }
 
+/// Appends the end of a line of `explain`'s table: the blanks before the cause, the cause and a
+/// line feed.
 fn push_ended(out: &mut Page, before: &str, text: &str) {
     out.push_str(before);
     out.push_str(text);
     out.push('\n');
 }
 
-/// Returns the length of a limit's bar, in columns: the whole room for the largest limit, and at
-/// least one column for any limit above 0, if there is room.
+/// Returns the length of a limit's bar in `explain`'s table, in columns. It is the whole room for
+/// the largest limit, and at least one column for any limit above 0, if there is room.
 fn bar_of(limit: u32, largest: u32, room: usize) -> usize
     ensures fits { result ≤ room }
 {
@@ -379,7 +394,7 @@ fn bar_of(limit: u32, largest: u32, room: usize) -> usize
     share.max(1).min(most) as usize
 }
 
-/// Appends the profiles that never set the limit.
+/// Appends the profiles that never set the limit, each with the reason, below `explain`'s table.
 fn push_not_counted(alloc: Global, out: &mut Page, all: &[NotCounted], columns: Option<usize>) {
     if all.is_empty() {
         return;

@@ -53,8 +53,8 @@ pub(crate) const MOST_DATES: u32 = 8;
 
 pub(crate) const MOST_LIMITS: u32 = 6;
 
-/// Returns the seconds between the ticks of a time: the fewest that make at most 12 spaces, or else
-/// four days.
+/// Returns the seconds between the ticks of the time axis in `explain`'s picture: the fewest that
+/// make at most 12 spaces, or else four days.
 pub(crate) fn time_step(duration: u32) -> u32
     requires asked { duration ≤ max_duration }
     ensures spans { duration ≤ result * 12 }
@@ -63,8 +63,8 @@ pub(crate) fn time_step(duration: u32) -> u32
     first_that_spans(&TIME_STEPS, duration, MOST_TIMES).unwrap_or(345_600)
 }
 
-/// Returns the seconds between the dates of a time: the fewest that make at most 8 spaces, or else
-/// four days.
+/// Returns the seconds between the dates of the time axis in `explain`'s picture: the fewest that
+/// make at most 8 spaces, or else four days.
 pub(crate) fn date_step(duration: u32) -> u32
     requires asked { duration ≤ max_duration }
     ensures spans { duration ≤ result * 8 }
@@ -72,15 +72,16 @@ pub(crate) fn date_step(duration: u32) -> u32
     first_that_spans(&DATE_STEPS, duration, MOST_DATES).unwrap_or(345_600)
 }
 
-/// Returns the tenths between the ticks of limits up to the largest: the fewest that make at most 6
-/// spaces.
+/// Returns the tenths between the ticks of the limit axis in `explain`'s picture: the fewest that
+/// make at most 6 spaces up to the largest limit.
 pub(crate) fn limit_step(largest: u32) -> u32
     ensures spans { largest ≤ result * 6 }
 {
     first_that_spans(&LIMIT_STEPS, largest, MOST_LIMITS).unwrap_or(2_000_000_000)
 }
 
-/// Returns the first of the steps of which `count` reach as far as `wanted`.
+/// Returns the first of the steps of which `count` reach as far as `wanted`, as the distance
+/// between ticks of an axis in `explain`'s picture.
 fn first_that_spans(steps: &[u32], wanted: u32, count: u32) -> Option<u32>
     ensures spans { IfSome result (λ step. wanted ≤ step * count) }
 {

@@ -9,7 +9,8 @@ use page_text::Page;
 use profile::Unit;
 use std::alloc::{AllocError, Global};
 
-/// Returns the name of a reason, as programs read it.
+/// Returns the name of a reason why a profile never sets the limit, as programs read it in
+/// `explain`'s JSON.
 pub(crate) fn reason_name(reason: NotCountedReason) -> &'static str {
     match reason {
         NotCountedReason::NotLeast => "NotLeast",
@@ -20,6 +21,8 @@ pub(crate) fn reason_name(reason: NotCountedReason) -> &'static str {
     }
 }
 
+/// Returns the name of a reason why a profile doesn't prevail, as programs read it in `explain`'s
+/// JSON.
 fn why_not_name(why: WhyNot) -> &'static str {
     match why {
         WhyNot::OtherConnector => "OtherConnector",
@@ -49,6 +52,7 @@ pub fn sentence(reason: NotCountedReason) -> &'static str {
     }
 }
 
+/// Returns the sentence of `explain` for a reason why a profile doesn't prevail.
 fn why_not_sentence(why: WhyNot) -> &'static str {
     match why {
         WhyNot::OtherConnector => "It stands at another connector.",
@@ -78,7 +82,7 @@ pub fn push_limit(out: &mut Page, tenths: u32, unit: Unit) {
     out.push_str(unit_name(unit));
 }
 
-/// Returns tenths with one decimal: `16.0`.
+/// Returns a limit in tenths as a number with one decimal: `16.0`.
 fn tenths_text(alloc: Global, tenths: u32) -> Result<String, AllocError> {
     let mut text = String::new(alloc);
     push_tenths(&mut text, tenths)?;
@@ -116,7 +120,7 @@ pub fn push_profile(out: &mut Page, profile: PrevailingProfile) {
     write!(out, ", stack level {level}, at connector {connector}");
 }
 
-/// Appends a profile by its purpose and id alone: `TxDefaultProfile 1`.
+/// Appends a charging profile by its purpose and id alone: `TxDefaultProfile 1`.
 fn push_short_profile(out: &mut Page, profile: PrevailingProfile) {
     let (purpose, id) = (purpose_name(profile.purpose), profile.id);
     write!(out, "{purpose} {id}");
@@ -132,7 +136,8 @@ pub fn push_cause(out: &mut Page, cause: Cause) {
     }
 }
 
-/// Appends a cause in a few words.
+/// Appends the cause of a limit in a few words, for `explain`'s picture and for a connector's share
+/// of a sum.
 pub(crate) fn push_short_cause(out: &mut Page, cause: Cause) {
     match cause {
         Cause::Profile(profile) => push_short_profile(out, profile),
@@ -160,7 +165,7 @@ pub fn push_why(out: &mut Page, reason: &Reason, unit: Unit) {
     }
 }
 
-/// Appends a share: `connector 1 10.0 A by TxProfile 4`.
+/// Appends a share of a summed limit with its cause: `connector 1 10.0 A by TxProfile 4`.
 fn push_share(out: &mut Page, share: &Share, unit: Unit) {
     let connector = share.connector;
     write!(out, "connector {connector} ");

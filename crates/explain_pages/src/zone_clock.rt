@@ -23,7 +23,8 @@ pub struct ZoneClock<'a> {
 }
 
 impl ZoneClock<'_> {
-    /// Returns the seconds that the clock is ahead of UTC at a moment, in seconds since 1970.
+    /// Returns the seconds that the clock of `explain`'s time zone is ahead of UTC at a moment, in
+    /// seconds since 1970.
     fn ahead_at(&self, moment: u64) -> i32 {
         let mut ahead = 0;
         for shift in self.shifts {
@@ -34,7 +35,8 @@ impl ZoneClock<'_> {
         ahead
     }
 
-    /// Appends the name of the zone, with its offset at the start.
+    /// Appends the name of the time zone to the head of `explain`'s table, with its offset at the
+    /// start.
     pub(crate) fn push_name(&self, out: &mut Page) {
         out.push_str(self.name);
         out.push_str(" (");
@@ -43,8 +45,8 @@ impl ZoneClock<'_> {
     }
 }
 
-/// Returns the local time of a moment in a zone, or the moment itself (UTC) without one. Both are
-/// in seconds since 1970.
+/// Returns the local time of a moment in `explain`'s time zone, or the moment itself (UTC) without
+/// one. Both are in seconds since 1970.
 pub(crate) fn shown_at(zone: Option<ZoneClock<'_>>, moment: u64) -> u64 {
     match zone {
         Some(clock) => moment.saturating_add_signed(i64::from(clock.ahead_at(moment))),
@@ -52,7 +54,8 @@ pub(crate) fn shown_at(zone: Option<ZoneClock<'_>>, moment: u64) -> u64 {
     }
 }
 
-/// Appends an offset from UTC: `UTC`, `UTC+1`, `UTC-3:30`.
+/// Appends the offset of a time zone from UTC to the head of `explain`'s table: `UTC`, `UTC+1`,
+/// `UTC-3:30`.
 pub(crate) fn push_ahead(out: &mut Page, ahead: i32) {
     out.push_str("UTC");
     if ahead == 0 {

@@ -116,7 +116,8 @@ pub fn sort_by_line(findings: &mut Vec<Finding>) -> Result<(), AllocError> {
     findings.sort_by_key(|finding| line_of(&finding.place))
 }
 
-/// Returns the line of a place, or a number below or above all lines.
+/// Returns the script's line of a finding, or a number below or above all lines, to sort findings
+/// by it.
 fn line_of(place: &Location) -> u64 {
     match place {
         Location::Line(number) => *number,
@@ -148,6 +149,7 @@ pub fn has_fault(findings: &[Finding]) -> bool
         .any(|finding| matches!(finding.severity, Severity::Fault))
 }
 
+/// Returns whether one of these findings is a warning, for the exit status of `check`.
 fn has_warning(findings: &[Finding]) -> bool
     ensures { result ≡ has_warning findings.now }
 {

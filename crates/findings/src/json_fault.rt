@@ -88,7 +88,7 @@ pub fn json_fault_text(alloc: Global, fault: &JsonFault) -> Result<String, Alloc
     Ok(text)
 }
 
-/// Returns whether a character is visible in print.
+/// Returns whether the character at which a text stops being JSON is visible in print.
 // A no-break space looks like a space, and a byte order mark like nothing: their codes are printed.
 fn is_printable(character: char) -> bool {
     match character {
@@ -97,7 +97,7 @@ fn is_printable(character: char) -> bool {
     }
 }
 
-/// Returns the cure of a common mistake.
+/// Returns the cure of a common mistake at the character where a text stops being JSON.
 fn hint_of(fault: &JsonFault) -> Option<&'static str> {
     match (fault.wanted, fault.found?) {
         (ExpectedToken::NextValue, ']') | (ExpectedToken::NextName, '}') => Some(

@@ -10,16 +10,18 @@ pub(crate) struct Break {
     pub wanted: ExpectedToken,
 }
 
+/// Returns whether a byte is a blank between the tokens of a JSON text.
 pub(crate) fn is_blank(byte: u8) -> bool {
     matches!(byte, b' ' | b'\t' | b'\n' | b'\r')
 }
 
-/// Returns whether a string, a number or a literal may begin with this byte.
+/// Returns whether a string, a number or a literal of JSON may begin with this byte.
 pub(crate) fn begins_lexeme(byte: u8) -> bool {
     matches!(byte, b'"' | b'-' | b'0'..=b'9' | b't' | b'f' | b'n')
 }
 
-/// Returns the offset after the string, number or literal that begins at `start`, or its break.
+/// Returns the offset after the string, number or literal of JSON that begins at `start`, or its
+/// break.
 pub(crate) fn lexeme_end(bytes: &[u8], start: usize) -> Result<usize, Break> {
     match byte_at(bytes, start) {
         b'"' => string_end(bytes, start.saturating_add(1)),
@@ -30,16 +32,18 @@ pub(crate) fn lexeme_end(bytes: &[u8], start: usize) -> Result<usize, Break> {
     }
 }
 
-/// Returns the byte at an offset, or 0 after the last: no lexeme has this byte.
+/// Returns the byte of a JSON text at an offset, or 0 after the last: no string, number or literal
+/// has this byte.
 fn byte_at(bytes: &[u8], offset: usize) -> u8 {
     bytes.get(offset).copied().unwrap_or(0)
 }
 
+/// Returns the break of a JSON text at this offset, with the token or character wanted there.
 fn broken<T>(offset: usize, wanted: ExpectedToken) -> Result<T, Break> {
     Err(Break { offset, wanted })
 }
 
-/// Returns the end of a literal, each letter of which has to be there.
+/// Returns the end of a literal of JSON, each letter of which has to be there, or its break.
 fn word_end(bytes: &[u8], start: usize, word: &[u8]) -> Result<usize, Break> {
     let mut offset = start;
     for letter in word {
@@ -51,7 +55,7 @@ fn word_end(bytes: &[u8], start: usize, word: &[u8]) -> Result<usize, Break> {
     Ok(offset)
 }
 
-/// Returns the end of a number (section 6).
+/// Returns the end of a number of JSON (RFC 8259, section 6), or its break.
 fn number_end(bytes: &[u8], start: usize) -> Result<usize, Break> {
     let mut offset = start;
     if byte_at(bytes, offset) == b'-' {
@@ -76,7 +80,7 @@ fn number_end(bytes: &[u8], start: usize) -> Result<usize, Break> {
     Ok(offset)
 }
 
-/// Returns the end of one or more digits.
+/// Returns the end of one or more digits in a number of JSON, or the break if there is none.
 fn digits_end(bytes: &[u8], start: usize) -> Result<usize, Break> {
     let mut offset = start;
     for byte in bytes.get(start..).unwrap_or(&[]) {
@@ -91,7 +95,8 @@ fn digits_end(bytes: &[u8], start: usize) -> Result<usize, Break> {
     Ok(offset)
 }
 
-/// Returns the end of a string, from the offset after its opening quote (section 7).
+/// Returns the end of a string of JSON, from the offset after its opening quote (RFC 8259, section
+/// 7), or its break.
 fn string_end(bytes: &[u8], start: usize) -> Result<usize, Break> {
     let mut offset = start;
     // Each iteration passes at least one byte, so this range ends the loop without a proof.
@@ -107,7 +112,8 @@ fn string_end(bytes: &[u8], start: usize) -> Result<usize, Break> {
     broken(bytes.len(), ExpectedToken::Quote)
 }
 
-/// Returns the end of an escape, from the offset of its backslash.
+/// Returns the end of an escape in a string of JSON, from the offset of its backslash, or its
+/// break.
 fn escape_end(bytes: &[u8], start: usize) -> Result<usize, Break> {
     let letter = start.saturating_add(1);
     match bytes.get(letter) {
@@ -120,8 +126,8 @@ fn escape_end(bytes: &[u8], start: usize) -> Result<usize, Break> {
     }
 }
 
-/// Returns the end of an escape, from the offset after `\u`. The escape of a first surrogate
-/// includes that of the second.
+/// Returns the end of an escape in a string of JSON, from the offset after `\u`. The escape of a
+/// first surrogate includes that of the second.
 // RFC 8259 leaves a lone surrogate open, but a Rust string is UTF-8 and can't hold one.
 fn surrogates_end(bytes: &[u8], start: usize) -> Result<usize, Break> {
     let end = start.saturating_add(4);
@@ -132,7 +138,8 @@ fn surrogates_end(bytes: &[u8], start: usize) -> Result<usize, Break> {
     }
 }
 
-/// Returns the end of the escape at `start`, which has to be the second half of a surrogate pair.
+/// Returns the end of the escape at `start` in a string of JSON, which has to be the second half of
+/// a surrogate pair.
 fn low_surrogate_end(bytes: &[u8], start: usize) -> Result<usize, Break> {
     let mut offset = start;
     for wanted in b"\\u" {
@@ -149,7 +156,8 @@ fn low_surrogate_end(bytes: &[u8], start: usize) -> Result<usize, Break> {
     }
 }
 
-/// Returns the number of four hexadecimal digits.
+/// Returns the number of the four hexadecimal digits in a `\u` escape of a JSON string, or the
+/// break in them.
 fn code_at(bytes: &[u8], start: usize) -> Result<u32, Break> {
     let mut code: u32 = 0;
     let mut offset = start;

@@ -38,29 +38,31 @@ pub fn check_site(alloc: Global, bytes: &[u8]) -> Result<Vec<Finding>, AllocErro
     }
 }
 
-/// Returns a list of one finding.
+/// Returns a list of one finding, which ends the check of a site file.
 fn alone(alloc: Global, finding: Finding) -> Result<Vec<Finding>, AllocError> {
     let mut findings = Vec::new(alloc);
     findings.push(finding)?;
     Ok(findings)
 }
 
+/// Makes the fault that a site file has too many bytes.
 fn too_large(alloc: Global, count: usize) -> Result<Finding, AllocError> {
     let message = format!(in alloc; "{count} bytes; at most {MAX_SITE_BYTES} are wanted")?;
     Ok(site_fault(SiteFault::TooLarge, message))
 }
 
+/// Makes the fault that a site file isn't UTF-8 from the byte at this offset on.
 fn not_utf8(alloc: Global, offset: usize) -> Result<Finding, AllocError> {
     let message = format!(in alloc; "it isn't UTF-8 from the byte at offset {offset} on")?;
     Ok(site_fault(SiteFault::NotUtf8, message))
 }
 
-/// Makes a fault of the file as a whole.
+/// Makes a fault of the site file as a whole, with this message.
 fn site_fault(fault: SiteFault, message: String) -> Finding {
     Finding::fault(Location::File, message)
 }
 
-/// Checks a site file that is UTF-8.
+/// Returns the faults, remarks and warnings of a site file that is UTF-8.
 fn check_site_text(alloc: Global, text: &str) -> Result<Vec<Finding>, AllocError> {
     let mut room = Vec::new(alloc);
     let marked = mark_text(text, &mut room)?;
@@ -78,7 +80,7 @@ fn check_site_text(alloc: Global, text: &str) -> Result<Vec<Finding>, AllocError
     Ok(findings)
 }
 
-/// Returns whether a tree can be read from a text.
+/// Returns whether a site file is JSON, so that a tree can be read from it.
 fn is_json(alloc: Global, text: &str, marked: &str) -> Result<bool, AllocError> {
     match verdict_on(alloc, marked)? {
         JsonVerdict::Json => Ok(true),
@@ -92,7 +94,7 @@ fn is_json(alloc: Global, text: &str, marked: &str) -> Result<bool, AllocError> 
     }
 }
 
-/// Makes the fault of a text that isn't JSON, at its break.
+/// Makes the fault of a site file that isn't JSON, at the first character that isn't allowed.
 fn not_json(alloc: Global, text: &str) -> Result<Finding, AllocError> {
     let fault = first_break(alloc, text)?;
     let place = place_in_text(text, fault.offset);
@@ -117,6 +119,7 @@ fn check_marked(
     Ok(alone(alloc, not_an_object(alloc, value)?)?)
 }
 
+/// Makes the fault that a site file is a JSON value other than an object.
 fn not_an_object(alloc: Global, value: Glance<'_>) -> Result<Finding, AllocError> {
     let found = describe_value(alloc, Some(value))?;
     let wanted = "an object such as {\"unit\":\"A\",\"points\":[..]}";
@@ -124,6 +127,7 @@ fn not_an_object(alloc: Global, value: Glance<'_>) -> Result<Finding, AllocError
     Ok(site_fault(SiteFault::NotAnObject, message))
 }
 
+/// Reads the members of a site file's object: the unit, and the points, which it checks.
 fn read_fields<'a>(
     alloc: Global,
     names: &SiteNames<'_>,
@@ -149,6 +153,7 @@ fn read_fields<'a>(
     Ok(site)
 }
 
+/// Returns the faults of a site file's `unit` and `points`, with the findings in the points.
 fn check_fields(
     alloc: Global,
     names: &SiteNames<'_>,
@@ -174,6 +179,7 @@ fn check_fields(
     Ok(findings)
 }
 
+/// Adds a fault if the `unit` of a site file isn't "A" or "W".
 fn check_unit(
     alloc: Global,
     names: &SiteNames<'_>,
@@ -195,7 +201,7 @@ fn check_unit(
     Ok(())
 }
 
-/// Makes the fault that `points` is no list.
+/// Makes the fault that `points` of a site file is no list or is absent.
 fn bad_points(
     alloc: Global,
     names: &SiteNames<'_>,

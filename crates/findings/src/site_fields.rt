@@ -80,7 +80,7 @@ struct Walk<'text> {
     names: SiteNames<'text>,
 }
 
-/// Returns the unknown and the duplicate fields of a site file.
+/// Returns the unknown and the duplicate fields of a site file, for warnings.
 pub(crate) fn site_names(alloc: Global, text: &str) -> Result<SiteNames<'_>, AllocError> {
     let mut scratch = Scratch::new(alloc);
     let mut reader = Reader::new(text, &mut scratch)?;
@@ -98,7 +98,7 @@ pub(crate) fn site_names(alloc: Global, text: &str) -> Result<SiteNames<'_>, All
 }
 
 impl<'text> Walk<'text> {
-    /// Begins before the first token.
+    /// Begins before the first token of a site file, to find its unknown and duplicate fields.
     fn new(alloc: Global, text: &'text str) -> Walk<'text> {
         Walk {
             alloc,
@@ -114,7 +114,8 @@ impl<'text> Walk<'text> {
         }
     }
 
-    /// Takes the token that begins at an offset.
+    /// Takes the token of a site file that begins at an offset, to find unknown and duplicate
+    /// fields.
     fn take(&mut self, start: usize, token: Token<'_>) -> Result<(), AllocError> {
         match token {
             Token::BeginObject => {
@@ -143,7 +144,7 @@ impl<'text> Walk<'text> {
         }
     }
 
-    /// Returns the role of the object that begins.
+    /// Returns the role of the object that begins in a site file: the site, a point or another.
     fn object_that_begins(&self) -> Owner {
         match self.open.last() {
             None => Owner::Site,
@@ -154,7 +155,7 @@ impl<'text> Walk<'text> {
         }
     }
 
-    /// Returns the role of the list that begins.
+    /// Returns the role of the list that begins in a site file: the list of points or another.
     fn list_that_begins(&self) -> Owner {
         let Some(open) = self.open.last() else {
             return Owner::Other;
@@ -165,7 +166,7 @@ impl<'text> Walk<'text> {
         }
     }
 
-    /// Opens an object or a list.
+    /// Opens an object or a list of a site file, with the role that decides its known fields.
     fn begin(&mut self, owner: Owner) -> Result<(), AllocError> {
         self.count_entry();
         self.open.push(OpenPart {
@@ -176,14 +177,14 @@ impl<'text> Walk<'text> {
         Ok(())
     }
 
-    /// Counts an entry of the innermost list.
+    /// Counts an entry of the innermost list in a site file, so that each point has its index.
     fn count_entry(&mut self) {
         if let Some(open) = self.open.last_mut() {
             open.entries = open.entries.saturating_add(1);
         }
     }
 
-    /// Checks the name read last.
+    /// Checks the name of a site file's field that was read last: it may be unknown or a duplicate.
     fn take_name(&mut self) -> Result<(), AllocError> {
         let point = match self.open.last().map(|open| open.owner) {
             Some(Owner::Site) => None,
@@ -205,7 +206,7 @@ impl<'text> Walk<'text> {
         self.names.add_unknown(self.alloc, field)
     }
 
-    /// Notes a known field, and reports it if it is a duplicate.
+    /// Notes a known field of a site file, and keeps it for a warning if it is a duplicate.
     fn take_field(&mut self, place: usize, field: RepeatedField) -> Result<(), AllocError> {
         let Some(open) = self.open.last_mut() else {
             return Ok(());
@@ -221,7 +222,8 @@ impl<'text> Walk<'text> {
     }
 }
 
-/// Returns the index and the name of a field of a point or of the site, if it is a known one.
+/// Returns the index and the name of a point's or the site's field in a site file, if it is a known
+/// one.
 fn known_field(point: Option<usize>, name: &str) -> Option<(usize, &'static str)> {
     for (place, field) in fields_of(point).iter().enumerate() {
         if *field == name {
@@ -231,7 +233,7 @@ fn known_field(point: Option<usize>, name: &str) -> Option<(usize, &'static str)
     None
 }
 
-/// Returns the known fields of a point or of the site.
+/// Returns the known fields of a point or of the site in a site file.
 fn fields_of(point: Option<usize>) -> &'static [&'static str] {
     match point {
         Some(_) => &POINT_FIELDS,
@@ -246,7 +248,7 @@ pub fn text_of(text: &str, span: Span) -> Option<&str> {
 }
 
 impl<'text> SiteNames<'text> {
-    /// Adds an unknown field.
+    /// Adds an unknown field of a site file, with the known one that is probably meant.
     fn add_unknown(&mut self, alloc: Global, field: UnknownField<'text>) -> Result<(), AllocError> {
         // The span of a name with an escape isn't the whole name, so it can't be compared.
         if field.name.contains('\\') {
@@ -262,7 +264,7 @@ impl<'text> SiteNames<'text> {
         Ok(())
     }
 
-    /// Returns the unknown field that is probably meant to be this absent one.
+    /// Returns the unknown field of a site file that is probably meant to be this absent one.
     pub(crate) fn hint(&self, point: Option<usize>, field: &str) -> Option<&str> {
         for (unknown, meant) in self.unknown.iter().zip(&self.meant) {
             if unknown.point == point && *meant == Some(field) {
@@ -272,7 +274,7 @@ impl<'text> SiteNames<'text> {
         None
     }
 
-    /// Adds a warning for each unknown and each duplicate field.
+    /// Adds a warning for each unknown and each duplicate field of a site file.
     pub(crate) fn warn(
         &self,
         alloc: Global,
@@ -302,7 +304,7 @@ impl<'text> SiteNames<'text> {
     }
 }
 
-/// Describes an unknown field.
+/// Describes an unknown field of a site file, with the known one that is probably meant.
 pub(crate) fn unknown_message(
     alloc: Global,
     name: &str,

@@ -35,7 +35,7 @@ impl<T: Drop> From<AllocFailed<T>> for PartFault {
     }
 }
 
-/// Reads the next value.
+/// Reads the next JSON value of a site file, without the contents of a list or an object.
 pub(crate) fn read_glance<'a>(reader: &mut Reader<'a>) -> Result<Glance<'a>, PartFault>
     ensures shorter { OnOk result (length reader.new < length reader.old) }
 {
@@ -43,7 +43,8 @@ pub(crate) fn read_glance<'a>(reader: &mut Reader<'a>) -> Result<Glance<'a>, Par
     glance_from(token, reader)
 }
 
-/// Reads the rest of the value that begins with this token.
+/// Reads the rest of the JSON value of a site file that begins with this token, without the
+/// contents of a list or an object.
 pub(crate) fn glance_from<'a>(
     token: Token<'a>,
     reader: &mut Reader<'a>,
@@ -69,7 +70,7 @@ pub(crate) fn glance_from<'a>(
     }
 }
 
-/// Returns the text or the number in a marked string.
+/// Returns the text or the number in a marked string of a site file.
 fn glance_of_string(marked: &str) -> Glance<'_> {
     match after_mark(marked, b'n') {
         Some(number) => Glance::Number(number),
@@ -77,7 +78,7 @@ fn glance_of_string(marked: &str) -> Glance<'_> {
     }
 }
 
-/// Skips the items of a list.
+/// Skips the items of a list in a site file, which its check doesn't need.
 fn pass_items(reader: &mut Reader<'_>) -> Result<(), PartFault>
     ensures shorter { OnOk result (length reader.new < length reader.old) }
 {
@@ -87,7 +88,7 @@ fn pass_items(reader: &mut Reader<'_>) -> Result<(), PartFault>
     Ok(())
 }
 
-/// Skips the members of an object.
+/// Skips the members of an object in a site file, which its check doesn't need.
 fn pass_members(reader: &mut Reader<'_>) -> Result<(), PartFault>
     ensures shorter { OnOk result (length reader.new < length reader.old) }
 {

@@ -54,7 +54,8 @@ struct Connectors {
 }
 
 impl PointFields<'_> {
-    /// Returns the place of the point, with its identity if that is a string that isn't empty.
+    /// Returns the place of a finding in this point of a site file, with its identity if that is a
+    /// string that isn't empty.
     fn place(self, alloc: Global) -> Result<Location, AllocError> {
         let id = match self.id {
             Some(Glance::Text(id)) if !id.is_empty() => Some(excerpt(alloc, id)?),
@@ -67,7 +68,7 @@ impl PointFields<'_> {
     }
 }
 
-/// Reads a point, whose object has begun.
+/// Reads a point of a site file, whose object has begun: its identity, ceiling and connectors.
 pub(crate) fn read_point<'a>(
     alloc: Global,
     index: usize,
@@ -99,6 +100,7 @@ pub(crate) fn read_point<'a>(
     Ok(PointParts { fields, connectors })
 }
 
+/// Reads the value of `connectors` of a point in a site file.
 fn read_connectors<'a>(
     alloc: Global,
     reader: &mut Reader<'a>,
@@ -112,6 +114,7 @@ fn read_connectors<'a>(
     Ok(ConnectorsPart::Other(glance_from(token, reader)?))
 }
 
+/// Reads the list of the ceilings of a point's connectors in a site file.
 fn read_ceilings(alloc: Global, reader: &mut Reader<'_>) -> Result<Connectors, PartFault>
     ensures shorter { OnOk result (length reader.new < length reader.old) }
 {
@@ -128,7 +131,8 @@ fn read_ceilings(alloc: Global, reader: &mut Reader<'_>) -> Result<Connectors, P
 }
 
 impl Connectors {
-    /// Adds the ceiling of the next connector, or a message if it isn't valid.
+    /// Adds the ceiling of the next connector of a point in a site file, or a message if it isn't
+    /// valid.
     fn add(&mut self, alloc: Global, value: Glance<'_>) -> Result<(), AllocError> {
         let place = self.count;
         self.count = place.saturating_add(1);
@@ -149,6 +153,7 @@ impl Connectors {
     }
 }
 
+/// Returns the ceiling of a point or a connector in a site file, in tenths, if its value is valid.
 fn ceiling_of(value: Glance<'_>) -> Option<u32> {
     match value {
         Glance::Number(text) => read_tenths(text).ok(),
@@ -156,7 +161,7 @@ fn ceiling_of(value: Glance<'_>) -> Option<u32> {
     }
 }
 
-/// Checks a point, and adds the findings.
+/// Checks a point of a site file, and adds the findings in it.
 pub(crate) fn check_point(
     points: &mut CheckedPoints,
     names: &SiteNames<'_>,
@@ -176,6 +181,7 @@ pub(crate) fn check_point(
     Ok(())
 }
 
+/// Adds a fault of a point in a site file, at the place of that point.
 fn add_fault(
     points: &mut CheckedPoints,
     point: PointFields<'_>,
@@ -186,6 +192,7 @@ fn add_fault(
     points.add(Finding::fault(place, message))
 }
 
+/// Adds a fault if the `id` of a point in a site file isn't valid, or is that of an earlier point.
 fn check_id(
     points: &mut CheckedPoints,
     names: &SiteNames<'_>,
@@ -211,15 +218,17 @@ fn check_id(
     add_fault(points, point, SiteFault::BadId, message)
 }
 
+/// Returns whether a text in a site file is valid as the `id` of a point.
 fn is_point_id(id: &str) -> bool {
     !id.is_empty() && id.len() <= MAX_ID_CHARACTERS && id.bytes().all(is_id_byte)
 }
 
+/// Returns whether the `id` of a point in a site file may contain this byte.
 fn is_id_byte(byte: u8) -> bool {
     matches!(byte, b'A'..=b'Z' | b'a'..=b'z' | b'0'..=b'9' | b'.' | b'_' | b'-' | b'~')
 }
 
-/// Checks the ceiling of a point. Returns it in tenths, if it is valid.
+/// Checks the ceiling of a point in a site file. Returns it in tenths, if it is valid.
 fn check_ceiling(
     points: &mut CheckedPoints,
     names: &SiteNames<'_>,
@@ -240,7 +249,8 @@ fn check_ceiling(
     Ok(None)
 }
 
-/// Checks the connectors of a point. Returns the sum of their ceilings in tenths, if all are valid.
+/// Checks the connectors of a point in a site file. Returns the sum of their ceilings in tenths, if
+/// all are valid.
 fn check_connectors(
     points: &mut CheckedPoints,
     names: &SiteNames<'_>,
@@ -262,6 +272,8 @@ fn check_connectors(
     Ok(None)
 }
 
+/// Checks the list of a point's connectors in a site file. Returns the sum of their ceilings in
+/// tenths, if all are valid.
 fn check_list(
     points: &mut CheckedPoints,
     point: PointFields<'_>,
@@ -284,7 +296,8 @@ fn check_list(
     Ok(together)
 }
 
-/// Makes the remark that the connectors' ceilings add up to more than the point's.
+/// Makes the remark that the ceilings of a point's connectors in a site file add up to more than
+/// the point's.
 // It is no warning, since this is so at most points.
 fn remark_together(
     alloc: Global,

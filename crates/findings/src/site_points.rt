@@ -36,6 +36,7 @@ pub(crate) struct CheckedPoints {
 }
 
 impl CheckedPoints {
+    /// Begins before the first point of a site file, without findings.
     fn new(alloc: Global) -> CheckedPoints {
         CheckedPoints {
             alloc,
@@ -46,7 +47,7 @@ impl CheckedPoints {
         }
     }
 
-    /// Adds a finding, unless there are too many.
+    /// Adds a finding in the points of a site file, unless there are too many.
     pub(crate) fn add(&mut self, finding: Finding) -> Result<(), AllocError> {
         if self.findings.len() >= MAX_FOUND {
             self.more = true;
@@ -56,7 +57,8 @@ impl CheckedPoints {
         Ok(())
     }
 
-    /// Returns the index of an earlier point of this identity. If there is none, notes this one.
+    /// Returns the index of an earlier point of this identity in a site file. If there is none,
+    /// notes this one.
     pub(crate) fn earlier(&mut self, id: &str, index: usize) -> Result<Option<usize>, AllocError> {
         if let Some(earlier) = self.places.get(id) {
             return Ok(Some(*earlier));
@@ -66,7 +68,7 @@ impl CheckedPoints {
         Ok(None)
     }
 
-    /// Appends the findings, and a warning if there are more.
+    /// Appends the findings in the points of a site file, and a warning if there are more.
     pub(crate) fn append_to(self, findings: &mut Vec<Finding>) -> Result<(), AllocError> {
         let CheckedPoints {
             alloc,
@@ -85,7 +87,7 @@ impl CheckedPoints {
     }
 }
 
-/// Reads the value of `points`, and checks each point.
+/// Reads the value of `points` in a site file, and checks each point.
 pub(crate) fn read_points<'a>(
     alloc: Global,
     names: &SiteNames<'_>,
@@ -100,6 +102,7 @@ pub(crate) fn read_points<'a>(
     Ok(PointsPart::Other(glance_from(token, reader)?))
 }
 
+/// Reads the list of points in a site file, and checks each of them.
 fn read_entries(
     alloc: Global,
     names: &SiteNames<'_>,
@@ -115,7 +118,7 @@ fn read_entries(
     Ok(points)
 }
 
-/// Reads and checks the next entry.
+/// Reads and checks the next entry in the list of points of a site file.
 fn check_entry(
     points: &mut CheckedPoints,
     names: &SiteNames<'_>,

@@ -27,6 +27,8 @@ pub fn read_duration(text: &str) -> Option<u32>
     in_range(seconds)
 }
 
+/// Returns the seconds of the duration in an option of `explain`, if they are from 1 to
+/// MAX_DURATION.
 fn in_range(seconds: u64) -> Option<u32>
     ensures { result ≡ in_range seconds }
 {
@@ -36,7 +38,8 @@ fn in_range(seconds: u64) -> Option<u32>
     Some(seconds as u32)
 }
 
-/// Returns the seconds of a whole number and its unit.
+/// Returns the seconds of a duration in an option that is a whole number and its unit, such as
+/// `90m`.
 fn counted(text: &[u8]) -> Option<u64>
     ensures { result ≡ counted text.now }
 {
@@ -45,7 +48,7 @@ fn counted(text: &[u8]) -> Option<u64>
     Some(number * seconds)
 }
 
-/// Returns the seconds of a unit. The empty unit is the second.
+/// Returns the seconds of a unit in the duration of an option. The empty unit is the second.
 fn unit_of(unit: &[u8]) -> Option<u64>
     ensures value { result ≡ unit_of unit.now }
     ensures bound { IfSome result (λ seconds. seconds ≤ 86_400) }
@@ -59,7 +62,8 @@ fn unit_of(unit: &[u8]) -> Option<u64>
     }
 }
 
-/// Returns the seconds of the text after the P: days, and a time of day after a T.
+/// Returns the seconds of an ISO 8601 duration in an option, from the text after the P: days, and a
+/// time of day after a T.
 fn period(text: &[u8]) -> Option<u64>
     ensures { result ≡ period text.now }
 {
@@ -72,7 +76,8 @@ fn period(text: &[u8]) -> Option<u64>
     }
 }
 
-/// Returns the seconds of hours, minutes and seconds, of which at least one is there.
+/// Returns the seconds of the hours, minutes and seconds in an ISO 8601 duration, of which at least
+/// one is there.
 fn time_of_day(text: &[u8]) -> Option<u64>
     ensures value { result ≡ time_of_day text.now }
     ensures bound { IfSome result (λ seconds. seconds ≤ 3_661 * max_duration) }
@@ -87,8 +92,8 @@ fn time_of_day(text: &[u8]) -> Option<u64>
     Some(hours + minutes + seconds)
 }
 
-/// Returns the seconds of the number at the beginning of a text, and the text after its unit. If
-/// there is no such number with this unit, returns 0 and the whole text.
+/// Returns the seconds of a duration's part at the beginning of a text, such as `30M`, and the text
+/// after its unit. If there is no number with this unit, returns 0 and the whole text.
 fn split_part(unit: u8, seconds: u64, text: &[u8]) -> (u64, &[u8])
     requires { seconds ≤ 86_400 }
     ensures value { (result.0, result.1.now) ≡ part_at unit seconds text.now }
@@ -100,8 +105,8 @@ fn split_part(unit: u8, seconds: u64, text: &[u8]) -> (u64, &[u8])
     }
 }
 
-/// Splits off the number at the beginning of a text, up to the longest duration. Returns it with
-/// the text after its digits.
+/// Splits off the number at the beginning of a duration's text, up to the longest duration. Returns
+/// it with the text after its digits.
 fn split_number(text: &[u8]) -> Option<(u64, &[u8])>
     ensures value { option_map (λ x. (x.0, x.1.now)) result ≡ number_at text.now }
     ensures bound { IfSome result (λ x. x.0 ≤ max_duration) }
@@ -112,7 +117,8 @@ fn split_number(text: &[u8]) -> Option<(u64, &[u8])>
     }
 }
 
-/// Does the same for a text that begins with a digit.
+/// Splits off the number at the beginning of a duration's text that begins with a digit, up to the
+/// longest duration. Returns it with the text after its digits.
 fn split_digits(text: &[u8]) -> Option<(u64, &[u8])>
     ensures value { option_map (λ x. (x.0, x.1.now)) result ≡ number_after 0 text.now }
     ensures bound { IfSome result (λ x. x.0 ≤ max_duration) }

@@ -35,7 +35,8 @@ pub fn number_drawn(reply: &Reply, version: u64) -> Option<u64>
     }
 }
 
-/// Compares the written number with the drawn one.
+/// Compares the number written in a line of the journal with the one that its step drew when it was
+/// restored.
 pub(crate) fn compare(written: u64, drawn: Option<u64>) -> Result<(), RestoreFault>
     ensures { result ≡ unless_fault (number_fault (Some written) drawn) tt }
 {

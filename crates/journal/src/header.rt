@@ -53,7 +53,7 @@ pub fn read_header(line: &str) -> Result<[u8; 32], HeaderFault>
     }
 }
 
-/// Returns the fault of a text that doesn't begin as a first line does.
+/// Returns the reason for which the first line of a file isn't that of a journal.
 fn fault_of(line: &str) -> HeaderFault {
     let Some(rest) = line.strip_prefix("central journal ") else {
         return HeaderFault::NotAJournal;
@@ -65,7 +65,7 @@ fn fault_of(line: &str) -> HeaderFault {
     }
 }
 
-/// Returns the rest of a text after this beginning, if the text begins so.
+/// Returns the rest of a journal's first line after this beginning, if the line begins so.
 fn strip<'a>(text: &'a str, beginning: &str) -> Option<&'a str>
     ensures some { IfSome result (λ rest. beginning.now ++ rest.now ≡ text.entry.now) }
     ensures none { IfNone result ((rest : List ℕ) → beginning.now ++ rest ≢ text.entry.now) }
@@ -73,7 +73,7 @@ fn strip<'a>(text: &'a str, beginning: &str) -> Option<&'a str>
     text.strip_prefix(beginning)
 }
 
-/// Reads a digest from its hex digits in lower case.
+/// Reads the SHA-256 of the site file in a journal's first line, from its hex digits in lower case.
 fn read_digest(text: &str) -> Option<[u8; 32]>
     ensures some { IfSome result (λ digest. encode_lower digest ≡ text.now) }
     ensures none { IfNone result

@@ -19,9 +19,9 @@ use version_store::RecordedStates;
 /// Notes the steps that change something, in the order in which they are made. A message leaves
 /// only once the steps that it depends on are kept.
 pub trait Journal<N: ListName> {
-    /// Makes the entry of a step that is about to be made, or none if nothing is noted. In `noted`,
-    /// the number that the step draws is 0. No session holds the book: a long message takes its
-    /// time here. On an error the step can't be noted, so it must not be made.
+    /// Makes the journal's entry of a step that is about to be made, or none if nothing is noted.
+    /// In `noted`, the number that the step draws is 0. No session holds the book: a long message
+    /// takes its time here. On an error the step can't be noted, so it must not be made.
     fn prepare(
         &self,
         moment: Instant,
@@ -31,20 +31,21 @@ pub trait Journal<N: ListName> {
         ensures { IfOk result (λ entry. IfSome entry
             (λ e. IsEntryOf e (line_at moment point.now (noted_state noted.entry)))) };
 
-    /// Notes a step by its entry and the number that it drew, between the recorded states of the
-    /// book before it and with it. The caller has held the book since before the step, so this
-    /// waits for nothing that takes long.
+    /// Notes a step in the journal by its entry and its drawn number, between the recorded states
+    /// of the book before it and with it. The caller has held the book since before the step, so
+    /// this waits for nothing that takes long.
     fn note(&self, entry: Entry, number: u64, before: &RecordedStates<N>, after: &RecordedStates<N>)
         requires { IsOfMadeStep entry number
             (IsAt N.is_recorded before.now) (IsAt N.is_recorded after.now) };
 
-    /// Waits until all steps that led to these recorded states are kept, whichever session noted
-    /// them. The caller doesn't hold the book. On an error, no message that depends on any of them
-    /// may leave.
+    /// Waits until the journal has kept all steps that led to these recorded states of the book,
+    /// whichever session noted them. The caller doesn't hold the book. On an error, no message that
+    /// depends on any of them may leave.
     fn receipt(&self, recorded: &RecordedStates<N>) -> Result<Receipt<N>, JournalFault>
         ensures { IfOk result (λ receipt. Covers N.is_recorded receipt recorded.now) };
 
-    /// Waits until all steps that are noted by now are kept, whichever session noted them.
+    /// Waits until the journal has kept all steps that are noted by now, whichever session noted
+    /// them.
     fn write_out(&self) -> Result<(), JournalFault>;
 }
 

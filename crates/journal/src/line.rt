@@ -69,7 +69,7 @@ impl<'a> Model for Line<'a> {
 }
 
 impl Noted<'_> {
-    /// Returns the second word of its line.
+    /// Returns the second word of the event's line in the journal, such as `operator` or `sent`.
     pub(crate) fn word(&self) -> &'static str
         ensures { result.now ≡ word_of (noted_state self.now) }
     {
@@ -83,7 +83,7 @@ impl Noted<'_> {
         }
     }
 
-    /// Returns the number that its step draws, if it draws one.
+    /// Returns the number in the event's line of the journal that its step draws, if it draws one.
     pub(crate) fn number(&self) -> Option<u64>
         ensures { result ≡ number_written (noted_state self.now) }
     {
@@ -96,6 +96,7 @@ impl Noted<'_> {
     }
 }
 
+/// Returns the second word of a message's line in the journal, by the side that sent it.
 fn side_word(side: Side) -> &'static str
     ensures { result.now ≡ side_word side }
 {
@@ -114,7 +115,7 @@ pub fn push_line(text: &mut String, line: &Line<'_>) -> Result<(), AllocError>
     push_behind_number(text, line)
 }
 
-/// Appends the number that a step draws, if it draws one.
+/// Appends to a line of the journal the number that its step draws, if it draws one.
 fn push_drawn(text: &mut String, number: Option<u64>) -> Result<(), AllocError>
     ensures { Appends result (string_bytes text.old) (string_bytes text.new) (drawn_text number) }
 {
@@ -124,8 +125,8 @@ fn push_drawn(text: &mut String, number: Option<u64>) -> Result<(), AllocError>
     }
 }
 
-/// Appends a line up to the number that its step draws. If the step draws none, only the line feed
-/// is missing.
+/// Appends a line of the journal up to the number that its step draws. If the step draws none, only
+/// the line feed is missing.
 pub(crate) fn push_before_number(text: &mut String, line: &Line<'_>) -> Result<(), AllocError>
     ensures { Appends result (string_bytes text.old) (string_bytes text.new)
         (before_number line.now) }
@@ -139,7 +140,8 @@ pub(crate) fn push_before_number(text: &mut String, line: &Line<'_>) -> Result<(
     push_noted_before(text, &line.noted)
 }
 
-/// Appends the part between the point and the drawn number, or up to the line's end.
+/// Appends the part of a journal's line between the point and the drawn number, or up to the line's
+/// end.
 fn push_noted_before(text: &mut String, noted: &Noted<'_>) -> Result<(), AllocError>
     ensures { Appends result (string_bytes text.old) (string_bytes text.new)
         (noted_before (noted_state noted.now)) }
@@ -157,7 +159,7 @@ fn push_noted_before(text: &mut String, noted: &Noted<'_>) -> Result<(), AllocEr
     }
 }
 
-/// Appends the part after the drawn number, and the line feed.
+/// Appends the part of a journal's line after the number that its step drew, and the line feed.
 pub(crate) fn push_behind_number(text: &mut String, line: &Line<'_>) -> Result<(), AllocError>
     ensures { Appends result (string_bytes text.old) (string_bytes text.new)
         (behind_number line.now) }
@@ -170,7 +172,7 @@ pub(crate) fn push_behind_number(text: &mut String, line: &Line<'_>) -> Result<(
     Ok(())
 }
 
-/// Appends a number and a message.
+/// Appends to a line of the journal the number of a link or call, and the point's reply.
 fn push_numbered_frame(text: &mut String, number: u64, frame: &str) -> Result<(), AllocError>
     ensures { Appends result (string_bytes text.old) (string_bytes text.new)
         (numbered_frame number frame.now) }
@@ -180,7 +182,8 @@ fn push_numbered_frame(text: &mut String, number: u64, frame: &str) -> Result<()
     push_on_one_line(text, frame)
 }
 
-/// Appends a message on one line, with a tab for each line feed and each carriage return.
+/// Appends a message to a line of the journal, with a tab for each line feed and each carriage
+/// return.
 fn push_on_one_line(text: &mut String, frame: &str) -> Result<(), AllocError>
     ensures { Appends result (string_bytes text.old) (string_bytes text.new)
         (on_one_line frame.now) }
@@ -195,7 +198,7 @@ fn push_on_one_line(text: &mut String, frame: &str) -> Result<(), AllocError>
     push_without_returns(text, rest)
 }
 
-/// Appends a text with a tab for each carriage return.
+/// Appends a piece of a message to a line of the journal, with a tab for each carriage return.
 fn push_without_returns(text: &mut String, piece: &str) -> Result<(), AllocError>
     ensures { Appends result (string_bytes text.old) (string_bytes text.new)
         (without_returns piece.now) }

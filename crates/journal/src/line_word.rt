@@ -16,7 +16,7 @@ pub(crate) enum LineWord {
 }
 
 impl LineWord {
-    /// Returns the kind that a word names, if it names one.
+    /// Returns the kind of a journal's line that has this second word, if there is one.
     pub(crate) fn named(word: &str) -> Option<LineWord>
         ensures { result ≡ word_named word.now }
     {

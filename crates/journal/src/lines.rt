@@ -24,7 +24,7 @@ pub fn whole_lines(text: &[u8]) -> (&[u8], &[u8])
     text.split_at(whole_length(text))
 }
 
-/// Returns the length of a text up to its last line feed, with that.
+/// Returns the length of a journal's whole lines: up to its last line feed, with that.
 fn whole_length(text: &[u8]) -> usize
     ensures within { result ≤ length text.now }
     ensures feed { 0 < result → slice_index text.now (result - 1) ≡ line_feed }

@@ -33,7 +33,8 @@ pub fn lose_links<C: Ledger, A: Ledger, N: ListName>(
     Ok(())
 }
 
-/// Ends the link of the point at a place of the site file, if it has one.
+/// Ends the link of the point at a place of the site file, if it has one, after a restore from the
+/// journal.
 fn lose_link<C: Ledger, A: Ledger, N: ListName>(
     alloc: Global,
     book: &mut Book<C, A, N>,
@@ -56,7 +57,7 @@ fn lose_link<C: Ledger, A: Ledger, N: ListName>(
     lose(book, point, link, moment, text)
 }
 
-/// Ends this link of a point.
+/// Ends this link of a point after a restore, and appends the line that says so for the journal.
 fn lose<C: Ledger, A: Ledger, N: ListName>(
     book: &mut Book<C, A, N>,
     point: PointId,

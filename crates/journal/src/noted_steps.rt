@@ -123,7 +123,8 @@ impl<N: ListName> NotedSteps<N> {
         true
     }
 
-    /// Appends the lines of all steps to a text. If memory runs out, some may be missing.
+    /// Appends the journal's lines of all steps that were noted and not written yet. If memory runs
+    /// out, some may be missing.
     pub(crate) fn push_lines(&self, text: &mut String) -> Result<(), AllocError>
         ensures lines { OnOk result
             (string_bytes text.new ≡ string_bytes text.old ++ texts_of self.now.entries) }
@@ -135,7 +136,7 @@ impl<N: ListName> NotedSteps<N> {
         Ok(())
     }
 
-    /// Removes all steps, since they are written.
+    /// Removes all noted steps, since the journal has their lines.
     pub(crate) fn clear(&mut self)
         ensures { self.new ≡ record {
           first = self.old.last;

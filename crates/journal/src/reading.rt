@@ -54,7 +54,7 @@ pub fn read_line(text: &str) -> Result<Line<'_>, LineFault>
     }
 }
 
-/// Splits a line into its words.
+/// Splits a line of the journal into its words: instant, kind, point, and the rest.
 fn split_words(text: &str) -> Result<Words<'_>, LineFault>
     ensures { result_map_both words_view (λ fault. fault) result ≡ words_of text.entry.now }
 {
@@ -72,7 +72,7 @@ fn split_words(text: &str) -> Result<Words<'_>, LineFault>
     }
 }
 
-/// Reads the event of a line with this second word, from the text after its point.
+/// Reads the event of a journal's line with this second word, from the text after its point.
 fn read_noted(word: LineWord, text: &str) -> Result<Noted<'_>, LineFault>
     ensures { result_map_both noted_state (λ fault. fault) result ≡ noted_in word text.entry.now }
 {
@@ -101,7 +101,8 @@ fn read_noted(word: LineWord, text: &str) -> Result<Noted<'_>, LineFault>
     }
 }
 
-/// Reads a message from this side.
+/// Reads the event of a journal's line with a message from this side: the number that its step
+/// drew, and the message.
 fn read_message(sender: Side, text: &str) -> Result<Noted<'_>, LineFault>
     ensures { result_map_both noted_state (λ fault. fault) result
         ≡ message_in sender text.entry.now }
@@ -114,7 +115,8 @@ fn read_message(sender: Side, text: &str) -> Result<Noted<'_>, LineFault>
     })
 }
 
-/// Returns the number at the beginning of a text, and the text after the one space behind it.
+/// Splits a number off the rest of a journal's line. Returns it and the text after the one space
+/// behind it.
 fn split_number(text: &str) -> Result<(u64, &str), LineFault>
     ensures { result_map_both (λ parts. (parts.0, parts.1.now)) (λ fault. fault) result
         ≡ number_at text.now }
@@ -123,7 +125,7 @@ fn split_number(text: &str) -> Result<(u64, &str), LineFault>
     Ok((read_number(word)?, rest))
 }
 
-/// Reads a number from 0 on, in decimal without leading zeros.
+/// Reads a number in a line of the journal, from 0 on, in decimal without leading zeros.
 fn read_number(word: &str) -> Result<u64, LineFault>
     ensures { result ≡ number_or_fault word.now }
 {
@@ -137,7 +139,8 @@ fn read_number(word: &str) -> Result<u64, LineFault>
     }
 }
 
-/// Returns the first word of a text, and the text after the one space behind it.
+/// Splits the first word off the rest of a journal's line. Returns it and the text after the one
+/// space behind it.
 fn split_word(text: &str) -> Result<(&str, &str), LineFault>
     ensures { result_map_both (λ parts. (parts.0.now, parts.1.now)) (λ fault. fault) result
         ≡ word_at text.now }

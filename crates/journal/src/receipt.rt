@@ -29,7 +29,8 @@ impl<N: ListName> Model for Receipt<N> {
 }
 
 impl<N: ListName> Receipt<N> {
-    /// Makes the receipt of a file whose last sync was with these states.
+    /// Makes the receipt of a journal's file whose last sync to the disk was with these states of
+    /// the book.
     pub(crate) fn new(recorded: RecordedStates<N>, syncs: KnownSyncs<N>) -> Receipt<N>
         requires { HasSync syncs.entries recorded }
         ensures { result ≡ receipt_of recorded (Some syncs.entries) }
@@ -74,8 +75,8 @@ impl<N: ListName> Receipt<N> {
         self.recorded.is_at_least(recorded)
     }
 
-    /// Shows that a file has on its disk the lines that this receipt was given for, if it was given
-    /// for a file.
+    /// Shows that a journal's file has on its disk the lines that this receipt was given for, if it
+    /// was given for a file.
     pub(crate) fn compare(&self, syncs: &Syncs<N>)
         ensures { N.is_recorded ≡ true → IsAmong self.now syncs.now.entries }
     {

@@ -68,7 +68,8 @@ pub fn restore<C: Ledger, A: Ledger, N: ListName>(
     Ok(Restored { lines: number - 1 })
 }
 
-/// Restores a line, without its line feed, from bytes that may not be UTF-8.
+/// Restores a line of the journal, without its line feed, from bytes that may not be UTF-8: makes
+/// its step on the book.
 fn restore_bytes<C: Ledger, A: Ledger, N: ListName>(
     alloc: Global,
     memory: &mut ReadingMemory,

@@ -13,7 +13,8 @@ use std::alloc::Global;
 use std::sync::ledger::Ledger;
 use version_store::{Book, Pass};
 
-/// Gives the point a new link, which has to have this number.
+/// Restores an `attached` line of the journal: gives the point a new link, which has to have this
+/// number.
 pub(crate) fn attach<C: Ledger, A: Ledger, N: ListName>(
     alloc: Global,
     book: &mut Book<C, A, N>,
@@ -32,7 +33,8 @@ pub(crate) fn attach<C: Ledger, A: Ledger, N: ListName>(
     }
 }
 
-/// Sends a call over this link. The call has to have this number.
+/// Restores a `sent` line of the journal: sends a call over this link. The call has to have this
+/// number.
 pub(crate) fn send<C: Ledger, A: Ledger, N: ListName>(
     alloc: Global,
     book: &mut Book<C, A, N>,
@@ -51,7 +53,7 @@ pub(crate) fn send<C: Ledger, A: Ledger, N: ListName>(
     }
 }
 
-/// Ends this link.
+/// Restores a `lost` line of the journal: ends this link of the point.
 pub(crate) fn lose<C: Ledger, A: Ledger, N: ListName>(
     alloc: Global,
     book: &mut Book<C, A, N>,

@@ -23,7 +23,8 @@ use version_store::Book;
 // That reply, read again, might lead to another verdict. This one leads to Unsettled, as it did.
 pub const UNREAD_REPLY: &str = r#"[3,"",{"status":"Accepted"}]"#;
 
-/// Confirms the call that a point's reply names, over this link.
+/// Restores a `reply` line of the journal: confirms the call that a point's reply names, over this
+/// link.
 pub(crate) fn confirm_call<C: Ledger, A: Ledger, N: ListName>(
     alloc: Global,
     memory: &mut ReadingMemory,
@@ -49,6 +50,7 @@ pub(crate) fn confirm_call<C: Ledger, A: Ledger, N: ListName>(
     }
 }
 
+/// Confirms a point's call again over this link, as a `reply` line of the journal says.
 fn confirm<C: Ledger, A: Ledger, N: ListName>(
     book: &mut Book<C, A, N>,
     point: PointId,
@@ -65,7 +67,8 @@ fn confirm<C: Ledger, A: Ledger, N: ListName>(
     }
 }
 
-/// Judges the point's audit whose call has this number, by the point's reply.
+/// Restores a `verdict` line of the journal: judges the point's audit whose call has this number,
+/// by the point's reply.
 pub(crate) fn judge_audit<C: Ledger, A: Ledger, N: ListName>(
     alloc: Global,
     memory: &mut ReadingMemory,
@@ -84,6 +87,8 @@ pub(crate) fn judge_audit<C: Ledger, A: Ledger, N: ListName>(
     }
 }
 
+/// Judges a point's audit again by its reply, and keeps the verdict, as a `verdict` line of the
+/// journal says.
 fn judge<C: Ledger, A: Ledger, N: ListName>(
     alloc: Global,
     memory: &mut ReadingMemory,
@@ -104,7 +109,8 @@ fn judge<C: Ledger, A: Ledger, N: ListName>(
     }
 }
 
-/// Returns the verdict on a point's reply to its audit. Fails if memory runs out.
+/// Returns the verdict on a point's reply to its audit, read from a line of the journal. Fails if
+/// memory runs out.
 fn judged_by(
     alloc: Global,
     memory: &mut ReadingMemory,

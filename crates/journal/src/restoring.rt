@@ -20,8 +20,8 @@ use std::sync::ledger::Ledger;
 use texts::{Asked, SentText, asked_of};
 use version_store::{Book, Pass};
 
-/// Makes the step of a line, if it can be made and draws the written number. After an error the
-/// step wasn't made, except after `OtherNumber`.
+/// Makes the step of a line of the journal again, if it can be made and draws the written number.
+/// After an error the step wasn't made, except after `OtherNumber`.
 #[tactic(auto, unfolding(crate::specs::Restore::restored))]
 pub(crate) fn restore_line<C: Ledger, A: Ledger, N: ListName>(
     alloc: Global,
@@ -60,7 +60,8 @@ pub(crate) fn restore_line<C: Ledger, A: Ledger, N: ListName>(
 
 // ---- messages
 
-/// Makes the change that a message requests. It has to draw this number.
+/// Restores an `operator` or `point` line of the journal: makes the change that its message
+/// requests. It has to draw this number.
 fn change<C: Ledger, A: Ledger, N: ListName>(
     alloc: Global,
     memory: &mut ReadingMemory,
@@ -79,7 +80,8 @@ fn change<C: Ledger, A: Ledger, N: ListName>(
     }
 }
 
-/// Returns the change that a message requests.
+/// Returns the step that the message in a line of the journal requests, or a fault if that isn't a
+/// change.
 fn change_asked(
     alloc: Global,
     memory: &mut ReadingMemory,
@@ -104,7 +106,8 @@ fn change_asked(
     }
 }
 
-/// Returns whether a step changes a point's book, or requests something of the point.
+/// Returns whether a step changes a point's book, or requests something of the point, and so is
+/// noted in the journal with its message.
 pub(crate) fn is_change(step: &Step) -> bool
     ensures { result ≡ is_change step.now }
 {
@@ -128,6 +131,7 @@ pub(crate) fn is_change(step: &Step) -> bool
     }
 }
 
+/// Makes a change on the book again from a line of the journal. It has to draw this number.
 fn make_change<C: Ledger, A: Ledger, N: ListName>(
     book: &mut Book<C, A, N>,
     pass: &mut Pass<C, A>,

@@ -161,9 +161,9 @@ impl<R: Wait + Clock + Eprint + AllocGlobal + Drop, N: ListName> JournalFile<R, 
         self.keep_with(&mut self.written.lock(&self.rt))
     }
 
-    /// Waits until all lines that lead to these states are on disk. One session writes and syncs
-    /// for all that wait. When it is done, the sessions whose entries it wrote continue, and one of
-    /// the others writes.
+    /// Waits until all lines of the journal that lead to these states are on disk. One session
+    /// writes and syncs for all that wait. When it is done, the sessions whose entries it wrote
+    /// continue, and one of the others writes.
     fn sync_up_to(&self, recorded: &RecordedStates<N>) -> Result<Receipt<N>, JournalFault>
         ensures { IfOk result (λ receipt. Covers N.is_recorded receipt recorded.now) }
     {
@@ -217,38 +217,40 @@ impl<R: Wait + Clock + Eprint + AllocGlobal + Drop, N: ListName> JournalFile<R, 
         }
     }
 
-    /// Writes and syncs everything noted by now, for all that wait. Sets the new state of the
-    /// journal before another thread can get the file.
+    /// Writes to the journal's file, and syncs, everything noted by now, for all that wait. Sets
+    /// the new state of the journal before another thread can get the file.
     fn keep_with(&self, written: &mut WrittenLines<N>) -> Result<(), JournalFault> {
         match self.try_to_keep(written) {
             Ok(SyncOutcome::All) => Ok(()),
             Ok(SyncOutcome::AllAndRoom) => {
-                self.turn(JournalState::Open, &"there is room again");
+                self.set_state(JournalState::Open, &"there is room again");
                 Ok(())
             }
             Ok(SyncOutcome::AllButFull(error)) => {
-                self.turn(JournalState::Full, &error);
+                self.set_state(JournalState::Full, &error);
                 Ok(())
             }
-            Err(error) => Err(self.turn_by(error)),
+            Err(error) => Err(self.set_state_after(error)),
         }
     }
 
-    /// Sets the state of the journal after a failed attempt. Returns the fault of the attempt.
-    fn turn_by(&self, error: SyncError) -> JournalFault {
+    /// Sets the state of the journal after a failed attempt to write and sync its lines. Returns
+    /// the fault of the attempt.
+    fn set_state_after(&self, error: SyncError) -> JournalFault {
         match error {
             SyncError::OutOfMemory => return JournalFault::OutOfMemory,
             SyncError::Log(LogFault::FailedBefore) => {}
-            SyncError::Log(LogFault::Full(error)) => self.turn(JournalState::Full, &error),
+            SyncError::Log(LogFault::Full(error)) => self.set_state(JournalState::Full, &error),
             // A failed write or sync leaves the contents of the file unknown, so it is never
             // retried.
-            SyncError::Log(LogFault::Failed(error)) => self.turn(JournalState::Broken, &error),
-            SyncError::StepMissing => self.turn(JournalState::Broken, &STEP_MISSING),
+            SyncError::Log(LogFault::Failed(error)) => self.set_state(JournalState::Broken, &error),
+            SyncError::StepMissing => self.set_state(JournalState::Broken, &STEP_MISSING),
         }
         JournalFault::Unwritable
     }
 
-    /// Writes and syncs everything noted by now.
+    /// Writes the journal's entries noted by now to its file, and syncs it. Returns whether the
+    /// device became full or has room again.
     fn try_to_keep(&self, written: &mut WrittenLines<N>) -> Result<SyncOutcome, SyncError> {
         // Entries whose lines failed for lack of memory come first.
         written.steps.add_lines(FREE_ENTRIES)?;
@@ -275,7 +277,8 @@ impl<R: Wait + Clock + Eprint + AllocGlobal + Drop, N: ListName> JournalFile<R, 
         Ok(kept)
     }
 
-    /// Returns the time since a moment, or zero if the clock can't be read.
+    /// Returns the time that a sync of the journal has taken since this moment, or zero if the
+    /// clock can't be read.
     fn time_since(&self, moment: Option<Instant>) -> Duration {
         let (Some(moment), Ok(now)) = (moment, Instant::now(&self.rt)) else {
             return Duration::ZERO;
@@ -283,7 +286,8 @@ impl<R: Wait + Clock + Eprint + AllocGlobal + Drop, N: ListName> JournalFile<R, 
         now.checked_duration_since(moment).unwrap_or_default()
     }
 
-    /// Takes the entries noted by now. Those taken before already have their lines.
+    /// Takes the journal's entries noted by now, for their lines to be written. Those taken before
+    /// already have their lines.
     fn take_noted(&self, written: &mut WrittenLines<N>) -> Result<(), SyncError> {
         let mut noted = self.noted.lock(&self.rt);
         if written.steps.take(&mut noted.steps) {
@@ -293,13 +297,14 @@ impl<R: Wait + Clock + Eprint + AllocGlobal + Drop, N: ListName> JournalFile<R, 
         }
     }
 
-    /// Sets the state of the journal, and reports the reason if the state is new.
-    fn turn<W: Display>(&self, state: JournalState, why: &W) {
+    /// Sets the state of the journal, and reports the reason to standard error if the state is new.
+    fn set_state<W: Display>(&self, state: JournalState, why: &W) {
         self.set_state_locked(&mut self.noted.lock(&self.rt), state, why);
     }
 
-    /// Does the same with `noted` already locked. A broken journal stays broken. The reason is
-    /// among the lines to print before `until_broken` wakes.
+    /// Sets the state of the journal, with `noted` already locked, and reports the reason if the
+    /// state is new. A broken journal stays broken. The reason is among the lines to print before
+    /// `until_broken` wakes.
     fn set_state_locked<W: Display>(
         &self,
         noted: &mut NotedEntries<N>,
@@ -318,7 +323,7 @@ impl<R: Wait + Clock + Eprint + AllocGlobal + Drop, N: ListName> JournalFile<R, 
         }
     }
 
-    /// Builds a timestamped log line about the file.
+    /// Builds a timestamped line about the journal's file, for standard error.
     fn line_of<W: Display>(&self, what: &W) -> Result<String, AllocError> {
         let path = self.path.as_str();
         let moment = match (SystemClock { rt: &self.rt }).now() {
@@ -337,14 +342,14 @@ impl<R: Wait + Clock + Eprint + AllocGlobal + Drop, N: ListName> JournalFile<R, 
         self.said.write_all(&self.rt);
     }
 
-    /// Writes the lines about the journal that wait by now.
+    /// Writes the lines about the journal that wait by now to standard error.
     pub(crate) fn write_log_lines(&self) {
         self.said.write_waiting(&self.rt);
     }
 }
 
 impl<N: ListName> NotedEntries<N> {
-    /// Returns whether all lines that lead to these states are on disk.
+    /// Returns whether all lines of the journal that lead to these states are on disk.
     fn has_kept(&self, recorded: &RecordedStates<N>) -> bool {
         match &self.receipt {
             Some(receipt) => receipt.covers(recorded),
@@ -352,7 +357,8 @@ impl<N: ListName> NotedEntries<N> {
         }
     }
 
-    /// Returns a receipt that covers these states, if their lines are on disk.
+    /// Returns a receipt that covers these states, if the lines of the journal that lead to them
+    /// are on disk.
     fn receipt_for(&self, recorded: &RecordedStates<N>) -> Option<Receipt<N>>
         ensures { IfSome result (λ receipt. Covers N.is_recorded receipt recorded.now) }
     {
@@ -363,7 +369,7 @@ impl<N: ListName> NotedEntries<N> {
         None
     }
 
-    /// Counts a write and sync that took this time and left this many bytes on disk.
+    /// Counts a write and sync of the journal that took this time and left this many bytes on disk.
     fn count_sync(&mut self, bytes: u64, time: Duration) {
         self.bytes = bytes;
         self.syncs = self.syncs.saturating_add(1);
@@ -372,13 +378,13 @@ impl<N: ListName> NotedEntries<N> {
 }
 
 impl<N: ListName> WrittenLines<N> {
-    /// Returns how many bytes of the file are on disk.
+    /// Returns how many bytes of the journal's file are on disk.
     fn synced(&self) -> u64 {
         self.steps.file().synced_bytes()
     }
 
-    /// Writes the lines that aren't in the file, and syncs it. If the device is full, gives up the
-    /// reserve for them.
+    /// Writes the journal's lines that aren't in its file, and syncs it. If the device is full,
+    /// gives up the reserved disk space for them.
     fn write_and_sync(&mut self) -> Result<(Receipt<N>, SyncOutcome), SyncError> {
         match self.steps.write_and_sync() {
             Ok(receipt) => Ok((receipt, SyncOutcome::All)),

@@ -111,8 +111,8 @@ impl JournalLines {
         self.torn.len()
     }
 
-    /// Reads the next part of the file, once all lines read before are handed out. Returns whether
-    /// it has a whole line.
+    /// Reads the next part of the journal's file, once all lines read before are handed out.
+    /// Returns whether it has a whole line.
     fn read_part<R: Eprint>(
         &mut self,
         rt: &R,
@@ -134,8 +134,8 @@ impl JournalLines {
         Ok(!whole.is_empty())
     }
 
-    /// Refuses a part without a whole line, except at the end of a journal. So a file of another
-    /// kind isn't taken for the beginning of a journal.
+    /// Refuses a part of a journal's file without a whole line, except at its end. So a file of
+    /// another kind isn't taken for the beginning of a journal.
     fn check_torn(&self) -> Result<(), FolderFault> {
         if !self.is_at_end {
             return Err(FolderFault::LineTooLong);
@@ -148,7 +148,8 @@ impl JournalLines {
         Ok(())
     }
 
-    /// Takes the next lines, up to one that names a site file. Returns whether there are any.
+    /// Takes the next lines of the journal, up to one that names a site file. Returns whether there
+    /// are any.
     fn take_steps(&mut self) -> Result<bool, AllocError> {
         let ahead = mem::replace(&mut self.ahead, Vec::new(self.alloc));
         let (steps, rest) = steps_before_site(ahead.as_slice());
@@ -157,7 +158,7 @@ impl JournalLines {
         Ok(!steps.is_empty())
     }
 
-    /// Takes the next line, which has to name a site file.
+    /// Takes the next line of the journal, which has to name a site file by its digest.
     fn take_site(&mut self) -> Result<(), FolderFault> {
         let ahead = mem::replace(&mut self.ahead, Vec::new(self.alloc));
         let Some((line, rest)) = split_line(ahead.as_slice()) else {
@@ -179,7 +180,7 @@ impl JournalLines {
         Ok(())
     }
 
-    /// Returns the fault of the next line, which doesn't name a site file.
+    /// Returns the fault of the journal's next line, which doesn't name a site file.
     fn no_site_line(&self, fault: HeaderFault) -> FolderFault {
         FolderFault::Header {
             line: self.count.saturating_add(1),
@@ -188,13 +189,15 @@ impl JournalLines {
     }
 }
 
+/// Returns a copy of a part of the journal's file.
 fn copied(alloc: Global, bytes: &[u8]) -> Result<Vec<u8>, AllocError> {
     let mut copy = Vec::with_capacity(alloc, bytes.len())?;
     copy.extend_from_slice(bytes)?;
     Ok(copy)
 }
 
-/// Returns the next lines, at most MOST_LINES, before one that names a site file, and the rest.
+/// Returns the next lines of the journal, at most MOST_LINES, before one that names a site file,
+/// and the rest.
 fn steps_before_site(whole: &[u8]) -> (&[u8], &[u8]) {
     let mut rest = whole;
     for _line in 0..MOST_LINES {
@@ -207,7 +210,7 @@ fn steps_before_site(whole: &[u8]) -> (&[u8], &[u8]) {
     (whole.split_at(steps).0, rest)
 }
 
-/// Counts the lines of a text of whole lines.
+/// Counts the lines in a part of the journal that has only whole lines.
 fn count_lines(text: &[u8]) -> u64 {
     let mut count = 0u64;
     for byte in text {

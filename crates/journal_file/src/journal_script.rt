@@ -99,6 +99,7 @@ struct ScriptReading {
 }
 
 impl ScriptReading {
+    /// Returns the reading of a journal as a script, before its first line.
     fn new(alloc: Global) -> ScriptReading {
         ScriptReading {
             alloc,
@@ -124,7 +125,7 @@ impl ScriptReading {
     }
 }
 
-/// Appends the script's lines for these lines of a journal.
+/// Appends to a script its lines for these lines of a journal.
 fn push_lines(
     script: &mut String,
     lines: JournalPart<'_>,
@@ -145,7 +146,7 @@ fn push_lines(
     Ok(())
 }
 
-/// Appends the script's line for a line of a journal, if it has one.
+/// Appends to a script its line for a line of a journal, if it has one.
 fn push_line(
     script: &mut String,
     line: &Line<'_>,
@@ -201,7 +202,7 @@ impl ScriptLines {
         Ok(Some((side, frame)))
     }
 
-    /// Returns whether the last line is from this point.
+    /// Returns whether this point sent the message of the last line of a journal's script.
     fn is_from(&self, point: &str) -> bool {
         match &self.sender {
             Some(sender) => sender.as_str() == point,
@@ -210,7 +211,8 @@ impl ScriptLines {
     }
 }
 
-/// Appends a message as a line of a script. A message that is too long for a line becomes `[]`.
+/// Appends a message of the journal as a line of a script. A message that is too long for a line
+/// becomes `[]`.
 fn push_message(
     script: &mut String,
     line: &Line<'_>,

@@ -29,7 +29,7 @@ struct UnwrittenLines {
 }
 
 impl LogLines {
-    /// Returns an empty list.
+    /// Returns an empty list of lines about the journal, for standard error.
     pub(crate) fn new(alloc: Global) -> LogLines {
         LogLines {
             alloc,
@@ -41,7 +41,8 @@ impl LogLines {
         }
     }
 
-    /// Adds a line, unless too many wait or memory runs out.
+    /// Adds a line about the journal to those that wait for standard error, unless too many wait or
+    /// memory runs out.
     pub(crate) fn add<R: Wait>(&self, rt: &R, line: String) {
         let mut waiting = self.waiting.lock(rt);
         if waiting.lines.len() < MOST_LINES {
@@ -51,7 +52,7 @@ impl LogLines {
         self.changed.notify_all();
     }
 
-    /// Writes the lines forever.
+    /// Writes the lines about the journal to standard error, forever.
     pub(crate) fn write_all<R: Wait + Eprint>(&self, rt: &R) {
         for _round in rt.forever() {
             let waiting = self.waiting.lock(rt);
@@ -63,7 +64,7 @@ impl LogLines {
         }
     }
 
-    /// Writes the waiting lines, with no lock held meanwhile.
+    /// Writes the waiting lines about the journal to standard error, with no lock held meanwhile.
     pub(crate) fn write_waiting<R: Wait + Eprint>(&self, rt: &R) {
         let mut waiting = self.waiting.lock(rt);
         let lines = mem::replace(&mut waiting.lines, Vec::new(self.alloc));
@@ -78,7 +79,8 @@ impl LogLines {
         self.changed.notify_all();
     }
 
-    /// Waits until all lines are written, for at most LONGEST_WAIT seconds.
+    /// Waits until all lines about the journal are written to standard error, for at most
+    /// LONGEST_WAIT seconds.
     pub(crate) fn settle<R: Wait + Clock>(&self, rt: &R) {
         let waiting = self.waiting.lock(rt);
         let longest = Duration::from_secs(LONGEST_WAIT);

@@ -50,7 +50,7 @@ pub fn open_journal<R: Files<File = File> + Eprint + AllocGlobal>(
     })
 }
 
-/// Locks the journal of this path for this process alone.
+/// Locks a site's journal at this path for this process alone.
 fn lock_journal<R: Eprint>(rt: &R, file: &File, path: &str) -> Result<(), FolderFault> {
     // The kernel releases this lock when the process ends, so a killed one leaves none behind.
     match file.try_lock() {
@@ -60,7 +60,8 @@ fn lock_journal<R: Eprint>(rt: &R, file: &File, path: &str) -> Result<(), Folder
     }
 }
 
-/// Creates a folder if needed. Syncs the one above it, so that a power cut can't lose the new one.
+/// Creates the folder of a site's journal if needed. Syncs the one above it, so that a power cut
+/// can't lose the new one.
 fn make_folder<R: Files<File = File> + Eprint + AllocGlobal>(
     rt: &R,
     folder: &str,
@@ -86,7 +87,7 @@ pub fn open_to_read<R: Files<File = File> + Eprint + AllocGlobal>(
     Ok(NamedFile { file, path })
 }
 
-/// Returns the path of the journal in a folder.
+/// Returns the path of the journal in the folder of a site.
 fn journal_path(alloc: Global, folder: &str) -> Result<String, AllocError> {
     path_in(alloc, folder, "journal")
 }
@@ -101,6 +102,7 @@ pub fn path_in(alloc: Global, folder: &str, name: &str) -> Result<String, AllocE
     Ok(path)
 }
 
+/// Syncs a folder, so that a power cut can't lose the entry of a new journal or folder in it.
 fn sync_folder<R: Files<File = File>>(rt: &R, folder: &str) -> io::Result<()> {
     File::open(rt, folder)?.sync_all()
 }

@@ -44,6 +44,8 @@ impl Rejections {
         }
     }
 
+    /// Returns whether a line of the journal is a point's reply that doesn't accept the call it
+    /// confirms.
     fn rejects(&mut self, line: &Line<'_>) -> Result<bool, AllocError> {
         let Some(frame) = reply_in(line) else {
             return Ok(false);
@@ -63,6 +65,8 @@ impl Rejections {
         }
     }
 
+    /// Records the call that a point rejected by the reply in a line of the journal, given the
+    /// state of the site before it.
     fn take_reply(&mut self, machine: &Machine, line: &Line<'_>) -> Result<(), AllocError> {
         let (Some(frame), Some(place), Some(outbox)) = (
             reply_in(line),
@@ -88,7 +92,7 @@ impl Rejections {
     }
 }
 
-/// Returns the reply by which a point confirmed its call, if a line has one.
+/// Returns the reply by which a point confirmed its call, if a line of the journal has one.
 fn reply_in<'a>(line: &Line<'a>) -> Option<&'a str> {
     match line.noted {
         Noted::Reply { frame, .. } => Some(frame),
@@ -96,7 +100,7 @@ fn reply_in<'a>(line: &Line<'a>) -> Option<&'a str> {
     }
 }
 
-/// Returns the action of the first call of an outbox.
+/// Returns the action of the first call in a point's outbox, which the point's next reply confirms.
 fn first_action(alloc: Global, outbox: &Outbox) -> Result<Option<ActionKind>, AllocError> {
     match outbox.bodies(alloc)?.into_iter().next() {
         Some(body) => Ok(Some(body.kind())),
@@ -104,7 +108,8 @@ fn first_action(alloc: Global, outbox: &Outbox) -> Result<Option<ActionKind>, Al
     }
 }
 
-/// Returns whether a reply with this reason leaves nothing of the call undone.
+/// Returns whether a point's reply with this reason leaves nothing of its call undone, so that the
+/// call isn't listed as rejected.
 fn is_done(action: Option<ActionKind>, reason: &str) -> bool {
     match (action, ReplyStatus::named(reason)) {
         (Some(action), Some(status)) => status.is_done(action),

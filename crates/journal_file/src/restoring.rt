@@ -82,10 +82,10 @@ pub fn restore_shared<
     }
 }
 
-/// Restores a book from its journal, each step with the number it drew, and takes the links from
-/// all points. A journal that is new or was written with another site file gets a line that names
-/// this one. A torn last line is cut: nothing in it was answered. Returns the journal, and the
-/// lines to add to it.
+/// Restores a site's book from its journal, each step with the number it drew, and takes the links
+/// from all points. A journal that is new or was written with another site file gets a line that
+/// names this one. A torn last line is cut: nothing in it was answered. Returns the journal, and
+/// the lines to add to it.
 fn restore_book<
     C: Ledger,
     A: Ledger,
@@ -119,7 +119,8 @@ fn restore_book<
     }
 }
 
-/// Restores a book from the lines of a journal. If that takes long, prints how many are read.
+/// Restores a site's book from the lines of its journal. If that takes long, prints how many are
+/// read.
 fn restore_lines<C: Ledger, A: Ledger, R: AllocGlobal + Eprint + Clock, N: ListName>(
     rt: &R,
     file: &mut NamedFile,
@@ -139,8 +140,8 @@ fn restore_lines<C: Ledger, A: Ledger, R: AllocGlobal + Eprint + Clock, N: ListN
     Ok(())
 }
 
-/// Restores a book from lines, and takes in the calls that points rejected. Before such a reply,
-/// its call is the first one of its point.
+/// Restores a site's book from these lines of its journal, and takes in the calls that points
+/// rejected. Before such a reply, its call is the first one of its point.
 fn restore_part<C: Ledger, A: Ledger, N: ListName>(
     alloc: Global,
     lines: JournalPart<'_>,
@@ -169,7 +170,7 @@ fn restore_part<C: Ledger, A: Ledger, N: ListName>(
     restore_from(alloc, first, left, book, pass)
 }
 
-/// Restores a book from lines, the first of which has this number.
+/// Restores a site's book from these lines of its journal, the first of which has this number.
 fn restore_from<C: Ledger, A: Ledger, N: ListName>(
     alloc: Global,
     first: u64,
@@ -208,7 +209,8 @@ pub fn say_other_site<R: Eprint>(
     }
 }
 
-/// Returns the figures of a site whose points rejected these calls.
+/// Returns the figures of a site that is restored from its journal, whose points rejected these
+/// calls.
 fn count_resumed(machine: &Machine, rejected: Vec<RejectedCalls>) -> Resumed {
     let site = machine.site();
     let mut resumed = Resumed {
@@ -227,7 +229,8 @@ fn count_resumed(machine: &Machine, rejected: Vec<RejectedCalls>) -> Resumed {
 }
 
 impl Resumed {
-    /// Adds the figures of the point of this identity.
+    /// Adds the profiles, active transactions and calls of this point to the figures of a site
+    /// restored from its journal.
     fn add_point(&mut self, machine: &Machine, point: &str) {
         self.calls = self.calls.saturating_add(machine.outbox_len(point) as u64);
         let Some(book) = machine.book_of(point) else {

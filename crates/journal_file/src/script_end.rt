@@ -34,7 +34,8 @@ impl ScriptEnd {
     }
 }
 
-/// Counts the lines of a script before the first one that is later than a moment.
+/// Counts the lines of a script before the first one that is later than the moment up to which it
+/// is played.
 fn lines_until(script: &[u8], moment: Instant) -> u64 {
     let mut lines = 0u64;
     for line in script.split(|byte| *byte == b'\n') {
@@ -46,7 +47,7 @@ fn lines_until(script: &[u8], moment: Instant) -> u64 {
     lines
 }
 
-/// Returns the moment at which a line of a script begins, if it has one.
+/// Returns the moment at which a line of a script of OCPP messages begins, if it has one.
 fn moment_of(line: &[u8]) -> Option<Instant> {
     let text = std::str::from_utf8(line).ok()?;
     let (moment, _) = text.split_once(' ')?;

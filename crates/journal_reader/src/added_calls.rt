@@ -20,7 +20,7 @@ pub(crate) struct AddedCalls {
 }
 
 impl AddedCalls {
-    /// Returns the state before the first line of a journal.
+    /// Returns the added calls of a point before the first line of a journal: there are none.
     pub(crate) fn new(alloc: Global) -> AddedCalls {
         AddedCalls {
             calls: Vec::new(alloc),
@@ -28,7 +28,7 @@ impl AddedCalls {
         }
     }
 
-    /// Takes in the effect of a line of this moment on the outbox.
+    /// Takes in the effect of a journal's line, which has this moment, on the outbox of its point.
     pub(crate) fn follow(&mut self, outbox: &Outbox, moment: Instant) -> Result<(), AllocError> {
         let first = outbox.first_number();
         // A point confirms its calls in order, so those below the first number are confirmed.
@@ -40,7 +40,8 @@ impl AddedCalls {
         Ok(())
     }
 
-    /// Returns when the call of this number was added, if it is the first one.
+    /// Returns when the call of this number was added to its point's outbox, if it is the first one
+    /// there.
     pub(crate) fn first_since(&self, first: u64) -> Option<Instant> {
         let added = self.calls.first()?;
         if added.number == first {

@@ -106,7 +106,8 @@ pub fn follow_journal<R: Files<File = File> + Eprint + Clock + AllocGlobal>(
     follow_counted::<Brand, Brand, R>(rt, following, blanks)
 }
 
-/// Follows a journal on a book whose changes and answers are counted by these two ledgers.
+/// Follows a journal up to the requested end, on a book whose changes and answers are counted by
+/// these two ledgers.
 fn follow_counted<C: Ledger, A: Ledger, R: Files<File = File> + Eprint + Clock + AllocGlobal>(
     rt: &R,
     following: FollowRequest<'_>,
@@ -143,7 +144,8 @@ fn follow_counted<C: Ledger, A: Ledger, R: Files<File = File> + Eprint + Clock +
     follower.into_followed(point, has_end && journal.torn() == 0)
 }
 
-/// Follows all parts of a journal. If that takes long, prints how many lines are read.
+/// Follows all parts of a journal, to the state of the site at the requested end. If that takes
+/// long, prints how many lines are read.
 fn follow_parts<C: Ledger, A: Ledger, R: Eprint + Clock + AllocGlobal>(
     rt: &R,
     file: &mut NamedFile,
@@ -208,7 +210,7 @@ struct Follower<C: Ledger, A: Ledger> {
 }
 
 impl<C: Ledger, A: Ledger> Follower<C, A> {
-    /// Returns the state before the first line.
+    /// Returns the state of a site before the first line of the journal to follow.
     fn begin(
         alloc: Global,
         site: Site,
@@ -245,7 +247,8 @@ impl<C: Ledger, A: Ledger> Follower<C, A> {
         })
     }
 
-    /// Returns the result after all lines, with the first waiting call to this point.
+    /// Returns the state after all lines of a journal, with the moment since which the first
+    /// waiting call to this point waits.
     fn into_followed(
         self,
         point: &str,
@@ -272,7 +275,7 @@ impl<C: Ledger, A: Ledger> Follower<C, A> {
         })
     }
 
-    /// Reads lines, and follows those up to the requested end.
+    /// Reads these lines of a journal, and follows those up to the requested end.
     fn follow_lines(
         &mut self,
         lines: JournalPart<'_>,
@@ -296,8 +299,8 @@ impl<C: Ledger, A: Ledger> Follower<C, A> {
         Ok(())
     }
 
-    /// Follows the line of this number in the file, unless it is after the requested end. The text
-    /// is the line with its line feed.
+    /// Follows the line of this number in the journal's file, unless it is after the requested end.
+    /// The text is the line with its line feed.
     fn follow_line(
         &mut self,
         line: &Line<'_>,
@@ -332,7 +335,8 @@ impl<C: Ledger, A: Ledger> Follower<C, A> {
         Ok(())
     }
 
-    /// Records the moments at which calls to the followed point were added, after a line of its own.
+    /// Records the moments at which calls to the followed point were added, if a line of the
+    /// journal is of that point.
     fn note_added_calls(
         &mut self,
         line: &Line<'_>,
@@ -344,8 +348,8 @@ impl<C: Ledger, A: Ledger> Follower<C, A> {
         }
     }
 
-    /// Takes in the effect of a line on the calls to its point. The line belongs to the script's
-    /// line of this number.
+    /// Takes in the effect of a journal's line on the calls to its point. The line belongs to the
+    /// script's line of this number.
     fn follow_calls(&mut self, line: &Line<'_>, number: u64) -> Result<(), AllocError> {
         let machine = self.book.present();
         let (Some(place), Some(outbox)) = (
@@ -368,7 +372,7 @@ impl<C: Ledger, A: Ledger> Follower<C, A> {
     }
 }
 
-/// Prints how many lines were read, and the moment of the last one.
+/// Prints how many lines of a journal were read, and the moment of the last one.
 fn say_read<R: Eprint + AllocGlobal>(
     rt: &R,
     lines: u64,
@@ -384,7 +388,8 @@ fn say_read<R: Eprint + AllocGlobal>(
     Ok(())
 }
 
-/// Prints a note if the journal doesn't reach the requested end. Returns whether it does.
+/// Prints a note if the journal doesn't reach the end that `--at` requests. Returns whether it
+/// does.
 fn say_end<R: Eprint + AllocGlobal>(
     rt: &R,
     wanted: &FollowOptions<'_>,
@@ -407,7 +412,8 @@ fn say_end<R: Eprint + AllocGlobal>(
     }
 }
 
-/// Prints a note if the journal begins after the requested moment. Returns whether it doesn't.
+/// Prints a note if the journal begins after the moment that `--at` requests. Returns whether it
+/// doesn't.
 fn say_begun<R: Eprint + AllocGlobal>(
     rt: &R,
     moment: Instant,
@@ -422,7 +428,8 @@ fn say_begun<R: Eprint + AllocGlobal>(
     Ok(false)
 }
 
-/// Returns whether a line is a change to be counted.
+/// Returns whether a line of a journal is a change to be counted: a message about the followed
+/// point after the requested moment.
 fn is_counted(line: &Line<'_>, wanted: &FollowOptions<'_>) -> bool {
     match (&line.noted, wanted.counted_from) {
         (Noted::Message { .. }, Some(moment)) => line.point == wanted.point && line.moment > moment,

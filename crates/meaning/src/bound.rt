@@ -80,7 +80,8 @@ pub fn lesser_of(best: Option<ProfileLimit>, other: Bound) -> Bound
     }
 }
 
-/// Returns the limit with the higher stack level, or the first of equals, or the only one.
+/// Returns the profile's limit with the higher stack level (chapter 3.13), or the first of equals,
+/// or the only one.
 pub(crate) fn higher_level(
     best: Option<ProfileLimit>,
     next: Option<ProfileLimit>,

@@ -26,7 +26,8 @@ pub fn limit_at(view: &View<'_>, connector: u32, asked: Instant, instant: Instan
 }
 
 impl View<'_> {
-    /// Returns the least of the point's ceiling and the prevailing ChargePointMaxProfile.
+    /// Returns the charge point's own limit at an instant: the least of its ceiling and the
+    /// prevailing ChargePointMaxProfile.
     fn point_limit(&self, asked: Instant, instant: Instant) -> u32
         ensures { result ≡ point_limit (point_state self.now) asked instant }
     {
@@ -36,7 +37,8 @@ impl View<'_> {
         }
     }
 
-    /// Returns the least of the connector's ceiling and its transaction limit.
+    /// Returns a connector's own limit at an instant: the least of its ceiling and the limit of its
+    /// prevailing TxProfile or TxDefaultProfile.
     fn own_limit(&self, connector: usize, asked: Instant, instant: Instant) -> u32
         requires above { 0 < connector }
         requires has_connector { connector ≤ length self.now.ceilings.now }
@@ -49,7 +51,8 @@ impl View<'_> {
         }
     }
 
-    /// Returns the limit of the prevailing TxProfile, otherwise of the prevailing TxDefaultProfile.
+    /// Returns a connector's limit at an instant by the prevailing TxProfile, otherwise by the
+    /// prevailing TxDefaultProfile.
     fn transaction_limit(&self, connector: usize, asked: Instant, instant: Instant) -> Option<u32>
         ensures { result ≡ transaction_limit (point_state self.now) connector asked instant }
     {
@@ -60,7 +63,8 @@ impl View<'_> {
         }
     }
 
-    /// Returns the sum of the active connectors' limits, but at most `most`.
+    /// Returns the sum of the active connectors' own limits at an instant, but at most `most`, as a
+    /// limit of the whole charge point.
     fn shared_limit_within(&self, most: u32, asked: Instant, instant: Instant) -> u32
         ensures { result ≡ min most (shared_limit (point_state self.now) asked instant) }
     {
@@ -78,7 +82,8 @@ impl View<'_> {
     }
 }
 
-/// Returns the sum of two limits, but at most `most`.
+/// Returns the sum of a connector's limit and those of the connectors before it, but at most
+/// `most`.
 fn least_sum(most: u32, sum: u32, limit: u32) -> u32
     ensures { result ≡ min most (sum + limit) }
 {

@@ -44,7 +44,8 @@ pub fn why_not(
 }
 
 impl View<'_> {
-    /// Returns the reason why a row doesn't count for a connector.
+    /// Returns the reason why a charging profile's row doesn't count for a connector:
+    /// `OtherConnector`, `NoTransaction` or `Hidden`.
     fn why_not_counted(&self, connector: usize, row: &Row) -> Option<WhyNot>
         ensures { result ≡ why_not_counted (point_state self.now) connector row.now }
     {
@@ -62,7 +63,8 @@ impl View<'_> {
         None
     }
 
-    /// Returns the reason why a row has no limit for a connector at an instant.
+    /// Returns the reason why a charging profile's row has no limit for a connector at an instant,
+    /// if it has none.
     fn why_no_limit(
         &self,
         connector: usize,
@@ -82,7 +84,8 @@ impl View<'_> {
         why_no_limit_in(row, row.profile.offset(base, instant))
     }
 
-    /// Returns the reason why a row with a limit doesn't prevail.
+    /// Returns the reason why a charging profile with a limit doesn't prevail for a connector:
+    /// `BelowHigherLevel` or `BehindTxProfile`.
     fn why_behind(
         &self,
         connector: usize,
@@ -107,8 +110,8 @@ impl View<'_> {
         None
     }
 
-    /// Whether a profile of a purpose with a higher stack level has a limit for a connector at an
-    /// instant.
+    /// Whether a charging profile of a purpose with a higher stack level has a limit for a
+    /// connector at an instant. Then a lower level doesn't prevail.
     fn has_higher(
         &self,
         purpose: Purpose,
@@ -124,7 +127,8 @@ impl View<'_> {
             && self.any_higher(purpose, level, connector, asked, instant)
     }
 
-    /// Whether any candidate of a higher stack level has a limit for a connector at an instant.
+    /// Whether any row that applies to a connector by a purpose has a higher stack level and a
+    /// limit at an instant.
     fn any_higher(
         &self,
         purpose: Purpose,
@@ -152,7 +156,8 @@ impl View<'_> {
     }
 }
 
-/// Whether a profile at a connector doesn't apply to another one.
+/// Whether a charging profile of a purpose that is installed at one connector doesn't apply to
+/// another one.
 fn is_elsewhere(purpose: Purpose, connector: usize, at: usize) -> bool
     ensures { result ≡ is_elsewhere purpose connector at }
 {
@@ -163,7 +168,8 @@ fn is_elsewhere(purpose: Purpose, connector: usize, at: usize) -> bool
     }
 }
 
-/// Returns the reason why a row has no limit at an offset in its schedule, or before it.
+/// Returns the reason why a charging profile has no limit at an offset in its schedule, or before
+/// it.
 fn why_no_limit_in(row: &Row, offset: Option<u64>) -> Option<WhyNot>
     ensures { result ≡ why_no_limit_in row.now offset }
 {

@@ -34,7 +34,8 @@ impl View<'_> {
         best.map(|(_, limit)| limit)
     }
 
-    /// Returns a row's stack level and its limit for a connector at an instant, if it has one.
+    /// Returns a charging profile's stack level and its limit for a connector at an instant, if it
+    /// has one.
     fn level_and_limit(
         &self,
         connector: usize,
@@ -62,7 +63,8 @@ pub fn has_its_transaction(purpose: Purpose, started: Option<Instant>) -> bool
     }
 }
 
-/// Returns the limit with the higher stack level, or the first of equals, or the only one.
+/// Returns, of two profiles' stack levels and limits, the one with the higher level (chapter 3.13),
+/// or the first of equals, or the only one.
 fn higher(best: Option<(u32, u32)>, next: Option<(u32, u32)>) -> Option<(u32, u32)>
     ensures { result ≡ greatest (λ (limit : ℕ × ℕ). limit.0)
         (filter_map (λ limit. limit) (best ∷ (next ∷ []))) }

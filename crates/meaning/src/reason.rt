@@ -50,7 +50,7 @@ pub fn reason_at(
 }
 
 impl View<'_> {
-    /// Returns the bound of the whole point.
+    /// Returns the limit of the whole charge point at an instant, with its cause.
     fn whole_bound(&self, asked: Instant, instant: Instant) -> Bound
         ensures { result ≡ bound_by true (point_state self.now) 0 asked instant }
     {
@@ -69,7 +69,7 @@ impl View<'_> {
         self.below_point(sum, asked, instant)
     }
 
-    /// Returns the point's ceiling.
+    /// Returns the charge point's ceiling as a limit with its cause.
     fn point_ceiling(&self) -> Bound
         ensures { result ≡ bound_of PointCeiling self.now.ceiling }
     {
@@ -79,14 +79,16 @@ impl View<'_> {
         }
     }
 
-    /// Returns the least of the prevailing ChargePointMaxProfile, a bound and the point's ceiling.
+    /// Returns the least of the prevailing ChargePointMaxProfile, a bound and the charge point's
+    /// ceiling at an instant, with its cause.
     fn below_point(&self, bound: Bound, asked: Instant, instant: Instant) -> Bound
         ensures { result ≡ below_point (point_state self.now) asked instant bound }
     {
         self.below_maximum(bound.or_less(self.point_ceiling()), asked, instant)
     }
 
-    /// Returns the least of the prevailing ChargePointMaxProfile and a bound.
+    /// Returns the least of the prevailing ChargePointMaxProfile and a bound at an instant, with
+    /// its cause.
     fn below_maximum(&self, bound: Bound, asked: Instant, instant: Instant) -> Bound
         ensures { result ≡ lesser_of
             (prevailing_row ChargePointMaxProfile (point_state self.now) 0 asked instant) bound }
@@ -95,7 +97,8 @@ impl View<'_> {
         lesser_of(most, bound)
     }
 
-    /// Returns the bound of a connector's own limit.
+    /// Returns a connector's own limit at an instant, with its cause: the prevailing TxProfile or
+    /// TxDefaultProfile, or the ceiling.
     fn own_bound(&self, connector: usize, asked: Instant, instant: Instant) -> Bound
         requires above { 0 < connector }
         requires has_connector { connector ≤ length self.now.ceilings.now }
@@ -108,7 +111,8 @@ impl View<'_> {
         lesser_of(self.transaction_profile(connector, asked, instant), ceiling)
     }
 
-    /// Returns the prevailing TxProfile, otherwise the prevailing TxDefaultProfile, with its limit.
+    /// Returns a connector's prevailing TxProfile at an instant, otherwise its prevailing
+    /// TxDefaultProfile, with its limit.
     fn transaction_profile(
         &self,
         connector: usize,
@@ -124,7 +128,8 @@ impl View<'_> {
         }
     }
 
-    /// Returns the sum of the active connectors' limits, but at most `most`.
+    /// Returns the sum of the active connectors' own limits at an instant, but at most `most`, as a
+    /// limit of the whole charge point.
     fn shared_limit_up_to(&self, most: u64, asked: Instant, instant: Instant) -> u64
         requires few { most ≤ 4294967296 }
         ensures { result ≡ min most (shared_limit (point_state self.now) asked instant) }
@@ -140,7 +145,8 @@ impl View<'_> {
         sum
     }
 
-    /// Returns the share of each active connector in the sum.
+    /// Returns the share of each active connector in the sum that limits the whole charge point at
+    /// an instant.
     fn shares(&self, alloc: Global, asked: Instant, instant: Instant) -> Result<Shares, AllocError>
         requires numbered { length self.now.ceilings.now < 2 ^ 32 }
         ensures { IfOk result
@@ -185,7 +191,8 @@ impl View<'_> {
         best
     }
 
-    /// Returns a row's profile with its limit for a connector at an instant, if it has one.
+    /// Returns a row's charging profile with its limit for a connector at an instant, if it has
+    /// one.
     fn profile_limit(
         &self,
         connector: usize,

@@ -45,7 +45,7 @@ impl SaidPeriods {
         self.items.len()
     }
 
-    /// Returns the list.
+    /// Returns the list of the periods that a charge point reports in a GetCompositeSchedule.conf.
     pub(crate) fn into_vec(self) -> Vec<CompositePeriod>
         ensures { result.items ≡ self }
     {

@@ -53,6 +53,7 @@ impl Shares {
     }
 }
 
+/// Whether two lists of the active connectors' shares in the limit of a charge point are equal.
 fn same_shares(shares: &[Share], others: &[Share]) -> bool
     ensures { IsTrue result ↔ (shares.now ≡ others.now) }
 {

@@ -15,7 +15,8 @@ pub(crate) struct JudgedAudit {
     pub outcome: AuditOutcome,
 }
 
-/// Returns the last audit of the point of this identity, if the played line confirmed a call of it.
+/// Returns the last audit of the point of this identity, if the script's line played last confirmed
+/// a call to it.
 // That may be another call than the audit's, so its number is compared with the reply's id later.
 pub(crate) fn judged_audit(
     playing: &Playing<'_>,
@@ -34,8 +35,8 @@ pub(crate) fn judged_audit(
     })
 }
 
-/// Checks the reply to an audit's call. Reports a point that isn't in step, or an audit without a
-/// verdict.
+/// Checks a point's reply to an audit's call in a script. Reports a point that isn't in step, or an
+/// audit without a verdict.
 pub(crate) fn check_verdict(report: &mut Report, audit: &JudgedAudit) {
     let JudgedAudit {
         connector,

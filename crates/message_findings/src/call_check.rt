@@ -30,7 +30,7 @@ pub(crate) struct LineCall<'a, 'node, 'memory> {
 }
 
 impl<'a, 'node, 'memory> LineCall<'a, 'node, 'memory> {
-    /// Makes the CALL of a line's message.
+    /// Makes the CALL in a line of a script, of its message, action and payload, for `check`.
     pub(crate) fn new(
         text: &'a LineMessage<'a>,
         action: &'a str,
@@ -44,7 +44,7 @@ impl<'a, 'node, 'memory> LineCall<'a, 'node, 'memory> {
     }
 }
 
-/// Checks a CALL.
+/// Checks a CALL in a line of a script: whether its sender has the action, then its payload.
 pub(crate) fn check_call(report: &mut Report, call: &LineCall<'_, '_, '_>) {
     let kind = ActionKind::named(call.action);
     if call.text.sender == Sender::Hold && kind != Some(ActionKind::GetCompositeSchedule) {
@@ -57,12 +57,14 @@ pub(crate) fn check_call(report: &mut Report, call: &LineCall<'_, '_, '_>) {
     }
 }
 
-/// Reports an action that a side doesn't have, and the one that was probably meant.
+/// Reports a CALL whose action its sender, an operator or a point, doesn't have, and the action
+/// that was probably meant.
 pub(crate) fn refuse_action(report: &mut Report, sender: Side, name: &str) {
     report.fault(unknown_action_message(report.alloc, sender, name));
 }
 
-/// Describes an action that a side doesn't have, and the one that was probably meant.
+/// Describes the action of a CALL that its sender doesn't have, and the one that was probably
+/// meant.
 fn unknown_action_message(alloc: Global, sender: Side, name: &str) -> Result<String, AllocError> {
     let actions = actions_of(alloc, sender)?;
     let sender = match sender {
@@ -83,7 +85,8 @@ fn unknown_action_message(alloc: Global, sender: Side, name: &str) -> Result<Str
     }
 }
 
-/// Returns the names of a side's actions.
+/// Returns the names of the actions that an operator or a point may send, to find the one that was
+/// probably meant.
 fn actions_of(alloc: Global, side: Side) -> Result<Vec<&'static str>, AllocError> {
     let mut names = Vec::new(alloc);
     for kind in ActionKind::all() {
@@ -94,7 +97,7 @@ fn actions_of(alloc: Global, side: Side) -> Result<Vec<&'static str>, AllocError
     Ok(names)
 }
 
-/// Checks the fields of an action, and the action itself.
+/// Checks the payload of a CALL in a line of a script: its fields, then its request.
 fn check_action(report: &mut Report, call: &LineCall<'_, '_, '_>, kind: ActionKind) {
     let alloc = report.alloc;
     // Of a point's CALL only some fields are read, so its other fields aren't unknown ones.
@@ -113,7 +116,7 @@ fn check_action(report: &mut Report, call: &LineCall<'_, '_, '_>, kind: ActionKi
     }
 }
 
-/// Checks an action whose fields are right.
+/// Checks the request of a CALL in a line of a script, whose fields are right, by its action.
 fn check_asked(report: &mut Report, call: &LineCall<'_, '_, '_>, kind: ActionKind, action: Action) {
     check_operator_fields(report, call, kind);
     match action {
@@ -133,7 +136,8 @@ fn check_asked(report: &mut Report, call: &LineCall<'_, '_, '_>, kind: ActionKin
     }
 }
 
-/// Warns of an operator's unknown fields, and remarks on its instants without a zone.
+/// Warns of unknown fields of an operator's CALL in a script, and remarks on its instants without a
+/// zone.
 fn check_operator_fields(report: &mut Report, call: &LineCall<'_, '_, '_>, kind: ActionKind) {
     // An unknown field of a clear has a warning of its own: it may clear more than is meant.
     if !kind.side().is_same(Side::Operator) || kind == ActionKind::ClearChargingProfile {
@@ -147,7 +151,7 @@ fn check_operator_fields(report: &mut Report, call: &LineCall<'_, '_, '_>, kind:
     remark_unzoned(report, payload);
 }
 
-/// Checks the request for an audit.
+/// Checks an operator's AuditPoint in a line of a script, as a request for a schedule.
 fn check_audit_request(report: &mut Report, text: &LineMessage<'_>, connector: u32, duration: u32) {
     let request = ScheduleRequest {
         connector,
@@ -157,7 +161,8 @@ fn check_audit_request(report: &mut Report, text: &LineMessage<'_>, connector: u
     check_ask(report, text, &request);
 }
 
-/// Reports the refusal of any other action, unless it depends on the point's state.
+/// Reports the refusal of a CALL in a script whose action has no other check, unless it depends on
+/// the point's state.
 fn check_refused(report: &mut Report, text: &LineMessage<'_>) {
     match text.refusal() {
         Some(Refusal::UnknownPoint) => refuse_point(report, text),
@@ -181,13 +186,13 @@ pub(crate) fn warn_repeated(report: &mut Report, frame: &str, kind: ActionKind) 
     }
 }
 
-/// Returns the duplicate fields of an operator's CALL.
+/// Returns the duplicate fields in the payload of an operator's CALL, for a warning of each.
 fn repeated_fields(alloc: Global, frame: &str, kind: ActionKind) -> Result<Vec<&str>, AllocError> {
     let outline = outline_of(alloc, frame)?;
     repeated_payload_fields(alloc, frame, &outline, kind)
 }
 
-/// Returns the unknown fields of an operator's CALL.
+/// Returns the unknown fields in the payload of an operator's CALL, which have no effect.
 pub(crate) fn unknown_fields(
     alloc: Global,
     frame: &str,
@@ -212,7 +217,7 @@ pub(crate) fn warn_unknown(report: &mut Report, frame: &str, kind: ActionKind) {
     }
 }
 
-/// Describes an unknown field, and the one that was probably meant.
+/// Describes an unknown field of an operator's CALL, and the field that was probably meant.
 fn unknown_field_message(
     alloc: Global,
     field: &UnknownField<'_>,
@@ -228,7 +233,8 @@ fn unknown_field_message(
     }
 }
 
-/// Checks a ClearChargingProfile, which clears all profiles that match its criteria.
+/// Checks a ClearChargingProfile in a line of a script, which clears all profiles that match its
+/// criteria.
 fn check_clear(report: &mut Report, call: &LineCall<'_, '_, '_>, criteria: &Criteria) {
     if call.text.site.place_of(call.text.point).is_none() {
         refuse_point(report, call.text);
@@ -240,7 +246,8 @@ fn check_clear(report: &mut Report, call: &LineCall<'_, '_, '_>, criteria: &Crit
     }
 }
 
-/// Warns of a clear that clears more than it seems to, by its fields that are no criteria.
+/// Warns of a ClearChargingProfile that clears more than it seems to, by its fields that are no
+/// criteria.
 // Unknown fields are ignored, so a clear whose only criterion is misspelled clears everything.
 pub(crate) fn warn_of_clear(
     report: &mut Report,
@@ -256,7 +263,8 @@ pub(crate) fn warn_of_clear(
     }
 }
 
-/// Describes a field of a clear that is no criterion.
+/// Describes a field of a ClearChargingProfile that is no criterion, so that more may be cleared
+/// than is meant.
 fn no_criterion_message(alloc: Global, name: &str) -> Result<String, AllocError> {
     let name = excerpt(alloc, name)?;
     format!(in alloc;
@@ -264,7 +272,8 @@ fn no_criterion_message(alloc: Global, name: &str) -> Result<String, AllocError>
     )
 }
 
-/// Returns the criteria of a clear without a criterion that are null.
+/// Returns the names of the criteria that are null in a ClearChargingProfile without any other
+/// criterion.
 fn null_criteria(alloc: Global, payload: Node<'_, '_>) -> Result<Vec<&'static str>, AllocError> {
     let mut names = Vec::new(alloc);
     for row in fields_of(ActionKind::ClearChargingProfile) {
@@ -276,7 +285,8 @@ fn null_criteria(alloc: Global, payload: Node<'_, '_>) -> Result<Vec<&'static st
     Ok(names)
 }
 
-/// Returns whether a clear without a criterion has fields.
+/// Returns whether a ClearChargingProfile without a criterion has fields, which are unknown or
+/// null.
 pub(crate) fn has_fields(payload: Node<'_, '_>, unknown: &Vec<UnknownField<'_>>) -> bool {
     for row in fields_of(ActionKind::ClearChargingProfile) {
         if payload.field(row.name().text()).is_some() {
@@ -286,7 +296,7 @@ pub(crate) fn has_fields(payload: Node<'_, '_>, unknown: &Vec<UnknownField<'_>>)
     !unknown.is_empty()
 }
 
-/// Describes a clear without a criterion, and the criteria that were probably meant.
+/// Describes a ClearChargingProfile without a criterion, and the criteria that were probably meant.
 fn clears_all_message(
     alloc: Global,
     payload: Node<'_, '_>,
@@ -309,7 +319,8 @@ fn clears_all_message(
     Ok(message)
 }
 
-/// Returns the criterion that is probably meant.
+/// Returns the criterion of a ClearChargingProfile that is probably meant by an unknown field of
+/// this name.
 // These names are from other messages or OCPP 2.0.1, and not similar enough for `similar_name`.
 fn criterion_meant(alloc: Global, name: &str) -> Result<Option<&'static str>, AllocError> {
     match name {
@@ -324,13 +335,15 @@ fn criterion_meant(alloc: Global, name: &str) -> Result<Option<&'static str>, Al
     }
 }
 
-/// Reports that the site lacks the point of a line.
+/// Reports that the site lacks the point of a message in a script, with the identity that is
+/// probably meant.
 pub(crate) fn refuse_point(report: &mut Report, text: &LineMessage<'_>) {
     let message = unknown_point_message(report, text.site, text.point);
     report.fault(message);
 }
 
-/// Describes the refusal of a point that the site lacks.
+/// Describes the refusal of a message for a point that the site lacks, with the identity that is
+/// probably meant.
 fn unknown_point_message(report: &mut Report, site: &Site, id: &str) -> Result<String, AllocError> {
     let alloc = report.alloc;
     let hint = point_hint(report, site, id)?;
@@ -338,13 +351,13 @@ fn unknown_point_message(report: &mut Report, site: &Site, id: &str) -> Result<S
     format!(in alloc; "UnknownPoint: the site has no point \"{id}\"{hint}")
 }
 
-/// Returns the point of the line.
+/// Returns the point of the site that a line of a script names, if the site has it.
 pub(crate) fn point_of<'a>(site: &'a Site, text: &LineMessage<'_>) -> Option<SitePoint<'a>> {
     site.point(site.place_of(text.point)?)
 }
 
-/// Checks a GetCompositeSchedule or an AuditPoint by its answer. Reports a refusal unless it
-/// depends on the point's state.
+/// Checks a GetCompositeSchedule or an AuditPoint in a script by its answer. Reports a refusal
+/// unless it depends on the point's state.
 fn check_ask(report: &mut Report, text: &LineMessage<'_>, request: &ScheduleRequest) {
     match text.rejection() {
         None => {}
@@ -357,7 +370,7 @@ fn check_ask(report: &mut Report, text: &LineMessage<'_>, request: &ScheduleRequ
     }
 }
 
-/// Describes the value for which a request for a schedule is refused.
+/// Describes the value for which a GetCompositeSchedule or an AuditPoint is refused.
 fn ask_found(
     alloc: Global,
     text: &LineMessage<'_>,
@@ -376,7 +389,8 @@ fn ask_found(
     }
 }
 
-/// Describes the connector that was named, and the last one of the point.
+/// Describes, for the refusal of an operator's CALL, its connectorId and the last connector of the
+/// point.
 pub(crate) fn connector_found(
     alloc: Global,
     site: &Site,
@@ -392,12 +406,13 @@ pub(crate) fn connector_found(
     }
 }
 
-/// Returns the number of connectors of the line's point.
+/// Returns the number of connectors of the point that a line of a script names, 0 if the site lacks
+/// it.
 pub(crate) fn connector_count(text: &LineMessage<'_>) -> usize {
     point_of(text.site, text).map_or(0, |point| point.ceilings.len())
 }
 
-/// Describes the unit of the site.
+/// Describes the unit of the site file, for the refusal of a CALL with the other chargingRateUnit.
 pub(crate) fn unit_found(site: &Site) -> &'static str {
     match site.unit() {
         Unit::A => "the site's is \"A\"",
@@ -405,7 +420,8 @@ pub(crate) fn unit_found(site: &Site) -> &'static str {
     }
 }
 
-/// Reports a refusal with its sentence, and with the value found if that is known.
+/// Reports the refusal of an operator's CALL with its sentence, and with the value found if that is
+/// known.
 pub(crate) fn reject(report: &mut Report, refusal: Refusal, found: Option<&str>) {
     let name = refusal.name();
     let why = sentence(refusal);
@@ -415,7 +431,8 @@ pub(crate) fn reject(report: &mut Report, refusal: Refusal, found: Option<&str>)
     }
 }
 
-/// Reports a refusal with its sentence, and with the value found, whose text was made elsewhere.
+/// Reports the refusal of an operator's CALL with its sentence, and with the value found, whose
+/// text was made elsewhere.
 pub(crate) fn reject_found(
     report: &mut Report,
     refusal: Refusal,
@@ -427,7 +444,7 @@ pub(crate) fn reject_found(
     }
 }
 
-/// Checks a StartTransaction. Reports a connector that the point lacks.
+/// Checks a StartTransaction in a line of a script. Reports a connector that the point lacks.
 fn check_start(report: &mut Report, text: &LineMessage<'_>, connector: u32) {
     let Some(point) = point_of(text.site, text) else {
         return;

@@ -12,7 +12,8 @@ use std::alloc::{AllocError, Global};
 /// The words that may follow the instant.
 const WORDS: [&str; 4] = ["operator", "point", "hold", "release"];
 
-/// Describes the fault of a line, with an excerpt of it.
+/// Describes the fault of a script's line that can't be played, with an excerpt of it and the
+/// probable mistake.
 pub(crate) fn mistake_message(
     report: &mut Report,
     site: &Site,
@@ -39,12 +40,13 @@ pub(crate) fn mistake_message(
     }
 }
 
-/// Returns the word at an index in a line, counted from 0, or an empty text.
+/// Returns the word at an index in a line of a script, counted from 0, or an empty text.
 fn word_at(line: &str, place: usize) -> &str {
     line.split(' ').nth(place).unwrap_or("")
 }
 
-/// Describes the fault of a line that has none of the forms.
+/// Describes the fault of a script's line that has none of the forms of lines, with the probable
+/// mistake.
 fn bad_line(alloc: Global, text: &str) -> Result<String, AllocError> {
     let hint = form_hint(alloc, text)?;
     let fault = ScriptLineFault::BadLine;
@@ -53,7 +55,7 @@ fn bad_line(alloc: Global, text: &str) -> Result<String, AllocError> {
     format!(in alloc; "{fault}: {hint}; {rule}: {text}")
 }
 
-/// Describes the fault of a line whose point isn't in the site.
+/// Describes the fault of a script's line whose point isn't in the site.
 fn unknown_point(report: &mut Report, site: &Site, id: &str) -> Result<String, AllocError> {
     let alloc = report.alloc;
     let hint = point_hint(report, site, id)?;
@@ -62,7 +64,7 @@ fn unknown_point(report: &mut Report, site: &Site, id: &str) -> Result<String, A
     format!(in alloc; "{fault}: the site has no point \"{id}\"{hint}")
 }
 
-/// Describes the fault of a first word that is no instant.
+/// Describes the fault of a script's line whose first word is no instant.
 fn bad_instant(alloc: Global, word: &str) -> Result<String, AllocError> {
     let hint = match read_instant(word) {
         Ok(_) => "",
@@ -74,7 +76,7 @@ fn bad_instant(alloc: Global, word: &str) -> Result<String, AllocError> {
     format!(in alloc; "{fault}: \"{word}\" {hint}; {rule}")
 }
 
-/// Describes the mistake in a line that has none of the forms.
+/// Describes the mistake in a script's line that has none of the forms of lines.
 fn form_hint(alloc: Global, text: &str) -> Result<String, AllocError> {
     // This comes first, since two blanks would begin an empty word, and a tab would end none.
     if let Some(hint) = plain_hint(text) {
@@ -98,7 +100,8 @@ fn form_hint(alloc: Global, text: &str) -> Result<String, AllocError> {
     }
 }
 
-/// Returns a mistake that the line's first characters show.
+/// Returns the mistake that the first characters of a script's line show, such as a comment or a
+/// blank.
 fn plain_hint(text: &str) -> Option<&'static str> {
     let start = text.trim_start();
     if start.starts_with('#') || start.starts_with("//") {
@@ -119,7 +122,7 @@ fn plain_hint(text: &str) -> Option<&'static str> {
     first_word_hint(text)
 }
 
-/// Returns a mistake in a line's first word, or in the blanks after it.
+/// Returns the mistake in the first word of a script's line, or in the blanks after it.
 fn first_word_hint(text: &str) -> Option<&'static str> {
     let (first, rest) = text.split_once(' ').unwrap_or((text, ""));
     if first.contains('\t') || rest.starts_with('\t') {
@@ -136,12 +139,14 @@ fn first_word_hint(text: &str) -> Option<&'static str> {
     None
 }
 
-/// Returns whether a word looks like a date without a time.
+/// Returns whether a word in a script, where an instant is wanted, looks like a date without a
+/// time.
 fn is_date(word: &str) -> bool {
     word.len() == 10 && has_shape(word, "dddd-dd-dd")
 }
 
-/// Returns whether a text begins with characters of this shape, `d` for a digit.
+/// Returns whether a word in a script begins with characters of this shape of an instant, `d` for a
+/// digit.
 fn has_shape(text: &str, shape: &str) -> bool {
     if text.len() < shape.len() {
         return false;
@@ -159,7 +164,7 @@ fn has_shape(text: &str, shape: &str) -> bool {
     true
 }
 
-/// Describes the form of the words after a second word that is right.
+/// Describes the words that have to follow the second word of a script's line, which is right.
 fn words_hint(word: &str) -> &'static str {
     match word {
         "release" => {
@@ -170,7 +175,7 @@ fn words_hint(word: &str) -> &'static str {
     }
 }
 
-/// Describes the fault of an instant.
+/// Describes the mistake in the instant at the beginning of a script's line.
 fn instant_hint(word: &str, fault: InstantFault) -> &'static str {
     if matches!(fault, InstantFault::Range) {
         return "lies before 1970 or after the year 9999";
@@ -190,7 +195,8 @@ fn instant_hint(word: &str, fault: InstantFault) -> &'static str {
     "is no instant"
 }
 
-/// Returns a hint at the identity that is probably meant, for the first 1,000 unknown ones.
+/// Returns a hint at the point that an unknown identity in a script probably means, for the first
+/// 1,000 of them.
 pub(crate) fn point_hint(report: &mut Report, site: &Site, id: &str) -> Result<String, AllocError> {
     let alloc = report.alloc;
     if !report.takes_hint() {

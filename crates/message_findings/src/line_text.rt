@@ -19,7 +19,8 @@ pub(crate) enum Sender {
 }
 
 impl Sender {
-    /// Returns the side that sends the message.
+    /// Returns the side that sends the message in a line of a script: an operator, also in a `hold`
+    /// line, or a point.
     pub(crate) fn side(self) -> Side {
         match self {
             Sender::Operator | Sender::Hold => Side::Operator,
@@ -50,7 +51,7 @@ pub(crate) struct LineMessage<'a> {
 }
 
 impl<'a> LineMessage<'a> {
-    /// Makes the message of a line whose second word is `hold`.
+    /// Makes the message of a script's line whose second word is `hold`, for `check`.
     pub(crate) fn held(
         site: &'a Site,
         played: &'a PlayedLine<'_>,
@@ -62,7 +63,8 @@ impl<'a> LineMessage<'a> {
         }
     }
 
-    /// Makes the message of a line.
+    /// Makes the message of a script's line, with the output that `replay` prints for it, for
+    /// `check`.
     pub(crate) fn new(
         site: &'a Site,
         played: &'a PlayedLine<'_>,
@@ -86,7 +88,7 @@ impl<'a> LineMessage<'a> {
         }
     }
 
-    /// Returns the reason of a `Rejected`, if that is the answer.
+    /// Returns the reason of a `Rejected`, if that is the answer to this message of a script.
     pub(crate) fn rejection(&self) -> Option<Refusal> {
         for line in self.printed {
             if let PrintedLine::Answer {
@@ -100,7 +102,8 @@ impl<'a> LineMessage<'a> {
         None
     }
 
-    /// Returns the reason of a `Rejected` or of a CALLERROR, if that is the answer.
+    /// Returns the reason of a `Rejected` or of a CALLERROR, if that is the answer to this message
+    /// of a script.
     pub(crate) fn refusal(&self) -> Option<Refusal> {
         for line in self.printed {
             let PrintedLine::Answer { response, .. } = line else {
@@ -116,7 +119,8 @@ impl<'a> LineMessage<'a> {
     }
 }
 
-/// Returns a line as a text, empty if it isn't UTF-8, and the number of its bytes that are UTF-8.
+/// Returns a script's line as a text, empty if it isn't UTF-8, and the number of its bytes that are
+/// UTF-8.
 pub(crate) fn utf8_of(line: &[u8]) -> (&str, usize) {
     match std::str::from_utf8(line) {
         Ok(text) => (text, line.len()),

@@ -16,7 +16,7 @@ enum PayloadPart {
 }
 
 impl PayloadPart {
-    /// Returns its known fields.
+    /// Returns the known fields of an object of an operator's payload, and none of a list.
     fn fields(self) -> &'static [FieldRow] {
         match self {
             PayloadPart::Object(fields) => fields,
@@ -24,7 +24,8 @@ impl PayloadPart {
         }
     }
 
-    /// Returns the object or the list in its member of this name.
+    /// Returns the object or the list of an operator's payload that the member of this name is, if
+    /// its field is known as one.
     fn member(self, name: &str) -> Option<PayloadPart> {
         match row_named(self.fields(), name)?.kind() {
             FieldKind::Object(kind) => Some(PayloadPart::Object(fields_in(kind))),
@@ -33,7 +34,7 @@ impl PayloadPart {
         }
     }
 
-    /// Returns the object that its entries are.
+    /// Returns the object that each entry of this list of an operator's payload is.
     fn entry(self) -> Option<PayloadPart> {
         match self {
             PayloadPart::List(fields) => Some(PayloadPart::Object(fields)),
@@ -101,7 +102,8 @@ pub(crate) fn repeated_payload_fields<'text>(
     Ok(repeated)
 }
 
-/// Returns whether a member of this name comes before this part in the same object.
+/// Returns whether an earlier member of the same object in a CALL has this name, so that this part
+/// is a duplicate.
 pub(crate) fn stands_before(
     text: &str,
     outline: &Outline,
@@ -123,7 +125,8 @@ pub(crate) fn stands_before(
     false
 }
 
-/// Returns the name of a part that is a member, unless it has an escape.
+/// Returns the name of a part of an operator's CALL that is a member, unless the name has an
+/// escape.
 // The span of a name with an escape isn't the whole name, so it can't be compared.
 fn name_of<'text>(text: &'text str, part: &Part) -> Option<&'text str> {
     let Label::Member(span) = part.label else {
@@ -136,7 +139,8 @@ fn name_of<'text>(text: &'text str, part: &Part) -> Option<&'text str> {
     Some(name)
 }
 
-/// Returns for each part of a frame the object or list of the payload that it is, if it is one.
+/// Returns for each part of an operator's CALL the object or list of the payload that it is, if it
+/// is one.
 fn known_parts(
     alloc: Global,
     text: &str,
@@ -151,12 +155,13 @@ fn known_parts(
     Ok(known)
 }
 
-/// Returns the object or list that contains a part.
+/// Returns the object or list of an operator's payload that contains this part of the CALL.
 fn owner_of(known: &Vec<Option<PayloadPart>>, part: &Part) -> Option<PayloadPart> {
     *known.get(part.parent?)?
 }
 
-/// Returns the object or list of the payload that a part is, by its owner.
+/// Returns the object or list of an operator's payload that a part of the CALL is, by the one that
+/// contains it.
 fn part_of(
     text: &str,
     outline: &Outline,
@@ -168,15 +173,16 @@ fn part_of(
         (Label::Member(_), Some(owner)) => owner.member(name_of(text, part)?),
         (Label::Entry(_), Some(owner)) => owner.entry(),
         // The payload of a CALL is the fourth element of the frame (OCPP-J 1.6, chapter 4).
-        (Label::Entry(3), None) if is_root(outline, part) => {
+        (Label::Entry(3), None) if is_frame_element(outline, part) => {
             Some(PayloadPart::Object(fields_of(kind)))
         }
         _ => None,
     }
 }
 
-/// Returns whether a part is an entry of the outermost list.
-fn is_root(outline: &Outline, part: &Part) -> bool {
+/// Returns whether a part of an operator's CALL is an element of the frame, which is the outermost
+/// list.
+fn is_frame_element(outline: &Outline, part: &Part) -> bool {
     match part.parent {
         Some(parent) => match outline.parts.get(parent) {
             Some(root) => root.parent.is_none(),

@@ -26,7 +26,8 @@ pub(crate) struct PayloadList<'node, 'memory> {
 }
 
 impl<'node, 'memory> PayloadObject<'node, 'memory> {
-    /// Returns the object in this one, with its field. No table has two.
+    /// Returns the object in this object of a CALL's payload, such as the schedule of a profile,
+    /// with its field. No table has two.
     pub(crate) fn inner(self) -> Option<(FieldName, PayloadObject<'node, 'memory>)> {
         for row in self.fields {
             if let FieldKind::Object(kind) = row.kind() {
@@ -39,7 +40,8 @@ impl<'node, 'memory> PayloadObject<'node, 'memory> {
         None
     }
 
-    /// Returns the list of objects in this one. No table has two.
+    /// Returns the list of objects in this object of a CALL's payload, such as the periods of a
+    /// schedule. No table has two.
     pub(crate) fn list(self) -> Option<PayloadList<'node, 'memory>> {
         for row in self.fields {
             if let FieldKind::Objects(kind) = row.kind() {
@@ -56,7 +58,7 @@ impl<'node, 'memory> PayloadObject<'node, 'memory> {
     }
 }
 
-/// Returns the field of this name.
+/// Returns the field of this name in the table of an object of a CALL's payload, if that has it.
 pub(crate) fn row_named(fields: &[FieldRow], name: &str) -> Option<FieldRow> {
     for row in fields {
         if row.name().text() == name {
@@ -66,7 +68,7 @@ pub(crate) fn row_named(fields: &[FieldRow], name: &str) -> Option<FieldRow> {
     None
 }
 
-/// Returns the names of fields, in their order.
+/// Returns the names in a table of the fields of a CALL's payload, in their order.
 pub(crate) fn names_of(
     alloc: Global,
     fields: &[FieldRow],

@@ -13,7 +13,8 @@ use profile_findings::never_rated;
 use site_rules::{Site, SitePoint, admit};
 use std::alloc::{AllocError, Global};
 
-/// Checks a SetChargingProfile whose fields are right.
+/// Checks a SetChargingProfile in a line of a script, whose fields are right: its refusal by the
+/// site, and its probable mistakes.
 pub(crate) fn check_install(
     report: &mut Report,
     text: &LineMessage<'_>,
@@ -36,7 +37,8 @@ pub(crate) fn check_install(
     warn_rates(report, text.moment, &profile);
 }
 
-/// Checks the profile of an install by itself, without the site or a moment. Its fields are right.
+/// Checks the profile of an operator's SetChargingProfile by itself, without the site or a moment.
+/// Its fields are right.
 pub(crate) fn check_sent_profile(report: &mut Report, parts: ProfileParts) {
     if let Some(profile) = check_parts(report, parts) {
         warn_transaction(report, &profile);
@@ -44,7 +46,8 @@ pub(crate) fn check_sent_profile(report: &mut Report, parts: ProfileParts) {
     }
 }
 
-/// Makes a profile of its parts, or reports their refusal. Warns of fields without an effect.
+/// Makes a charging profile of the fields in an operator's message, or reports their refusal. Warns
+/// of fields without an effect.
 pub(crate) fn check_parts(report: &mut Report, parts: ProfileParts) -> Option<Profile> {
     // This comes first, since a profile drops the fields that have no effect.
     warn_dropped(report, &parts);
@@ -57,14 +60,14 @@ pub(crate) fn check_parts(report: &mut Report, parts: ProfileParts) -> Option<Pr
     }
 }
 
-/// Warns of a profile that never has a rate.
+/// Warns of a charging profile in an operator's message that never sets a limit, with the reason.
 pub(crate) fn warn_never_rated(report: &mut Report, profile: &Profile) {
     if let Some(why) = never_rated(profile) {
         report.warn_text_of(profile.purpose, profile.id, never_sentence(why));
     }
 }
 
-/// Describes the value for which the site doesn't admit a profile.
+/// Describes the value in a SetChargingProfile for which the site doesn't admit the profile.
 fn place_found(
     alloc: Global,
     site: &Site,
@@ -79,7 +82,8 @@ fn place_found(
     }
 }
 
-/// Warns of fields that have no meaning with the profile's purpose or kind.
+/// Warns of fields in an operator's message that have no effect with the charging profile's purpose
+/// or kind.
 fn warn_dropped(report: &mut Report, parts: &ProfileParts) {
     let (purpose, id) = (parts.purpose, parts.id);
     if parts.transaction.is_some() && !matches!(purpose, Purpose::TxProfile) {
@@ -97,7 +101,7 @@ fn warn_dropped(report: &mut Report, parts: &ProfileParts) {
     }
 }
 
-/// Reports the refusal of a profile that isn't well formed.
+/// Reports the refusal of a charging profile that isn't well formed, with the value at fault.
 fn refuse_parts(report: &mut Report, refusal: Refusal, parts: &ProfileParts) {
     let alloc = report.alloc;
     let periods = parts.schedule.periods.as_slice();
@@ -110,7 +114,8 @@ fn refuse_parts(report: &mut Report, refusal: Refusal, parts: &ProfileParts) {
     reject_found(report, refusal, found);
 }
 
-/// Describes the first period that doesn't start later than the one before it.
+/// Describes the first chargingSchedulePeriod of a profile that doesn't start later than the one
+/// before it.
 fn out_of_order(alloc: Global, periods: &[Period]) -> Result<String, AllocError> {
     let mut before: Option<u32> = None;
     for (index, period) in periods.iter().enumerate() {
@@ -127,7 +132,8 @@ fn out_of_order(alloc: Global, periods: &[Period]) -> Result<String, AllocError>
     Ok(String::new(alloc))
 }
 
-/// Warns of a TxProfile that isn't bound to its transaction.
+/// Warns of an operator's TxProfile without a transactionId, which the point may take for the next
+/// car.
 // The call may wait for the point until the transaction has ended, which doesn't cancel it.
 fn warn_transaction(report: &mut Report, profile: &Profile) {
     if matches!(profile.purpose, Purpose::TxProfile) && profile.transaction.is_none() {
@@ -139,7 +145,7 @@ fn warn_transaction(report: &mut Report, profile: &Profile) {
     }
 }
 
-/// Warns of a profile that never lowers a limit at the line's point.
+/// Warns of a profile in a line of a script that never lowers a limit at the line's point.
 pub(crate) fn warn_ceiling_at(
     report: &mut Report,
     text: &LineMessage<'_>,
@@ -161,7 +167,8 @@ fn warn_ceiling(report: &mut Report, point: SitePoint<'_>, connector: u32, profi
     }
 }
 
-/// Describes a profile whose limits are all above the ceiling, in tenths.
+/// Describes, for a warning, a profile whose limits are all above this ceiling of the site file, in
+/// tenths.
 fn ceiling_message(alloc: Global, ceiling: u32) -> Result<String, AllocError> {
     let ceiling = tenths_text(alloc, u64::from(ceiling))?;
     format!(in alloc;
@@ -169,9 +176,9 @@ fn ceiling_message(alloc: Global, ceiling: u32) -> Result<String, AllocError> {
     )
 }
 
-/// Returns the highest ceiling that a profile could lower, in tenths. For a ChargePointMaxProfile
-/// it is the point's, otherwise the lower of the point's and the connector's. For a profile at
-/// connector 0 the highest ceiling of a connector counts.
+/// Returns the highest ceiling of the site file that a profile could lower, in tenths. For a
+/// ChargePointMaxProfile it is the point's, otherwise the lower of the point's and the connector's.
+/// For a profile at connector 0 the highest ceiling of a connector counts.
 fn highest_ceiling(point: SitePoint<'_>, connector: u32, purpose: Purpose) -> u32 {
     if matches!(purpose, Purpose::ChargePointMaxProfile) {
         return point.ceiling;
@@ -185,7 +192,8 @@ fn highest_ceiling(point: SitePoint<'_>, connector: u32, purpose: Purpose) -> u3
     highest.min(point.ceiling)
 }
 
-/// Warns of a profile that never has a rate, or has none in intervals that probably weren't meant.
+/// Warns of a charging profile in a script that never sets a limit, or sets none at times that
+/// probably weren't meant.
 pub(crate) fn warn_rates(report: &mut Report, moment: Instant, profile: &Profile) {
     if let Some(why) = never_rated(profile) {
         return report.warn_text_of(profile.purpose, profile.id, never_sentence(why));
@@ -203,7 +211,7 @@ pub(crate) fn warn_rates(report: &mut Report, moment: Instant, profile: &Profile
     }
 }
 
-/// Describes a profile whose validTo is over.
+/// Describes, for a warning of `check`, a profile whose validTo is over when it is installed.
 fn over_message(alloc: Global, end: Instant) -> Result<String, AllocError> {
     let end = instant_text(alloc, end)?;
     format!(in alloc;
@@ -211,7 +219,8 @@ fn over_message(alloc: Global, end: Instant) -> Result<String, AllocError> {
     )
 }
 
-/// Warns of a period that starts when the duration is over.
+/// Warns of a profile's chargingSchedulePeriod that starts when the duration of the schedule is
+/// over.
 fn warn_duration(report: &mut Report, profile: &Profile) {
     let Some(duration) = profile.schedule.duration else {
         return;
@@ -224,7 +233,8 @@ fn warn_duration(report: &mut Report, profile: &Profile) {
     }
 }
 
-/// Returns the index and the start of the first period that starts at this offset or later.
+/// Returns the index and the start of a profile's first chargingSchedulePeriod that starts at this
+/// offset or later, in seconds.
 fn first_past(profile: &Profile, end: u64) -> Option<(usize, u32)> {
     for (index, period) in profile.schedule.periods.as_slice().iter().enumerate() {
         if u64::from(period.start) >= end {
@@ -285,8 +295,8 @@ fn warn_gap(report: &mut Report, profile: &Profile, recurrency: Recurrency, from
     report.warn_of(profile.purpose, profile.id, message);
 }
 
-/// Describes the time between two offsets of a day or week. Writes them as times of the clock if
-/// those are known, otherwise in seconds.
+/// Describes the time of each day or week in which a Recurring profile sets no limit. Writes times
+/// of the clock if those are known, otherwise offsets in seconds.
 fn gap_text(
     alloc: Global,
     profile: &Profile,
@@ -305,8 +315,8 @@ fn gap_text(
     }
 }
 
-/// Describes the time between two offsets from an instant by the times of day, if both lie in the
-/// calendar.
+/// Describes the time of each day in which a Daily profile sets no limit, by two offsets from its
+/// startSchedule. None if one of them lies after the calendar.
 fn clock_text(
     alloc: Global,
     start: Instant,
@@ -328,7 +338,8 @@ fn clock_text(
     }
 }
 
-/// Returns the hour and the minute in the text of an instant, with the second if it isn't 0.
+/// Returns the hour and the minute in the text of an instant, and the second unless 0, for a
+/// warning of a Daily profile.
 fn time_in(instant: &str) -> Option<&str> {
     let (_, time) = instant.split_once('T')?;
     let time = time.strip_suffix('Z')?;

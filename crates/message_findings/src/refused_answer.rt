@@ -23,6 +23,7 @@ pub fn answer_sentence(alloc: Global, answer: &str) -> Result<Option<String>, Al
     }
 }
 
+/// Explains the refusal in the answer to an operator's CALL, if it is a refusal.
 fn sentence_of(
     alloc: Global,
     answer: Option<RejectedAnswer<'_>>,
@@ -40,7 +41,8 @@ fn sentence_of(
     }
 }
 
-/// Returns the sentence of the refusal of this name.
+/// Explains the refusal of this name in the answer to an operator's CALL. None if there is no such
+/// refusal.
 fn refusal_sentence(alloc: Global, name: &str) -> Result<Option<String>, AllocError> {
     let Some(refusal) = refusal_of(name) else {
         return Ok(None);
@@ -52,7 +54,8 @@ fn refusal_sentence(alloc: Global, name: &str) -> Result<Option<String>, AllocEr
     Ok(Some(format!(in alloc; "{refusal}: {why}")?))
 }
 
-/// Returns the sentence of an error by its code, with the field that the description names.
+/// Explains the CALLERROR of this code in answer to an operator's CALL, with the field that the
+/// description names.
 fn fault_sentence(alloc: Global, code: &str, field: &str) -> Result<Option<String>, AllocError> {
     let Some(fault) = fault_of(code) else {
         return Ok(None);

@@ -12,7 +12,8 @@ use ocpp_scalars::Refusal;
 use profile::{Profile, ProfileParts, Purpose};
 use std::alloc::{AllocError, Global};
 
-/// Checks a RemoteStartTransaction whose fields are right.
+/// Checks a RemoteStartTransaction in a line of a script, whose fields are right: its refusal and
+/// its profile.
 pub(crate) fn check_remote_start(
     report: &mut Report,
     text: &LineMessage<'_>,
@@ -39,7 +40,8 @@ pub(crate) fn check_remote_start(
     warn_rates(report, text.moment, &profile);
 }
 
-/// Checks the profile of a remote start by itself.
+/// Checks the profile of an operator's RemoteStartTransaction by itself, without the site or a
+/// moment.
 pub(crate) fn check_sent_start(report: &mut Report, start: RemoteStartTransaction) {
     let RemoteStartTransaction { profile, .. } = start;
     let Some(parts) = profile else {
@@ -50,7 +52,8 @@ pub(crate) fn check_sent_start(report: &mut Report, start: RemoteStartTransactio
     }
 }
 
-/// Makes the profile of a remote start, or reports its refusal. Warns of fields without an effect.
+/// Makes the charging profile of a RemoteStartTransaction, or reports its refusal. Warns of fields
+/// without an effect.
 fn check_start_profile(report: &mut Report, parts: ProfileParts) -> Option<Profile> {
     if parts.transaction.is_some() {
         let message =
@@ -65,7 +68,8 @@ fn check_start_profile(report: &mut Report, parts: ProfileParts) -> Option<Profi
     check_parts(report, parts)
 }
 
-/// Reports why a remote start is rejected, unless that depends on the point's state.
+/// Reports why a RemoteStartTransaction in a script is rejected, unless that depends on the point's
+/// state.
 fn refuse_start(
     report: &mut Report,
     text: &LineMessage<'_>,
@@ -90,7 +94,7 @@ fn refuse_start(
     }
 }
 
-/// Reports a connector at which no transaction can start.
+/// Reports a RemoteStartTransaction in a script at a connector at which no transaction can start.
 fn reject_connector(report: &mut Report, text: &LineMessage<'_>, connector: u32) {
     let count = connector_count(text);
     let found = format!(in report.alloc;
@@ -99,12 +103,13 @@ fn reject_connector(report: &mut Report, text: &LineMessage<'_>, connector: u32)
     reject_found(report, Refusal::UnknownConnector, found);
 }
 
-/// Warns of a transaction without the profile of the remote start that waited at its connector.
+/// Warns of a transaction in a script without the profile of the remote start that waited at its
+/// connector.
 pub(crate) fn check_ended_start(report: &mut Report, ended: &EndedStart) {
     report.warn(ended_start_message(report.alloc, ended));
 }
 
-/// Describes a remote start that ended without its profile.
+/// Describes, for a warning of `check`, a remote start that ended without its TxProfile.
 fn ended_start_message(alloc: Global, ended: &EndedStart) -> Result<String, AllocError> {
     let id = ended.profile;
     let tag = excerpt(alloc, ended.id_tag.as_str())?;

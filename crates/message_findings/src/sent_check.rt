@@ -45,7 +45,8 @@ pub fn check_sent(alloc: Global, text: &str) -> Result<SentCheck, AllocError> {
     }
 }
 
-/// Checks the message, if it is one.
+/// Checks an operator's message by itself before it is sent. Returns none if the text is no message
+/// of OCPP-J.
 fn check_message(
     alloc: Global,
     memory: &mut ReadingMemory,
@@ -60,6 +61,8 @@ fn check_message(
     }
 }
 
+/// Checks the frame of an operator's message before it is sent, which has to be a CALL of an
+/// operator's action.
 fn check_frame(alloc: Global, text: &str, frame: Frame<'_>) -> Result<SentCheck, AllocError> {
     match frame {
         Frame::Call {
@@ -89,7 +92,7 @@ pub fn json_break(alloc: Global, text: &str) -> Result<Option<String>, AllocErro
     Ok(Some(format!(in alloc; "{place}: {found}")?))
 }
 
-/// Returns the check of an action that an operator doesn't have.
+/// Returns the check of a CALL to be sent whose action an operator doesn't have.
 fn no_operators_action(alloc: Global, name: &str) -> Result<SentCheck, AllocError> {
     let mut report = Report::new(alloc);
     refuse_action(&mut report, Side::Operator, name);
@@ -100,7 +103,8 @@ fn no_operators_action(alloc: Global, name: &str) -> Result<SentCheck, AllocErro
     })
 }
 
-/// Returns a check without findings.
+/// Returns a check of an operator's message without findings, and with the reason why it is no CALL
+/// if it isn't one.
 fn nothing_said(alloc: Global, no_call: Option<String>) -> SentCheck {
     SentCheck {
         no_call,
@@ -109,7 +113,7 @@ fn nothing_said(alloc: Global, no_call: Option<String>) -> SentCheck {
     }
 }
 
-/// Checks the fields of a CALL.
+/// Checks the fields of an operator's CALL, and then its request, before it is sent.
 fn check_fields(
     alloc: Global,
     text: &str,
@@ -132,7 +136,8 @@ fn check_fields(
     })
 }
 
-/// Checks an action whose fields are right. Returns whether it clears everything by mistake.
+/// Checks an operator's CALL before it is sent, whose fields are right. Returns whether it clears
+/// everything by mistake.
 fn check_read(
     report: &mut Report,
     text: &str,
@@ -162,7 +167,8 @@ fn check_read(
     }
 }
 
-/// Reports a field that isn't right.
+/// Reports a field of an operator's CALL that isn't right, and its unknown fields, before it is
+/// sent.
 fn check_fault(
     report: &mut Report,
     text: &str,
@@ -177,7 +183,8 @@ fn check_fault(
     warn_unknown(report, text, kind);
 }
 
-/// Warns of a clear. Returns whether it clears everything by mistake.
+/// Warns of an operator's ClearChargingProfile before it is sent. Returns whether it clears
+/// everything by mistake.
 // An empty payload isn't a mistake here: OCPP lets it clear everything, and nothing is misspelled.
 fn check_clear(
     report: &mut Report,

@@ -54,7 +54,7 @@ pub(crate) struct PendingRemoteStarts {
 }
 
 impl PendingRemoteStarts {
-    /// Begins before the first line, without any.
+    /// Begins before the first line of a script, with no remote start that waits at a point.
     pub(crate) fn new(alloc: Global) -> PendingRemoteStarts {
         PendingRemoteStarts {
             alloc,
@@ -62,7 +62,8 @@ impl PendingRemoteStarts {
         }
     }
 
-    /// Follows the line played last, of the point of this identity.
+    /// Follows the effect of the script's line played last on the remote starts that wait at its
+    /// point.
     pub(crate) fn follow(
         &mut self,
         playing: &Playing<'_>,
@@ -79,7 +80,8 @@ impl PendingRemoteStarts {
         known.follow(alloc, playing, played, point)
     }
 
-    /// Returns the remote starts of the point at this index of the site.
+    /// Returns the remote starts that wait at the point at this index of the site, as known so far
+    /// from a script.
     fn known(&mut self, place: usize) -> Result<Option<&mut PointStarts>, AllocError> {
         for _place in self.points.len()..place.saturating_add(1) {
             self.points.push(PointStarts {
@@ -92,7 +94,7 @@ impl PendingRemoteStarts {
 }
 
 impl StartsChange {
-    /// Returns that of a line without an effect on remote starts.
+    /// Returns the change by a script's line without an effect on the remote starts of its point.
     fn none() -> StartsChange {
         StartsChange {
             is_reply: false,
@@ -102,7 +104,8 @@ impl StartsChange {
 }
 
 impl PointStarts {
-    /// Follows the line played last, of this point.
+    /// Follows the effect of the script's line played last on the remote starts that wait at this
+    /// point.
     fn follow(
         &mut self,
         alloc: Global,
@@ -129,7 +132,7 @@ impl PointStarts {
         Ok(change)
     }
 
-    /// Follows the calls that a line sent.
+    /// Notes whether the call that a script's line sent to its point is a RemoteStartTransaction.
     fn follow_calls(&mut self, played: &PlayedLine<'_>) {
         for line in &played.outcome.printed {
             if let PrintedLine::Call { call, .. } = line {
@@ -139,7 +142,7 @@ impl PointStarts {
     }
 }
 
-/// Returns the remote starts that wait at a point now.
+/// Returns the remote starts that wait at a point after the script's line played last.
 fn known_starts(
     alloc: Global,
     playing: &Playing<'_>,
@@ -157,7 +160,8 @@ fn known_starts(
     Ok(starts)
 }
 
-/// Returns the start that doesn't wait any more, if it had a profile that isn't installed.
+/// Returns the remote start that a transaction ended at its point, if it had a profile that isn't
+/// installed.
 fn ended_start(
     alloc: Global,
     known: &PointStarts,
@@ -184,13 +188,13 @@ fn ended_start(
     }
 }
 
-/// Returns whether two idTags are the same.
+/// Returns whether the idTags of a remote start and of the transaction after it are the same.
 // An idTag is a CiString, whose case doesn't count. Here that holds for ASCII letters.
 fn is_same_tag(tag: &IdTag, other: &IdTag) -> bool {
     tag.as_str().eq_ignore_ascii_case(other.as_str())
 }
 
-/// Returns whether a connector has a TxProfile of this id.
+/// Returns whether a connector has the TxProfile of this id, which came with a remote start.
 fn has_tx_profile(book: &PointBook, connector: u32, id: i32) -> bool {
     book.view().rows.iter().any(|row| {
         row.connector == connector

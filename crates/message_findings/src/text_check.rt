@@ -24,7 +24,7 @@ enum Reading {
     Dropped,
 }
 
-/// Checks the message of a line.
+/// Checks the message in a line of a script as a frame of OCPP-J, for `check`.
 pub(crate) fn check_text(report: &mut Report, memory: &mut ReadingMemory, text: &LineMessage<'_>) {
     match check_message(report, memory, text) {
         Reading::Checked => {}
@@ -32,7 +32,7 @@ pub(crate) fn check_text(report: &mut Report, memory: &mut ReadingMemory, text: 
     }
 }
 
-/// Checks the line's frame, if it is a message.
+/// Checks the frame in a line of a script, and returns whether it is a message of OCPP-J.
 fn check_message(
     report: &mut Report,
     memory: &mut ReadingMemory,
@@ -47,7 +47,7 @@ fn check_message(
     Reading::Checked
 }
 
-/// Checks a frame.
+/// Checks a frame in a line of a script: a CALL by its action, a reply by its status.
 fn check_frame(report: &mut Report, text: &LineMessage<'_>, frame: Frame<'_>) {
     match frame {
         Frame::Call {
@@ -70,7 +70,8 @@ fn check_frame(report: &mut Report, text: &LineMessage<'_>, frame: Frame<'_>) {
     }
 }
 
-/// Returns the status of a reply to a remote start or another call, if it isn't accepted.
+/// Returns the status in a point's reply to a remote start or another call, if `check` has to warn
+/// of it.
 fn unaccepted_status<'memory>(
     is_of_start: bool,
     payload: Node<'_, 'memory>,
@@ -82,7 +83,8 @@ fn unaccepted_status<'memory>(
     }
 }
 
-/// Returns the status of a reply, if it is neither `Accepted` nor `Unknown`.
+/// Returns the status in a point's reply to a call, if it is neither `Accepted` nor `Unknown`, for
+/// a warning of `check`.
 // A clear answered `Unknown` matched nothing: the point is without the profiles, as it should be.
 fn reply_status<'memory>(payload: Node<'_, 'memory>) -> Option<&'memory str> {
     match text_field(payload, "status") {
@@ -92,7 +94,8 @@ fn reply_status<'memory>(payload: Node<'_, 'memory>) -> Option<&'memory str> {
     }
 }
 
-/// Returns the status of a reply to a remote start, if it isn't `Accepted`.
+/// Returns the status in a point's reply to a RemoteStartTransaction, if it isn't `Accepted`, for a
+/// warning of `check`.
 // Any other reply ends the remote start, one without a status too.
 fn status_of_start<'memory>(payload: Node<'_, 'memory>) -> Option<&'memory str> {
     match text_field(payload, "status") {
@@ -102,8 +105,8 @@ fn status_of_start<'memory>(payload: Node<'_, 'memory>) -> Option<&'memory str> 
     }
 }
 
-/// Checks a reply. Warns of a point that doesn't accept the call in flight or isn't in step, and of
-/// an operator's reply. A point's reply that confirms no call is ignored.
+/// Checks a reply in a line of a script. Warns of an operator's reply, and of a point that doesn't
+/// accept the call in flight or isn't in step. A point's reply that confirms no call is ignored.
 fn check_reply(report: &mut Report, text: &LineMessage<'_>, id: &str, status: Option<&str>) {
     if text.sender != Sender::Point {
         return report.warn_text(
@@ -123,7 +126,7 @@ fn check_reply(report: &mut Report, text: &LineMessage<'_>, id: &str, status: Op
     }
 }
 
-/// Describes a point that doesn't accept the call in flight.
+/// Describes, for a warning of `check`, a point that doesn't accept the call in flight.
 fn not_accepted_message(
     alloc: Global,
     text: &LineMessage<'_>,
@@ -140,12 +143,12 @@ fn not_accepted_message(
     format!(in alloc; "the point answers call \"{id}\" with {status}: {effect}")
 }
 
-/// Reports a `hold` line that is no request for a schedule.
+/// Reports a `hold` line of a script that is no request for a composite schedule.
 pub(crate) fn not_composite(report: &mut Report, text: &LineMessage<'_>, why: &str) {
     report.fault(not_composite_message(report.alloc, text.frame, why));
 }
 
-/// Describes the frame of a `hold` line that is no request for a schedule.
+/// Describes the frame in a `hold` line of a script that is no request for a composite schedule.
 fn not_composite_message(alloc: Global, frame: &str, why: &str) -> Result<String, AllocError> {
     let fault = ScriptLineFault::NotComposite;
     let rule = line_sentence(fault);
@@ -153,7 +156,7 @@ fn not_composite_message(alloc: Global, frame: &str, why: &str) -> Result<String
     format!(in alloc; "{fault}: {rule}, and {why}: {frame}")
 }
 
-/// Reports a CALL whose action is no string or whose payload is no object.
+/// Reports a CALL in a line of a script whose action is no string or whose payload is no object.
 fn check_malformed(report: &mut Report, text: &LineMessage<'_>) {
     if text.sender == Sender::Hold {
         return not_composite(report, text, "it is malformed");
@@ -161,14 +164,14 @@ fn check_malformed(report: &mut Report, text: &LineMessage<'_>) {
     report.fault(malformed_message(report.alloc, text.frame));
 }
 
-/// Describes a CALL whose action is no string or whose payload is no object.
+/// Describes, for `check`, a CALL whose action is no string or whose payload is no object.
 fn malformed_message(alloc: Global, frame: &str) -> Result<String, AllocError> {
     let sentence = call_sentence(CallFault::FormationViolation);
     let frame = excerpt(alloc, frame)?;
     format!(in alloc; "FormationViolation: {sentence}: {frame}")
 }
 
-/// Reports a frame that is no message.
+/// Reports a frame in a line of a script that is no message of OCPP-J, with the reason.
 fn check_dropped(report: &mut Report, memory: &mut ReadingMemory, text: &LineMessage<'_>) {
     let before = character_count(text.line).saturating_sub(character_count(text.frame));
     let Ok(why) = why_dropped(report.alloc, memory, text.frame, before) else {
@@ -180,13 +183,14 @@ fn check_dropped(report: &mut Report, memory: &mut ReadingMemory, text: &LineMes
     report.warn(dropped_message(report.alloc, text.frame, why.as_str()));
 }
 
-/// Describes a frame that is no message.
+/// Describes, for a warning of `check`, a frame that is no message of OCPP-J and gets no answer.
 fn dropped_message(alloc: Global, frame: &str, why: &str) -> Result<String, AllocError> {
     let frame = excerpt(alloc, frame)?;
     format!(in alloc; "this is no message and is discarded without an answer: {why}: {frame}")
 }
 
-/// Describes why a frame is no message. `before` is the number of characters before it in its line.
+/// Describes why a frame in a script, or one to be sent, is no message of OCPP-J. `before` is the
+/// number of characters before it in its line.
 pub(crate) fn why_dropped(
     alloc: Global,
     memory: &mut ReadingMemory,
@@ -200,7 +204,8 @@ pub(crate) fn why_dropped(
     }
 }
 
-/// Describes the break of a frame that isn't JSON, with its column in the line.
+/// Describes the character at which a frame of OCPP-J stops being JSON, with its column in the
+/// line.
 fn broken_at(
     alloc: Global,
     frame: &str,
@@ -218,7 +223,7 @@ fn broken_at(
     format!(in alloc; "its JSON breaks at column {column}, where {found}")
 }
 
-/// Returns the reason why a tree is no message.
+/// Returns the reason why a JSON text is no message of OCPP-J, such as a wrong first element or id.
 fn why_no_message(root: Node<'_, '_>) -> &'static str {
     let Some(entries) = root.list() else {
         return "a frame is a list such as [2,\"id\",\"Action\",{}]";

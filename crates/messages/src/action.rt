@@ -128,7 +128,7 @@ pub fn read_fields(
     }
 }
 
-/// Returns an action whose fields aren't read.
+/// Returns the action of a CALL whose fields aren't read, such as Heartbeat, with its fixed answer.
 fn answered(answer: Option<FixedAnswer>) -> Result<Action, CallFault>
     ensures { result ≡ action_answered answer }
 {
@@ -140,7 +140,8 @@ fn answered(answer: Option<FixedAnswer>) -> Result<Action, CallFault>
 
 // ---- the fields of operators' actions
 
-/// Reads SetChargingProfile.req (chapter 6).
+/// Reads SetChargingProfile.req (OCPP 1.6, chapter 6) from the payload of an operator's CALL, or
+/// returns its first fault.
 #[tactic(auto, unfolding(crate::specs::Action::set_charging_profile_of))]
 fn read_set_charging_profile(alloc: Global, payload: Node<'_, '_>) -> Result<Action, CallFault>
     ensures { ReadsUnless is_memory (λ action. action) result
@@ -152,7 +153,8 @@ fn read_set_charging_profile(alloc: Global, payload: Node<'_, '_>) -> Result<Act
     Ok(Action::SetChargingProfile { connector, profile })
 }
 
-/// Reads ClearChargingProfile.req (chapter 6).
+/// Reads ClearChargingProfile.req (OCPP 1.6, chapter 6) from the payload of an operator's CALL, or
+/// returns its first fault.
 #[tactic(auto, unfolding(crate::specs::Action::clear_charging_profile_of))]
 fn read_clear_charging_profile(payload: Node<'_, '_>) -> Result<Action, CallFault>
     ensures { result ≡ clear_charging_profile_of (tree_at payload.entry) }
@@ -169,7 +171,8 @@ fn read_clear_charging_profile(payload: Node<'_, '_>) -> Result<Action, CallFaul
     }))
 }
 
-/// Reads GetCompositeSchedule.req (chapter 6).
+/// Reads GetCompositeSchedule.req (OCPP 1.6, chapter 6) from the payload of an operator's CALL, or
+/// returns its first fault.
 #[tactic(auto, unfolding(crate::specs::Action::get_composite_schedule_of))]
 fn read_get_composite_schedule(payload: Node<'_, '_>) -> Result<Action, CallFault>
     ensures { result ≡ get_composite_schedule_of (tree_at payload.entry) }
@@ -184,7 +187,8 @@ fn read_get_composite_schedule(payload: Node<'_, '_>) -> Result<Action, CallFaul
     }))
 }
 
-/// Reads RemoteStartTransaction.req (chapter 6).
+/// Reads RemoteStartTransaction.req (OCPP 1.6, chapter 6) from the payload of an operator's CALL,
+/// or returns its first fault.
 #[tactic(auto, unfolding(crate::specs::Action::remote_start_of))]
 fn read_remote_start(alloc: Global, payload: Node<'_, '_>) -> Result<Action, CallFault>
     ensures { ReadsUnless is_memory (λ action. action) result
@@ -201,7 +205,8 @@ fn read_remote_start(alloc: Global, payload: Node<'_, '_>) -> Result<Action, Cal
     }))
 }
 
-/// Reads AuditPoint, an action of our own.
+/// Reads AuditPoint, an action of our own, from the payload of an operator's CALL, or returns its
+/// first fault.
 #[tactic(auto, unfolding(crate::specs::Action::audit_point_of))]
 fn read_audit_point(payload: Node<'_, '_>) -> Result<Action, CallFault>
     ensures { result ≡ audit_point_of (tree_at payload.entry) }
@@ -214,7 +219,8 @@ fn read_audit_point(payload: Node<'_, '_>) -> Result<Action, CallFault>
     })
 }
 
-/// Reads the idTag, a text of at most 20 characters (chapter 7, IdToken).
+/// Reads the idTag in the payload of a StartTransaction or RemoteStartTransaction: at most 20
+/// characters (OCPP 1.6, chapter 7, IdToken).
 #[tactic(auto, unfolding(crate::specs::Action::id_tag_of))]
 fn read_id_tag(alloc: Global, payload: Node<'_, '_>) -> Result<IdTag, CallFault>
     ensures { ReadsUnless is_memory (λ id_tag. id_tag) result (id_tag_of (tree_at payload.entry)) }
@@ -225,7 +231,8 @@ fn read_id_tag(alloc: Global, payload: Node<'_, '_>) -> Result<IdTag, CallFault>
 
 // ---- the fields of points' actions
 
-/// Reads StartTransaction.req (chapter 6).
+/// Reads StartTransaction.req (OCPP 1.6, chapter 6) from the payload of a point's CALL, or returns
+/// its first fault.
 #[tactic(auto, unfolding(crate::specs::Action::start_transaction_of))]
 fn read_start_transaction(alloc: Global, payload: Node<'_, '_>) -> Result<Action, CallFault>
     ensures { ReadsUnless is_memory (λ action. action) result
@@ -243,7 +250,8 @@ fn read_start_transaction(alloc: Global, payload: Node<'_, '_>) -> Result<Action
     }))
 }
 
-/// Reads only the transactionId of StopTransaction.req (chapter 6).
+/// Reads only the transactionId of StopTransaction.req (OCPP 1.6, chapter 6), from the payload of a
+/// point's CALL.
 #[tactic(auto, unfolding(crate::specs::Action::stop_transaction_of))]
 fn read_stop_transaction(payload: Node<'_, '_>) -> Result<Action, CallFault>
     ensures { result ≡ stop_transaction_of (tree_at payload.entry) }

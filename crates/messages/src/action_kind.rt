@@ -96,7 +96,8 @@ struct ActionRow {
     fields: &'static [FieldRow],
 }
 
-/// Makes the row of an action whose fields are read.
+/// Makes the row, in the table of known OCPP actions, of an action whose fields are read from its
+/// CALL.
 fn with_fields(side: Side, name: &'static str, fields: &'static [FieldRow]) -> ActionRow
     ensures name { result.name.now ≡ name.now }
     ensures side { result.side ≡ side }
@@ -111,7 +112,8 @@ fn with_fields(side: Side, name: &'static str, fields: &'static [FieldRow]) -> A
     }
 }
 
-/// Makes the row of an action with a fixed answer, whose fields aren't read.
+/// Makes the row, in the table of known OCPP actions, of an action with a fixed answer, whose
+/// fields aren't read.
 fn answered(side: Side, name: &'static str, answer: FixedAnswer) -> ActionRow
     ensures name { result.name.now ≡ name.now }
     ensures side { result.side ≡ side }
@@ -151,7 +153,8 @@ impl ActionKind {
         ]
     }
 
-    /// Returns the row of the action: this is the table.
+    /// Returns the action's row of the table of known OCPP actions: its name, its sender's side,
+    /// its fixed answer and its fields.
     fn row(self) -> ActionRow
         ensures name { result.name.now ≡ (row_of self).name }
         ensures side { result.side ≡ (row_of self).side }
@@ -240,7 +243,7 @@ impl ActionKind {
     }
 }
 
-/// Returns the first of these actions with this name.
+/// Returns the first of these known OCPP actions with this name, as a CALL writes it.
 fn kind_in(kinds: &[ActionKind], text: &str) -> Option<ActionKind>
     ensures { result ≡ kind_in kinds.now text.now }
 {

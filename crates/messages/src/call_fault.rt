@@ -54,7 +54,8 @@ impl CallFault {
     }
 }
 
-/// Returns the error code of a refused ClearChargingProfile, StartTransaction or StopTransaction.
+/// Returns the errorCode of the CALLERROR for a refused ClearChargingProfile, StartTransaction or
+/// StopTransaction (OCPP-J 1.6, 4.2.3).
 fn refused_code(refusal: Refusal) -> &'static str
     ensures { result.now ≡ refused_code refusal }
 {

@@ -64,7 +64,8 @@ pub fn push_payload_fields(out: &mut String, body: &CallBody) -> Result<(), Allo
     }
 }
 
-/// Appends the fields of ClearChargingProfile.req (chapter 6).
+/// Appends the fields of ClearChargingProfile.req (OCPP 1.6, chapter 6) to the payload of a call to
+/// a charge point.
 fn push_clear(out: &mut String, criteria: &Criteria) -> Result<(), AllocError>
     ensures { Appends result (string_bytes out.old) (string_bytes out.new)
         (fields_text (clear_fields criteria.now)) }
@@ -80,7 +81,8 @@ fn push_clear(out: &mut String, criteria: &Criteria) -> Result<(), AllocError>
     )
 }
 
-/// Appends the fields of SetChargingProfile.req (chapter 6).
+/// Appends the fields of SetChargingProfile.req (OCPP 1.6, chapter 6) to the payload of a call to a
+/// charge point.
 fn push_set(out: &mut String, connector: u32, profile: &Profile) -> Result<(), AllocError>
     ensures { Appends result (string_bytes out.old) (string_bytes out.new)
         (fields_text (set_fields connector profile.now)) }
@@ -91,7 +93,8 @@ fn push_set(out: &mut String, connector: u32, profile: &Profile) -> Result<(), A
     Ok(())
 }
 
-/// Appends the fields of GetCompositeSchedule.req (chapter 6), the duration in seconds.
+/// Appends the fields of GetCompositeSchedule.req (OCPP 1.6, chapter 6) to the payload of the call
+/// that audits a charge point. The duration is in seconds.
 fn push_audit(out: &mut String, connector: u32, duration: u32, unit: Unit) -> Result<(), AllocError>
     ensures { Appends result (string_bytes out.old) (string_bytes out.new)
         (fields_text (audit_fields connector duration unit)) }
@@ -106,7 +109,8 @@ fn push_audit(out: &mut String, connector: u32, duration: u32, unit: Unit) -> Re
     )
 }
 
-/// Appends the fields of RemoteStartTransaction.req (chapter 6).
+/// Appends the fields of RemoteStartTransaction.req (OCPP 1.6, chapter 6) to the payload of a call
+/// to a charge point.
 fn push_remote_start(
     out: &mut String,
     connector: u32,
@@ -124,7 +128,8 @@ fn push_remote_start(
     Ok(())
 }
 
-/// Appends a comma, the key and the profile, if there is one.
+/// Appends a comma and the chargingProfile field to the payload of a RemoteStartTransaction call,
+/// if it has a profile.
 #[tactic(auto, unfolding(crate::specs::ByCases::ObjectText::later_fields_text))]
 fn push_profile_field(out: &mut String, profile: &Option<Profile>) -> Result<(), AllocError>
     ensures { Appends result (string_bytes out.old) (string_bytes out.new)
@@ -150,7 +155,8 @@ pub fn push_profile(out: &mut String, profile: &Profile) -> Result<(), AllocErro
     Ok(())
 }
 
-/// Appends the fields of a profile up to its schedule.
+/// Appends the fields before chargingSchedule to the JSON text of a ChargingProfile (OCPP 1.6,
+/// chapter 7).
 fn push_profile_scalars(out: &mut String, profile: &Profile) -> Result<(), AllocError>
     ensures { Appends result (string_bytes out.old) (string_bytes out.new)
         (fields_text (own_fields profile.now)) }
@@ -176,7 +182,7 @@ fn push_profile_scalars(out: &mut String, profile: &Profile) -> Result<(), Alloc
     )
 }
 
-/// Returns the chargingProfileId.
+/// Returns the chargingProfileId, as a field of the JSON text of a ChargingProfile.
 // A function of its own: its contract says that the number keeps its sign.
 fn profile_id(profile: &Profile) -> Option<FieldValue>
     ensures { option_map value_text result ≡ Some (signed_decimal profile.now.id) }
@@ -184,7 +190,8 @@ fn profile_id(profile: &Profile) -> Option<FieldValue>
     Some(FieldValue::Signed(profile.id))
 }
 
-/// Appends a schedule (chapter 7, ChargingSchedule).
+/// Appends the chargingSchedule to the JSON text of a ChargingProfile (OCPP 1.6, chapter 7,
+/// ChargingSchedule).
 fn push_schedule(out: &mut String, schedule: &Schedule) -> Result<(), AllocError>
     ensures { Appends result (string_bytes out.old) (string_bytes out.new)
         (schedule_text schedule.now) }
@@ -219,7 +226,8 @@ impl ListItem for Period {
     }
 }
 
-/// Appends a period (chapter 7, ChargingSchedulePeriod).
+/// Appends a period to the JSON text of a charging schedule (OCPP 1.6, chapter 7,
+/// ChargingSchedulePeriod).
 fn push_period(out: &mut String, period: &Period) -> Result<(), AllocError>
     ensures { Appends result (string_bytes out.old) (string_bytes out.new)
         (period_text period.now) }
@@ -267,7 +275,8 @@ enum Criterion {
     StackLevel(u32),
 }
 
-/// Appends the given criteria, with commas between them, or `every profile` if there is none.
+/// Appends the given criteria of a ClearChargingProfile call, for pages that show calls: with
+/// commas between them, or `every profile` if there is none.
 fn push_criteria(out: &mut String, criteria: &Criteria) -> Result<(), AllocError>
     ensures { Appends result (string_bytes out.old) (string_bytes out.new)
         (criteria_text (criteria_given criteria.now)) }
@@ -283,6 +292,8 @@ fn push_criteria(out: &mut String, criteria: &Criteria) -> Result<(), AllocError
     )
 }
 
+/// Appends those criteria of a ClearChargingProfile call that are given, in words and with commas
+/// between them, or `every profile`.
 fn push_given(out: &mut String, criteria: &[Option<Criterion>]) -> Result<(), AllocError>
     ensures { Appends result (string_bytes out.old) (string_bytes out.new)
         (criteria_text criteria.now) }
@@ -304,6 +315,8 @@ fn push_given(out: &mut String, criteria: &[Option<Criterion>]) -> Result<(), Al
     Ok(())
 }
 
+/// Appends one criterion of a ClearChargingProfile call in words, such as `connector 1`, for pages
+/// that show calls.
 fn push_criterion(out: &mut String, criterion: &Criterion) -> Result<(), AllocError>
     ensures { Appends result (string_bytes out.old) (string_bytes out.new)
         (criterion_words criterion.now) }
@@ -318,7 +331,8 @@ fn push_criterion(out: &mut String, criterion: &Criterion) -> Result<(), AllocEr
     }
 }
 
-/// Appends words and a number.
+/// Appends words and a number to the description of a call to a charge point, such as `stack level
+/// 3`.
 fn push_words(out: &mut String, words: &str, number: FieldValue) -> Result<(), AllocError>
     ensures { Appends result (string_bytes out.old) (string_bytes out.new)
         (words.now ++ value_text number) }
@@ -327,7 +341,8 @@ fn push_words(out: &mut String, words: &str, number: FieldValue) -> Result<(), A
     push_value(out, number)
 }
 
-/// Appends a profile by its purpose and id, and the connector of its install.
+/// Appends the description of a SetChargingProfile call: its profile's purpose and id, and the
+/// connector, as in `TxProfile 7 at connector 1`.
 fn push_profile_at(out: &mut String, connector: u32, profile: &Profile) -> Result<(), AllocError>
     ensures { Appends result (string_bytes out.old) (string_bytes out.new)
         (profile_words profile.now.purpose profile.now.id
@@ -337,6 +352,8 @@ fn push_profile_at(out: &mut String, connector: u32, profile: &Profile) -> Resul
     push_words(out, " at connector ", FieldValue::Whole(connector))
 }
 
+/// Appends a charging profile's purpose and id to the description of a call to a charge point, as
+/// in `TxProfile 7`.
 fn push_profile_words(out: &mut String, profile: &Profile) -> Result<(), AllocError>
     ensures { Appends result (string_bytes out.old) (string_bytes out.new)
         (profile_words profile.now.purpose profile.now.id) }
@@ -345,7 +362,8 @@ fn push_profile_words(out: &mut String, profile: &Profile) -> Result<(), AllocEr
     push_words(out, " ", FieldValue::Signed(profile.id))
 }
 
-/// Appends an audit by its connector and its duration, in seconds.
+/// Appends the description of a call that audits a charge point: its connector and its duration, as
+/// in `connector 1 for 60 s`.
 fn push_audit_words(out: &mut String, connector: u32, duration: u32) -> Result<(), AllocError>
     ensures { Appends result (string_bytes out.old) (string_bytes out.new)
         (audit_words connector duration) }
@@ -355,7 +373,8 @@ fn push_audit_words(out: &mut String, connector: u32, duration: u32) -> Result<(
     out.push_str(" s")
 }
 
-/// Appends a remote start by its idTag, its connector, and its profile if there is one.
+/// Appends the description of a RemoteStartTransaction call: its idTag, its connector, and its
+/// profile if there is one.
 fn push_remote_start_words(
     out: &mut String,
     connector: u32,
@@ -370,6 +389,8 @@ fn push_remote_start_words(
     Ok(())
 }
 
+/// Appends the idTag and the connector to the description of a RemoteStartTransaction call, as in
+/// `idTag T1 at connector 1`.
 fn push_tag_words(out: &mut String, connector: u32, id_tag: &str) -> Result<(), AllocError>
     ensures { Appends result (string_bytes out.old) (string_bytes out.new)
         (tag_words connector id_tag.now) }
@@ -379,6 +400,8 @@ fn push_tag_words(out: &mut String, connector: u32, id_tag: &str) -> Result<(), 
     push_words(out, " at connector ", FieldValue::Whole(connector))
 }
 
+/// Appends the profile of a RemoteStartTransaction call to its description, as in ` with TxProfile
+/// 7`, if it has one.
 fn push_profile_suffix(out: &mut String, profile: &Option<Profile>) -> Result<(), AllocError>
     ensures { Appends result (string_bytes out.old) (string_bytes out.new)
         (words_of_profile profile.now) }

@@ -71,6 +71,7 @@ pub fn whole_from_zero(fields: Node<'_, '_>, name: FieldName) -> NamedField<u32>
     }
 }
 
+/// Returns the field of a CALL's payload as a number from 0; a negative number is a wrong value.
 fn from_zero(field: Field<i32>) -> Field<u32>
     ensures { result ≡ from_zero field }
 {
@@ -115,6 +116,8 @@ pub fn one_name_of<T: Named + Drop>(fields: Node<'_, '_>, name: FieldName) -> Na
     }
 }
 
+/// Returns the field of a CALL's payload as one of the named values of `T`, such as a purpose;
+/// another text is a wrong value.
 fn one_of<T: Named + Drop>(field: Field<&str>) -> Field<T>
     ensures { result ≡ one_of T.named (field_map (λ text. text.now) field.entry) }
 {
@@ -126,6 +129,7 @@ fn one_of<T: Named + Drop>(field: Field<&str>) -> Field<T>
     }
 }
 
+/// Returns the field with this value, or with a wrong value if a CALL's text names none.
 fn value_or_wrong<T: Drop>(value: Option<T>) -> Field<T>
     ensures { result ≡ value_or_wrong value }
 {

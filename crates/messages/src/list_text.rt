@@ -10,12 +10,12 @@ pub(crate) trait ListItem {
     /// The text of a value.
     ghost text: { Self → List ℕ };
 
-    /// Appends the text of the value.
+    /// Appends the JSON text of the value, for a list in an OCPP message.
     fn push_text(&self, out: &mut String) -> Result<(), AllocError>
         ensures { Appends result (string_bytes out.old) (string_bytes out.new) (text self.now) };
 }
 
-/// Appends a list of values.
+/// Appends a JSON list of values, such as the periods of a schedule, to an OCPP message.
 pub(crate) fn push_list<T: ListItem>(out: &mut String, items: &[T]) -> Result<(), AllocError>
     ensures { Appends result (string_bytes out.old) (string_bytes out.new)
         (list_text (map T.text items.now)) }
@@ -26,7 +26,8 @@ pub(crate) fn push_list<T: ListItem>(out: &mut String, items: &[T]) -> Result<()
     Ok(())
 }
 
-/// Appends values, with commas between them.
+/// Appends the items of a JSON list in an OCPP message, such as a schedule's periods, with commas
+/// between them.
 fn push_joined<T: ListItem>(out: &mut String, items: &[T]) -> Result<(), AllocError>
     ensures { Appends result (string_bytes out.old) (string_bytes out.new)
         (joined (map T.text items.now)) }

@@ -33,6 +33,8 @@ pub fn write_response(alloc: Global, id: &str, response: &Response) -> Result<St
     Ok(out)
 }
 
+/// Estimates the length of the answer to a CALL in bytes, so that the text of a long schedule isn't
+/// copied as it grows.
 fn room(response: &Response) -> usize {
     match response {
         Response::Schedule(response) => {
@@ -70,7 +72,7 @@ pub fn push_response(out: &mut String, id: &str, response: &Response) -> Result<
     }
 }
 
-/// Appends a CALLRESULT with this payload.
+/// Appends the CALLRESULT that answers the CALL of this id, with this payload.
 fn push_result(out: &mut String, id: &str, payload: &str) -> Result<(), AllocError>
     ensures { Appends result (string_bytes out.old) (string_bytes out.new)
         (call_result_text id.now payload.now) }
@@ -80,8 +82,8 @@ fn push_result(out: &mut String, id: &str, payload: &str) -> Result<(), AllocErr
     push_frame_end(out)
 }
 
-/// Appends the answer to a refused install or request. `OutOfMemory` is a CALLERROR, as for every
-/// action.
+/// Appends the answer to a CALL whose install or request is refused, such as a SetChargingProfile.
+/// `OutOfMemory` is a CALLERROR, as for every action.
 fn push_rejected(out: &mut String, id: &str, refusal: Refusal) -> Result<(), AllocError>
     ensures { Appends result (string_bytes out.old) (string_bytes out.new)
         (refusal_text id.now refusal) }
@@ -94,13 +96,14 @@ fn push_rejected(out: &mut String, id: &str, refusal: Refusal) -> Result<(), All
     push_frame_end(out)
 }
 
+/// Returns whether a refusal is for lack of memory, and so answered by a CALLERROR.
 fn is_out_of_memory(refusal: Refusal) -> bool
     ensures { result ≡ is_out_of_memory refusal }
 {
     matches!(refusal, Refusal::OutOfMemory)
 }
 
-/// Appends the payload that rejects, with the refusal's name as the reason.
+/// Appends the payload of a CALLRESULT that rejects a CALL, with the refusal's name as the reason.
 fn push_rejection(out: &mut String, refusal: Refusal) -> Result<(), AllocError>
     ensures { Appends result (string_bytes out.old) (string_bytes out.new) (rejected_text refusal) }
 {
@@ -110,7 +113,8 @@ fn push_rejection(out: &mut String, refusal: Refusal) -> Result<(), AllocError>
     Ok(())
 }
 
-/// Appends BootNotification's answer.
+/// Appends the CALLRESULT that answers a point's BootNotification, with the present moment and the
+/// interval.
 #[tactic(auto, using(crate::proofs::FieldsText::boot_notification_object, std::proofs::lemmas::Grind::common_steps))]
 fn push_boot_notification(
     out: &mut String,
@@ -126,7 +130,7 @@ fn push_boot_notification(
     push_frame_end(out)
 }
 
-/// Appends Heartbeat's answer.
+/// Appends the CALLRESULT that answers a point's Heartbeat, with the present moment.
 fn push_heartbeat(out: &mut String, id: &str, current_time: Instant) -> Result<(), AllocError>
     ensures { Appends result (string_bytes out.old) (string_bytes out.new)
         (call_result_text id.now (heartbeat_text current_time)) }
@@ -137,7 +141,8 @@ fn push_heartbeat(out: &mut String, id: &str, current_time: Instant) -> Result<(
     push_frame_end(out)
 }
 
-/// Appends the beginning of an object with its first field, the present moment.
+/// Appends the beginning of the payload that answers a BootNotification or a Heartbeat: its first
+/// field, currentTime.
 fn push_current_time(out: &mut String, current_time: Instant) -> Result<(), AllocError>
     ensures { Appends result (string_bytes out.old) (string_bytes out.new)
         (first_field_text (codes "currentTime") (time_text current_time)) }
@@ -148,7 +153,7 @@ fn push_current_time(out: &mut String, current_time: Instant) -> Result<(), Allo
     Ok(())
 }
 
-/// Appends StartTransaction's answer.
+/// Appends the CALLRESULT that answers a point's StartTransaction, with the transaction's number.
 fn push_start_transaction(out: &mut String, id: &str, transaction: i32) -> Result<(), AllocError>
     ensures { Appends result (string_bytes out.old) (string_bytes out.new)
         (call_result_text id.now (start_transaction_text transaction)) }
@@ -158,7 +163,7 @@ fn push_start_transaction(out: &mut String, id: &str, transaction: i32) -> Resul
     push_frame_end(out)
 }
 
-/// Appends StartTransaction.conf (chapter 6).
+/// Appends the payload StartTransaction.conf (OCPP 1.6, chapter 6), with the transaction's number.
 fn push_transaction(out: &mut String, transaction: i32) -> Result<(), AllocError>
     ensures { Appends result (string_bytes out.old) (string_bytes out.new)
         (start_transaction_text transaction) }
@@ -169,7 +174,8 @@ fn push_transaction(out: &mut String, transaction: i32) -> Result<(), AllocError
     Ok(())
 }
 
-/// Appends GetCompositeSchedule's answer.
+/// Appends the CALLRESULT that answers an operator's GetCompositeSchedule, with the composite
+/// schedule.
 fn push_schedule_result(
     out: &mut String,
     id: &str,
@@ -183,7 +189,8 @@ fn push_schedule_result(
     push_frame_end(out)
 }
 
-/// Appends GetCompositeSchedule.conf (chapter 6).
+/// Appends the payload GetCompositeSchedule.conf (OCPP 1.6, chapter 6), with the composite
+/// schedule.
 fn push_composite(out: &mut String, response: &ScheduleResponse) -> Result<(), AllocError>
     ensures { Appends result (string_bytes out.old) (string_bytes out.new)
         (composite_text response.now) }
@@ -198,7 +205,8 @@ fn push_composite(out: &mut String, response: &ScheduleResponse) -> Result<(), A
     Ok(())
 }
 
-/// Appends a composite schedule (chapter 7, ChargingSchedule).
+/// Appends a composite schedule to the payload of GetCompositeSchedule.conf (OCPP 1.6, chapter 7,
+/// ChargingSchedule).
 fn push_composite_schedule(
     out: &mut String,
     unit: Unit,
@@ -225,7 +233,8 @@ impl ListItem for CompositePeriod {
     }
 }
 
-/// Appends a period of a composite schedule (chapter 7, ChargingSchedulePeriod).
+/// Appends a period of a composite schedule to the payload of GetCompositeSchedule.conf (OCPP 1.6,
+/// chapter 7, ChargingSchedulePeriod).
 fn push_composite_period(out: &mut String, period: &CompositePeriod) -> Result<(), AllocError>
     ensures { Appends result (string_bytes out.old) (string_bytes out.new)
         (composite_period_text period.now) }
@@ -238,7 +247,7 @@ fn push_composite_period(out: &mut String, period: &CompositePeriod) -> Result<(
     Ok(())
 }
 
-/// Appends PointStatus's answer.
+/// Appends the CALLRESULT that answers PointStatus, an operator's action of our own.
 fn push_point_status_result(
     out: &mut String,
     id: &str,
@@ -252,7 +261,8 @@ fn push_point_status_result(
     push_frame_end(out)
 }
 
-/// Appends the payload with the state of a point in the central system.
+/// Appends the payload that answers PointStatus: the version, the number of unconfirmed calls, and
+/// the outcome of the last audit.
 fn push_point_status(out: &mut String, status: PointStatus) -> Result<(), AllocError>
     ensures { Appends result (string_bytes out.old) (string_bytes out.new)
         (point_status_text status) }

@@ -37,6 +37,8 @@ pub fn read_instant(text: &str) -> Result<Instant, InstantFault>
     in_range(seconds)
 }
 
+/// Returns the instant of these seconds since 1970, read from an OCPP timestamp, or `Range` before
+/// 1970 or after the year 9999.
 fn in_range(seconds: i64) -> Result<Instant, InstantFault>
     ensures { result ≡ in_range seconds }
 {
@@ -49,7 +51,8 @@ fn in_range(seconds: i64) -> Result<Instant, InstantFault>
     }
 }
 
-/// Reads a whole text as seconds since 1970-01-01T00:00:00Z, negative before it.
+/// Reads a whole OCPP timestamp (RFC 3339) as seconds since 1970-01-01T00:00:00Z, negative before
+/// it.
 #[tactic(auto, unfolding(crate::specs::ByCases::InstantText::seconds_of))]
 fn seconds(text: &[u8]) -> Option<i64>
     ensures { result ≡ seconds_of text.now }
@@ -62,6 +65,8 @@ fn seconds(text: &[u8]) -> Option<i64>
     Some(total_seconds(date, time, offset))
 }
 
+/// Returns the seconds since 1970 of an OCPP timestamp, from its days, its seconds since midnight
+/// and its offset from UTC.
 // A function of its own: after the `?`s of `seconds` the prover leaves goals about this sum open.
 fn total_seconds(date: i64, time: u32, offset: i64) -> i64
     requires date { IsEpochDay date }
@@ -72,7 +77,8 @@ fn total_seconds(date: i64, time: u32, offset: i64) -> i64
     date * 86_400 + time as i64 - offset
 }
 
-/// Splits a date off. Returns its days since 1 January 1970 and the rest of the text.
+/// Splits the date off an OCPP timestamp. Returns its days since 1 January 1970 and the rest of the
+/// text.
 #[tactic(auto, unfolding(crate::specs::ByCases::InstantText::date_at))]
 fn split_date(text: &[u8]) -> Option<(i64, &[u8])>
     ensures value { option_map (λ x. (x.0, x.1.now)) result ≡ date_at text.now }
@@ -87,6 +93,8 @@ fn split_date(text: &[u8]) -> Option<(i64, &[u8])>
     Some((number, text))
 }
 
+/// Returns the days from 1 January 1970 to the date in an OCPP timestamp, or `None` if there is no
+/// such date.
 fn day_number(year: u16, month: u8, day: u8) -> Option<i64>
     requires { year ≤ 9999 }
     ensures bound { IfSome result IsEpochDay }
@@ -101,7 +109,8 @@ fn day_number(year: u16, month: u8, day: u8) -> Option<i64>
     }
 }
 
-/// Splits a time of day off. Returns its seconds since midnight and the rest of the text.
+/// Splits the time of day off an OCPP timestamp. Returns its seconds since midnight and the rest of
+/// the text.
 #[tactic(auto, unfolding(crate::specs::ByCases::InstantText::time_at))]
 fn split_time(text: &[u8]) -> Option<(u32, &[u8])>
     ensures value { option_map (λ x. (x.0, x.1.now)) result ≡ time_at text.now }
@@ -118,7 +127,8 @@ fn split_time(text: &[u8]) -> Option<(u32, &[u8])>
     }
 }
 
-/// Splits `hh:mm` off. Returns its minutes since midnight and the rest of the text.
+/// Splits `hh:mm` off the rest of an OCPP timestamp. Returns its minutes since midnight and the
+/// text after it.
 #[tactic(auto, unfolding(crate::specs::ByCases::InstantText::minutes_at))]
 fn split_minutes(text: &[u8]) -> Option<(u32, &[u8])>
     ensures value { option_map (λ x. (x.0, x.1.now)) result ≡ minutes_at text.now }
@@ -134,6 +144,7 @@ fn split_minutes(text: &[u8]) -> Option<(u32, &[u8])>
     }
 }
 
+/// Skips the fraction of a second in an OCPP timestamp, if there is one: a point and 1 to 9 digits.
 fn skip_fraction(text: &[u8]) -> Option<&[u8]>
     ensures { option_map (λ x. x.now) result ≡ after_fraction text.now }
 {
@@ -148,7 +159,7 @@ fn skip_fraction(text: &[u8]) -> Option<&[u8]>
     }
 }
 
-/// Reads an offset from UTC that ends the text, in seconds.
+/// Reads the offset from UTC that ends an OCPP timestamp, in seconds; none means UTC.
 fn offset(text: &[u8]) -> Option<i64>
     ensures value { result ≡ offset_in text.now }
     ensures bound { IfSome result (IsWithin 86_400) }
@@ -162,6 +173,7 @@ fn offset(text: &[u8]) -> Option<i64>
     }
 }
 
+/// Returns the offset 0 of an OCPP timestamp that ends with `Z` or `z`, if no text follows.
 fn zulu(text: &[u8]) -> Option<i64>
     ensures value { result ≡ zulu_in text.now }
     ensures zero { IfSome result (λ z. z ≡ pos 0) }
@@ -169,6 +181,7 @@ fn zulu(text: &[u8]) -> Option<i64>
     if text.is_empty() { Some(0) } else { None }
 }
 
+/// Reads the `hh:mm` after the plus of an OCPP timestamp's offset, in seconds ahead of UTC.
 fn ahead_of_utc(text: &[u8]) -> Option<i64>
     ensures value { result ≡ option_map pos (clock_in text.now) }
     ensures bound { IfSome result (IsWithin 86_400) }
@@ -177,6 +190,8 @@ fn ahead_of_utc(text: &[u8]) -> Option<i64>
     Some(seconds as i64)
 }
 
+/// Reads the `hh:mm` after the minus of an OCPP timestamp's offset, in negative seconds: behind
+/// UTC.
 fn behind_utc(text: &[u8]) -> Option<i64>
     ensures value { result ≡ option_map (λ n. neg_ℤ (pos n)) (clock_in text.now) }
     ensures bound { IfSome result (IsWithin 86_400) }
@@ -185,7 +200,7 @@ fn behind_utc(text: &[u8]) -> Option<i64>
     Some(-(seconds as i64))
 }
 
-/// Reads `hh:mm` that ends the text, in seconds.
+/// Reads the `hh:mm` of an offset from UTC that ends an OCPP timestamp, in seconds.
 fn clock(text: &[u8]) -> Option<u32>
     ensures value { result ≡ clock_in text.now }
     ensures bound { IfSome result (λ n. n < 86_400) }
@@ -198,6 +213,8 @@ fn clock(text: &[u8]) -> Option<u32>
     }
 }
 
+/// Splits the four digits of the year off an OCPP timestamp. Returns their value and the rest of
+/// the text.
 fn split_four(text: &[u8]) -> Option<(u16, &[u8])>
     ensures value { option_map (λ x. (x.0, x.1.now)) result ≡ four_at text.now }
     ensures bound { IfSome result (λ x. x.0 ≤ 9999) }
@@ -207,6 +224,8 @@ fn split_four(text: &[u8]) -> Option<(u16, &[u8])>
     Some((high as u16 * 100 + low as u16, text))
 }
 
+/// Splits two digits, such as those of the month, off an OCPP timestamp. Returns their value and
+/// the rest of the text.
 fn split_two(text: &[u8]) -> Option<(u8, &[u8])>
     ensures value { option_map (λ x. (x.0, x.1.now)) result ≡ two_at text.now }
     ensures bound { IfSome result (λ x. x.0 ≤ 99) }
@@ -216,6 +235,7 @@ fn split_two(text: &[u8]) -> Option<(u8, &[u8])>
     Some((high * 10 + low, text))
 }
 
+/// Splits one digit off an OCPP timestamp. Returns its value and the rest of the text.
 fn split_digit(text: &[u8]) -> Option<(u8, &[u8])>
     ensures value { option_map (λ x. (x.0, x.1.now)) result ≡ digit_at text.now }
     ensures bound { IfSome result (λ x. x.0 ≤ 9) }
@@ -226,6 +246,7 @@ fn split_digit(text: &[u8]) -> Option<(u8, &[u8])>
     }
 }
 
+/// Skips the dash between year, month and day in an OCPP timestamp.
 fn skip_dash(text: &[u8]) -> Option<&[u8]>
     ensures { option_map (λ x. x.now) result ≡ after_dash text.now }
 {
@@ -235,6 +256,7 @@ fn skip_dash(text: &[u8]) -> Option<&[u8]>
     }
 }
 
+/// Skips the colon between hours, minutes and seconds in an OCPP timestamp.
 fn skip_colon(text: &[u8]) -> Option<&[u8]>
     ensures { option_map (λ x. x.now) result ≡ after_colon text.now }
 {
@@ -244,6 +266,7 @@ fn skip_colon(text: &[u8]) -> Option<&[u8]>
     }
 }
 
+/// Skips the `T`, the `t` or the space between date and time of day in an OCPP timestamp.
 fn skip_separator(text: &[u8]) -> Option<&[u8]>
     ensures { option_map (λ x. x.now) result ≡ after_separator text.now }
 {

@@ -5,7 +5,8 @@ use std::time::{SystemTime, UNIX_EPOCH};
 
 /// A source of the present moment.
 pub trait Moments {
-    /// Returns the present whole second, or `None` if the clock can't be read.
+    /// Returns the present moment, by which messages and journal lines are dated, in whole seconds.
+    /// `None` if the clock can't be read.
     fn now(&self) -> Option<Instant>;
 }
 

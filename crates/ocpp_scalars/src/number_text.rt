@@ -26,7 +26,8 @@ pub fn is_number_text(text: &str) -> bool
     number_parts(text.as_bytes()).is_some()
 }
 
-/// Splits a number's text into its parts, or returns `None` if the text isn't a number.
+/// Splits the text of a JSON number into its parts (RFC 8259, section 6), or returns `None` if it
+/// isn't a number.
 #[tactic(auto, unfolding(crate::specs::ByCases::NumberText::parts_of))]
 pub(crate) fn number_parts(text: &[u8]) -> Option<NumberParts<'_>>
     ensures parts { option_map parts_seen result ≡ parts_of text.now }
@@ -45,6 +46,7 @@ pub(crate) fn number_parts(text: &[u8]) -> Option<NumberParts<'_>>
     })
 }
 
+/// Splits the minus off the text of a JSON number. Returns whether there is one, and the rest.
 fn split_sign(text: &[u8]) -> (bool, &[u8])
     ensures { (result.0, result.1.now) ≡ sign_at text.now }
 {
@@ -54,6 +56,8 @@ fn split_sign(text: &[u8]) -> (bool, &[u8])
     }
 }
 
+/// Splits the digits before the point off the text of a JSON number, which has no leading zeros.
+/// Returns them and the rest.
 fn split_whole(text: &[u8]) -> Option<(&[u8], &[u8])>
     ensures { option_map (λ x. (x.0.now, x.1.now)) result ≡ whole_at text.now }
 {
@@ -66,6 +70,8 @@ fn split_whole(text: &[u8]) -> Option<(&[u8], &[u8])>
     }
 }
 
+/// Splits the point and the digits after it off the text of a JSON number. Returns the digits, or
+/// none without a point, and the rest.
 fn split_fraction(text: &[u8]) -> Option<(&[u8], &[u8])>
     ensures { option_map (λ x. (x.0.now, x.1.now)) result ≡ fraction_at text.now }
 {
@@ -75,6 +81,8 @@ fn split_fraction(text: &[u8]) -> Option<(&[u8], &[u8])>
     }
 }
 
+/// Reads the exponent that ends the text of a JSON number. Returns whether it has a minus, and its
+/// digits, or none without an exponent.
 fn exponent(text: &[u8]) -> Option<(bool, &[u8])>
     ensures { option_map (λ x. (x.0, x.1.now)) result ≡ exponent_in text.now }
 {
@@ -93,6 +101,8 @@ fn exponent(text: &[u8]) -> Option<(bool, &[u8])>
     }
 }
 
+/// Splits the sign off the exponent of a JSON number's text. Returns whether it is a minus, and the
+/// rest.
 fn split_exponent_sign(text: &[u8]) -> (bool, &[u8])
     ensures { (result.0, result.1.now) ≡ exponent_sign_at text.now }
 {
@@ -103,6 +113,8 @@ fn split_exponent_sign(text: &[u8]) -> (bool, &[u8])
     }
 }
 
+/// Splits the digits, at least one, off the fraction or exponent of a JSON number's text. Returns
+/// them and the rest.
 fn split_some_digits(text: &[u8]) -> Option<(&[u8], &[u8])>
     ensures { option_map (λ x. (x.0.now, x.1.now)) result ≡ digits_at text.now }
 {
@@ -114,7 +126,8 @@ fn split_some_digits(text: &[u8]) -> Option<(&[u8], &[u8])>
     }
 }
 
-/// Splits a text behind the digits at its beginning. Returns these and the rest.
+/// Splits a text, of a JSON number or an OCPP timestamp, behind the digits at its beginning.
+/// Returns these and the rest.
 #[tactic(auto, using(crate::proofs::Texts::digit_steps))]
 pub(crate) fn split_digits(text: &[u8]) -> (&[u8], &[u8])
     ensures digits { result.0.now ≡ digits_of text.now }

@@ -29,7 +29,7 @@ pub fn push_instant(out: &mut String, instant: Instant) -> Result<(), AllocError
     push_seconds(out, instant.seconds())
 }
 
-/// Appends the instant that is `seconds` after 1970-01-01T00:00:00Z.
+/// Appends the OCPP timestamp of the instant that is `seconds` after 1970-01-01T00:00:00Z.
 #[tactic(auto, unfolding(crate::specs::Writing::instant_text))]
 fn push_seconds(out: &mut String, seconds: u64) -> Result<(), AllocError>
     requires { seconds ≤ last_second }
@@ -42,7 +42,7 @@ fn push_seconds(out: &mut String, seconds: u64) -> Result<(), AllocError>
     Ok(())
 }
 
-/// Appends the date, `YYYY-MM-DD`, that is `day` days after 1 January 1970.
+/// Appends the date of an OCPP timestamp, `YYYY-MM-DD`, that is `day` days after 1 January 1970.
 #[tactic(auto, unfolding(crate::specs::Writing::day_text))]
 fn push_day(out: &mut String, day: u64) -> Result<(), AllocError>
     requires { day ≤ last_day }
@@ -58,7 +58,8 @@ fn push_day(out: &mut String, day: u64) -> Result<(), AllocError>
     push_two(out, day)
 }
 
-/// Returns year, month and day of the date that is `day` days after 1 January 1970.
+/// Returns year, month and day of an OCPP timestamp's date, which is `day` days after 1 January
+/// 1970.
 fn civil_date(day: u64) -> (u16, u8, u8)
     requires { day ≤ last_day }
     ensures year { result.0 ≡ (calendar_day day).year }
@@ -71,7 +72,7 @@ fn civil_date(day: u64) -> (u16, u8, u8)
     (date.year as u16, date.month, date.day)
 }
 
-/// Appends a time of day, `hh:mm:ss`.
+/// Appends the time of day of an OCPP timestamp, `hh:mm:ss`.
 #[tactic(auto, unfolding(crate::specs::Writing::time_of_day_text))]
 fn push_time(out: &mut String, seconds: u32) -> Result<(), AllocError>
     requires { seconds < 86_400 }
@@ -85,7 +86,7 @@ fn push_time(out: &mut String, seconds: u32) -> Result<(), AllocError>
     push_two(out, (seconds % 60) as u8)
 }
 
-/// Appends a number below 100 in two digits.
+/// Appends a number below 100 in two digits, as a part of an OCPP timestamp.
 fn push_two(out: &mut String, number: u8) -> Result<(), AllocError>
     requires { number < 100 }
     ensures { Appends result (string_bytes out.old) (string_bytes out.new) (in_digits 2 number) }

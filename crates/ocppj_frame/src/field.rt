@@ -104,7 +104,7 @@ pub fn object_field<'tree, 'memory>(
     }
 }
 
-/// Returns the field if it is present and not null.
+/// Returns the field of this name in an object of an OCPP payload, if it is present and not null.
 fn present_field<'tree, 'memory>(
     node: Node<'tree, 'memory>,
     name: &str,
@@ -117,6 +117,8 @@ fn present_field<'tree, 'memory>(
     }
 }
 
+/// Returns the field of an OCPP payload with the number or instant that was read, or as a wrong
+/// value if reading failed.
 fn value_or_fault<T, E: Drop>(read: Result<T, E>) -> Field<T>
     ensures { result ≡ value_or_fault read }
 {

@@ -18,6 +18,8 @@ pub fn mark_text<'a>(text: &str, room: &'a mut Vec<u8>) -> Result<&'a str, Alloc
     Ok(unsafe { std::str::from_utf8_unchecked(room.as_slice()) })
 }
 
+/// Writes a JSON text, such as an OCPP-J message, to `room` with each string and each number
+/// marked, so that numbers keep all digits.
 fn mark_bytes(text: &[u8], room: &mut Vec<u8>) -> Result<(), AllocError>
     ensures { OnOk result (room.new.items ≡ marked_text text.now) }
 {
@@ -35,8 +37,8 @@ fn mark_bytes(text: &[u8], room: &mut Vec<u8>) -> Result<(), AllocError>
     Ok(())
 }
 
-/// Appends a byte outside strings and numbers, with the string or the number that it begins.
-/// Returns the rest of the others.
+/// Appends a byte outside strings and numbers of a JSON text, with the marked string or number that
+/// it begins. Returns the rest of the others.
 fn push_outside<'a>(out: &mut Vec<u8>, byte: u8, others: &'a [u8]) -> &'a [u8]
     requires { vec_len out.old + 4 * (length others.now + 1) ≤ vec_capacity out.old }
     ensures marked { out.new.items ++ marked_from outside result.now
@@ -61,8 +63,8 @@ fn push_outside<'a>(out: &mut Vec<u8>, byte: u8, others: &'a [u8]) -> &'a [u8]
     }
 }
 
-/// Appends the bytes after the opening quote of a string, up to its closing quote. Returns the
-/// rest.
+/// Appends the bytes of a JSON text after the opening quote of a marked string, up to its closing
+/// quote. Returns the rest.
 fn push_string<'a>(out: &mut Vec<u8>, text: &'a [u8]) -> &'a [u8]
     requires { vec_len out.old + length text.now ≤ vec_capacity out.old }
     ensures marked { out.new.items ++ marked_from outside result.now
@@ -88,7 +90,8 @@ fn push_string<'a>(out: &mut Vec<u8>, text: &'a [u8]) -> &'a [u8]
     left
 }
 
-/// Appends the bytes of a number after its first one, and the closing quote. Returns the rest.
+/// Appends the bytes of a JSON number after its first one, and the closing quote of its marked
+/// string. Returns the rest.
 fn push_number<'a>(out: &mut Vec<u8>, text: &'a [u8]) -> &'a [u8]
     requires { vec_len out.old + length text.now + 1 ≤ vec_capacity out.old }
     ensures marked { out.new.items ++ marked_from outside result.now
@@ -109,12 +112,16 @@ fn push_number<'a>(out: &mut Vec<u8>, text: &'a [u8]) -> &'a [u8]
     left
 }
 
+/// Returns whether a byte outside the strings of a JSON text, such as an OCPP-J message, begins a
+/// number, which is to be marked.
 fn begins_number(byte: u8) -> bool
     ensures { result ≡ begins_number byte }
 {
     matches!(byte, b'0'..=b'9' | b'-')
 }
 
+/// Returns whether a byte can continue a number of a JSON text, such as an OCPP-J message, which is
+/// to be marked.
 fn continues_number(byte: u8) -> bool
     ensures { result ≡ continues_number byte }
 {

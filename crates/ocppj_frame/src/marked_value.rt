@@ -29,8 +29,9 @@ pub(crate) enum MarkedValue<'a> {
     Object(BTreeMap<&'a str, MarkedValue<'a>, &'a Bump>),
 }
 
-/// Reads a marked text. Returns `NotJson` if `serde_json` refuses it. A string without escapes is
-/// borrowed from the text, one with escapes from `scratch`. Arrays and objects are in `arena`.
+/// Reads a JSON text, such as an OCPP-J message, whose strings and numbers are marked. Returns
+/// `NotJson` if `serde_json` refuses it. A string without escapes is borrowed from the text, one
+/// with escapes from `scratch`. Arrays and objects are in `arena`.
 pub(crate) fn read_marked<'a>(
     arena: &'a Bump,
     text: &'a str,
@@ -48,6 +49,8 @@ pub(crate) fn read_marked<'a>(
     Ok(value)
 }
 
+/// Reads the next JSON value of a marked text, such as an OCPP-J message, with at most `depth`
+/// nested arrays and objects.
 #[cycle(read)]
 fn read_value<'a>(
     arena: &'a Bump,
@@ -86,6 +89,8 @@ fn read_value<'a>(
     }
 }
 
+/// Reads the items of a JSON array in a marked text, such as an OCPP-J message, up to its closing
+/// bracket.
 // This and `read_members` aren't inlined: `read_value` clears its variables on each entry, and
 // would have theirs as well.
 #[cycle(read)]
@@ -112,6 +117,8 @@ fn read_items<'a>(
     Ok(found)
 }
 
+/// Reads the members of a JSON object in a marked text, such as an OCPP-J message, up to its
+/// closing brace. The last of equal keys counts.
 #[cycle(read)]
 #[inline(never)]
 fn read_members<'a>(

@@ -64,7 +64,8 @@ impl<'a, R: Print + Eprint + AllocGlobal> Caller<'a, R> {
         Ok(passed)
     }
 
-    /// Returns whether the call of an option is to be sent. Its text has to be JSON by itself.
+    /// Returns whether the operator's call of an option is to be sent. Its text has to be JSON by
+    /// itself.
     // The break's place is in the text that the operator wrote, not in the frame built of it.
     fn passes_given(&mut self, call: &GivenCall) -> Result<bool, ClientFault> {
         let name = call.name;
@@ -114,7 +115,8 @@ impl<'a, R: Print + Eprint + AllocGlobal> Caller<'a, R> {
         self.passes_with(label.as_str(), call.name, findings)
     }
 
-    /// Returns whether a message with these findings is to be sent.
+    /// Returns whether an operator's message with these findings is to be sent. Prints the reason
+    /// if it isn't.
     fn passes_with<N: Display + Copy + Drop>(
         &mut self,
         label: &str,
@@ -176,7 +178,7 @@ impl<'a, R: Print + Eprint + AllocGlobal> Caller<'a, R> {
         Ok(())
     }
 
-    /// Reports the findings in a message before it is sent.
+    /// Prints the findings in an operator's message before it is sent.
     fn say_of<N: Display + Copy + Drop>(
         &self,
         name: N,
@@ -188,7 +190,8 @@ impl<'a, R: Print + Eprint + AllocGlobal> Caller<'a, R> {
         self.say_findings("", name, checked.findings.as_slice())
     }
 
-    /// Reports findings, each after the label of a point and the name of its message.
+    /// Prints the findings in an operator's message, each after the label of its point and the name
+    /// of the message.
     fn say_findings<N: Display + Copy + Drop>(
         &self,
         label: &str,
@@ -227,6 +230,7 @@ impl<'a, R: Print + Eprint + AllocGlobal> Caller<'a, R> {
         self.print(format!(in self.rt.alloc(); "! {name} {why}")?)
     }
 
+    /// Notes in the exit status of `call` that an operator's message was refused or wasn't sent.
     fn note_refused(&mut self) {
         self.status = self.status.max(REFUSED);
     }
@@ -246,7 +250,8 @@ impl<'a, R: Print + Eprint + AllocGlobal> Caller<'a, R> {
     }
 }
 
-/// Returns whether a fault may concern one point only.
+/// Returns whether a fault of an operator's connection may concern one point only, so that the
+/// other points get their calls.
 // Any other fault, such as one of standard output, would recur at the other points.
 fn is_of_one_point(fault: ClientFault) -> bool {
     matches!(fault, ClientFault::Closed | ClientFault::Socket)

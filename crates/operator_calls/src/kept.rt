@@ -19,7 +19,7 @@ pub(crate) struct InstalledProfile {
     pub(crate) comes_back: bool,
 }
 
-/// Returns the profiles that a point has.
+/// Returns the charging profiles that a point has, as an undo compares them.
 pub(crate) fn installed_profiles(
     alloc: Global,
     machine: &Machine,
@@ -39,7 +39,7 @@ pub(crate) fn installed_profiles(
     Ok(kept)
 }
 
-/// Names a profile by its id, purpose, stack level and connector.
+/// Names a point's charging profile by its id, purpose, stack level and connector, for an undo.
 fn name_of(row: &Row) -> PrevailingProfile {
     PrevailingProfile {
         id: row.profile.id,
@@ -49,7 +49,7 @@ fn name_of(row: &Row) -> PrevailingProfile {
     }
 }
 
-/// Returns the payload of the SetChargingProfile that installs a profile.
+/// Returns the payload of the SetChargingProfile by which an undo installs a profile again.
 fn payload_of(alloc: Global, row: &Row) -> Result<String, AllocError> {
     let connector = row.connector;
     let mut payload = format!(in alloc; "{{\"connectorId\":{connector},\"csChargingProfiles\":")?;
@@ -58,14 +58,16 @@ fn payload_of(alloc: Global, row: &Row) -> Result<String, AllocError> {
     Ok(payload)
 }
 
-/// Returns the number of the active transaction at a connector of a point.
+/// Returns the number of the active transaction at a connector of a point, to which a TxProfile
+/// belongs.
 pub(crate) fn transaction_of(machine: &Machine, point: &str, connector: u32) -> Option<i32> {
     let book = machine.book_of(point)?;
     let transaction = book.transaction_at(connector)?;
     Some(transaction.id)
 }
 
-/// Returns whether one of these profiles is the same, at the same connector.
+/// Returns whether one of these charging profiles is the same, at the same connector, as an undo
+/// compares them.
 pub(crate) fn contains_profile(kept: &InstalledProfile, others: &[InstalledProfile]) -> bool {
     let payload = kept.payload.as_str();
     others.iter().any(|other| other.payload.as_str() == payload)

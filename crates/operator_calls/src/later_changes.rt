@@ -44,7 +44,7 @@ pub(crate) struct PointFollower<'a> {
 }
 
 impl<'a> PointFollower<'a> {
-    /// Begins with the profiles that the point has now.
+    /// Begins to look for later changes at the point of an undo, with the profiles that it has now.
     pub(crate) fn begin(
         alloc: Global,
         machine: &Machine,
@@ -58,7 +58,7 @@ impl<'a> PointFollower<'a> {
         })
     }
 
-    /// Follows a line that was played.
+    /// Records how a later line that was played changed the profiles of the point of an undo.
     pub(crate) fn follow(
         &mut self,
         machine: &Machine,
@@ -84,7 +84,8 @@ impl<'a> PointFollower<'a> {
         Ok(())
     }
 
-    /// Adds the changes of a line that installed these profiles, or removed them.
+    /// Records the changes of a later line that installed these profiles at the point of an undo,
+    /// or removed them.
     fn add_changes(
         &mut self,
         line: u64,
@@ -103,8 +104,8 @@ impl<'a> PointFollower<'a> {
         Ok(())
     }
 
-    /// Returns the changes that are reverted if the point has these profiles again. Of several
-    /// changes of one profile the last counts. A line with an install is named by that.
+    /// Returns the later changes that an undo reverts if the point has these profiles again. Of
+    /// several changes of one profile the last counts. A line with an install is named by that.
     pub(crate) fn taken_back(
         self,
         before: &[InstalledProfile],
@@ -131,7 +132,8 @@ impl<'a> PointFollower<'a> {
         Ok(taken)
     }
 
-    /// Returns whether a later line installed the same profile again, or removed it again.
+    /// Returns whether a line after this change at the point of an undo installed the same profile
+    /// again, or removed it again.
     fn is_outdated(&self, change: &LaterChange) -> bool {
         self.changes.iter().any(|other| {
             other.line > change.line
@@ -140,7 +142,7 @@ impl<'a> PointFollower<'a> {
         })
     }
 
-    /// Returns the install of the line of this number, if it has one.
+    /// Returns the install by the later line of this number at the point of an undo, if it has one.
     fn install_in(&self, line: u64) -> Option<LaterChange> {
         self.changes
             .iter()
@@ -149,12 +151,13 @@ impl<'a> PointFollower<'a> {
     }
 }
 
-/// Returns whether a line with this change may have changed the profiles of its point.
+/// Returns whether a script's line with this change may have changed the charging profiles of its
+/// point.
 fn may_change_profiles(change: PointChange) -> bool {
     matches!(change, PointChange::Profiles | PointChange::Transaction)
 }
 
-/// Returns the names of the profiles that aren't among the others.
+/// Returns the names of those charging profiles of an undo's point that aren't among the others.
 fn without(
     alloc: Global,
     profiles: &[InstalledProfile],

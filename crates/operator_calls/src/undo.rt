@@ -65,7 +65,8 @@ pub fn undo_to<R: Clock + Eprint + AllocGlobal>(
     Ok(Undo { calls, lost, later })
 }
 
-/// Marks the profiles that the point has lost and may get again. Returns those that it can't.
+/// Marks the profiles that the point of an undo has lost and may get again. Returns those that it
+/// can't.
 fn find_lost(
     alloc: Global,
     machine: &Machine,
@@ -89,7 +90,8 @@ fn find_lost(
     Ok(lost)
 }
 
-/// Plays the lines of a script before the line of this number.
+/// Plays the lines of a journal's script before the line of this number, for the state that an undo
+/// compares.
 // A script has no more lines than bytes, so this range ends the loop without a proof.
 fn play_to<R: Clock + Eprint>(
     rt: &R,
@@ -107,7 +109,7 @@ fn play_to<R: Clock + Eprint>(
     Ok(())
 }
 
-/// Plays the other lines of a script, and follows their changes at a point.
+/// Plays the other lines of a journal's script, and records their changes at the point of an undo.
 // A script has no more lines than bytes, so this range ends the loop without a proof.
 fn follow_rest<R: Clock + Eprint>(
     rt: &R,
@@ -126,13 +128,14 @@ fn follow_rest<R: Clock + Eprint>(
     Ok(())
 }
 
-/// Returns whether a point may get a profile again: a TxProfile only in its own transaction.
+/// Returns whether an undo may install a profile again at its point: a TxProfile only in its own
+/// transaction.
 fn may_come_back(machine: &Machine, point: &str, kept: &InstalledProfile) -> bool {
     kept.name.purpose != Purpose::TxProfile
         || kept.transaction == transaction_of(machine, point, kept.name.connector)
 }
 
-/// Returns the calls that lead from the present profiles to the earlier ones.
+/// Returns the calls of an undo: they lead from the point's present profiles to the earlier ones.
 fn calls_between(
     alloc: Global,
     before: &[InstalledProfile],
@@ -155,7 +158,8 @@ fn calls_between(
     Ok(calls)
 }
 
-/// Returns whether a profile that comes back replaces this one, which then needs no clear.
+/// Returns whether a profile that an undo installs again replaces this one, which then needs no
+/// clear.
 fn is_replaced(added: &InstalledProfile, before: &[InstalledProfile]) -> bool {
     let name = added.name;
     before

@@ -19,7 +19,7 @@ pub fn line_at(script: &[u8], number: u64) -> &[u8]
     split_line(rest).0
 }
 
-/// Returns the rest of a script after this number of lines.
+/// Returns the rest of a script after this number of lines, to find the line that is undone.
 fn rest_behind(script: &[u8], lines: u64) -> &[u8]
     ensures { (k : ℕ) → line_behind result.now k ≡ line_behind script.now (lines + k) }
 {

@@ -21,7 +21,7 @@ pub struct Visit {
 }
 
 impl Visit {
-    /// Makes a visit with the first `count` calls.
+    /// Makes an operator's visit to a point, with the first `count` of the calls.
     fn new(alloc: Global, id: &str, is_labelled: bool, count: usize) -> Result<Visit, AllocError>
         ensures { IfOk result (λ visit. visited visit ≡ (id.now, is_labelled)) }
     {

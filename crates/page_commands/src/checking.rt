@@ -41,7 +41,7 @@ pub fn check_file<R: Files<File = File> + Clock + Input + Print + Eprint + Alloc
     Ok(exit_status(findings.as_slice()))
 }
 
-/// Prints the findings in the file of keys, if one is named, given the site of the site file.
+/// Prints `check`'s findings in the file of keys, if one is named, given the site of the site file.
 /// Returns the findings.
 fn check_keys<R: Files<File = File> + Print + Eprint + AllocGlobal>(
     rt: &R,
@@ -62,7 +62,8 @@ fn check_keys<R: Files<File = File> + Print + Eprint + AllocGlobal>(
     Ok(findings)
 }
 
-/// Returns the site of a site file, if it can be read. Otherwise the findings say why not.
+/// Returns the site of a site file for `check`, if it can be read. Otherwise the findings say why
+/// not.
 fn site_of(alloc: Global, bytes: &[u8], findings: &[Finding]) -> Result<Option<Site>, AllocError> {
     // Reading a file with such findings would fail.
     if exit_status(findings) == 1 {
@@ -75,8 +76,8 @@ fn site_of(alloc: Global, bytes: &[u8], findings: &[Finding]) -> Result<Option<S
     }
 }
 
-/// Returns the boots of the points of a site, as a folder keeps them, each at the index of its
-/// point. Empty if no folder is named.
+/// Returns for `check` the boots of a site's points that the data folder keeps, each at the index
+/// of its point. Empty if no folder is named.
 fn boots_of<R: Files<File = File> + Eprint + AllocGlobal>(
     rt: &R,
     source: Source<'_>,

@@ -76,8 +76,8 @@ pub fn explain_file<R: Files<File = File> + Input + Print + Eprint + Clock + All
     Ok(page_status(followed.is_as_wanted()))
 }
 
-/// Explains the state of a point after the script of standard input or of a file. Returns the exit
-/// status.
+/// Explains the limits of a connector after the script of standard input or of a file, for
+/// `explain`. Returns the exit status.
 fn explain_script<R: Files<File = File> + Input + Print + Eprint + AllocGlobal>(
     rt: &R,
     presentation: Presentation<'_>,
@@ -93,8 +93,8 @@ fn explain_script<R: Files<File = File> + Input + Print + Eprint + AllocGlobal>(
     Ok(page_status(is_whole))
 }
 
-/// Prints a note if a journal has changes at the point that are later than the first instant: the
-/// explained state isn't that of the point at that instant.
+/// Prints a note for `explain` if a journal has changes at the point that are later than the first
+/// explained instant. The explained state then isn't that of the point at that instant.
 fn note_later_changes<R: Eprint + AllocGlobal>(
     rt: &R,
     point: &str,
@@ -133,7 +133,8 @@ struct Presentation<'a> {
 }
 
 impl<'a> Presentation<'a> {
-    /// Returns the clock of the named zone.
+    /// Returns the clock of the time zone that the options of `explain` name, for the times of its
+    /// table.
     fn zone_clock(&self) -> Option<ZoneClock<'a>> {
         let name = self.zone?;
         Some(ZoneClock {
@@ -143,7 +144,7 @@ impl<'a> Presentation<'a> {
     }
 }
 
-/// Returns the picture that the options request.
+/// Returns the picture that the options of `explain` request, as SVG or HTML by its file's name.
 fn picture_of<'a>(explaining: &Explaining<'a>) -> Result<Option<Picture<'a>>, ProgramFault> {
     let Some(path) = explaining.picture else {
         return Ok(None);
@@ -152,7 +153,7 @@ fn picture_of<'a>(explaining: &Explaining<'a>) -> Result<Option<Picture<'a>>, Pr
     Ok(Some(Picture { path, form }))
 }
 
-/// Refuses a point that the site lacks, and a connector that the point lacks.
+/// Refuses for `explain` a charge point that the site lacks, and a connector that the point lacks.
 fn check_connector(site: &Site, point: &str, connector: u32) -> Result<(), ProgramFault> {
     let Some(place) = site.place_of(point) else {
         return Err(ProgramFault::NoSuchPoint);
@@ -166,8 +167,8 @@ fn check_connector(site: &Site, point: &str, connector: u32) -> Result<(), Progr
     Ok(())
 }
 
-/// Returns the instant at which the explained time begins: the present or the named one. Prints a
-/// note if that has no zone.
+/// Returns the instant at which `explain`'s time begins: the present or the one of `--start`.
+/// Prints a note if that has no zone.
 fn start_of<R: Clock + Eprint>(rt: &R, text: &str) -> Result<Instant, ProgramFault> {
     let Ok(start) = Start::of(text) else {
         return Err(ProgramFault::NoInstant);
@@ -181,7 +182,7 @@ fn start_of<R: Clock + Eprint>(rt: &R, text: &str) -> Result<Instant, ProgramFau
     }
 }
 
-/// Returns the request of the options, from this instant on.
+/// Returns the request for a schedule that the options of `explain` describe, from this instant on.
 fn ask_of(explaining: &Explaining<'_>, start: Instant) -> Result<Ask, ProgramFault> {
     let Some(duration) = read_duration(explaining.duration) else {
         return Err(ProgramFault::NoDuration);
@@ -196,7 +197,8 @@ fn ask_of(explaining: &Explaining<'_>, start: Instant) -> Result<Ask, ProgramFau
     }
 }
 
-/// Prints the explanation of a request by the point's state, and writes its picture.
+/// Prints `explain`'s table or JSON for a request by the state of the charge point, and writes its
+/// picture.
 fn print_explained<R: Files + Print + Eprint + AllocGlobal>(
     rt: &R,
     presentation: Presentation<'_>,
@@ -214,7 +216,8 @@ fn print_explained<R: Files + Print + Eprint + AllocGlobal>(
     print_explanation(rt, presentation, book, ask)
 }
 
-/// Prints the explanation of a request at a connector of the book, and writes its picture.
+/// Prints `explain`'s table or JSON for a request at a connector of the book, and writes its
+/// picture.
 fn print_explanation<R: Files + Print + Eprint + AllocGlobal>(
     rt: &R,
     presentation: Presentation<'_>,

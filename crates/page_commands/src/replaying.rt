@@ -25,7 +25,7 @@ pub fn replay_file<R: Files<File = File> + Input + Print + Eprint + AllocGlobal>
     }
 }
 
-/// Plays a script on a site.
+/// Plays a script on a site for `central replay`, and prints the answers.
 fn replay_from<R: Print + AllocGlobal, S: Read>(
     rt: &R,
     script: &mut S,

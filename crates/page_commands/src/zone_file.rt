@@ -61,7 +61,7 @@ pub fn read_clock_shifts<R: Files<File = File> + Eprint + AllocGlobal>(
     }
 }
 
-/// Reads the bytes of a zone's file.
+/// Reads the bytes of a time zone's file, for the local times in `explain`'s table.
 fn read_zone_bytes<R: Files<File = File> + Eprint + AllocGlobal>(
     rt: &R,
     path: &str,

@@ -31,7 +31,8 @@ pub(crate) struct Player<C: Ledger, A: Ledger> {
 }
 
 impl<C: Ledger, A: Ledger> Player<C, A> {
-    /// Returns the schedule that was returned last.
+    /// Returns the composite schedule that the book of a table answered last, whose periods are
+    /// printed.
     pub(crate) fn answered(&self) -> Option<&Composite> {
         match &self.sides.answered {
             Some(answer) => answer.answer().as_ref().ok(),
@@ -39,7 +40,8 @@ impl<C: Ledger, A: Ledger> Player<C, A> {
         }
     }
 
-    /// Returns the outcome of a line, empty for an empty one.
+    /// Plays a line of a table on the machine and the book, and returns its outcome, empty for an
+    /// empty line.
     pub(crate) fn said(&mut self, line: &str) -> Said {
         let mut words = Words::of(line);
         let point = words.word();
@@ -56,6 +58,7 @@ impl<C: Ledger, A: Ledger> Player<C, A> {
         }
     }
 
+    /// Makes the step of a table's line on the machine and the book, and returns its outcome.
     fn made(&mut self, line: &str) -> Said {
         match step_of(self.sides.alloc, line) {
             Ok(step) => self.sides.make(step),
@@ -63,6 +66,8 @@ impl<C: Ledger, A: Ledger> Player<C, A> {
         }
     }
 
+    /// Makes the step of a table's line a number of times on the machine and the book, and returns
+    /// the last outcome.
     fn repeated(&mut self, times: &str, line: &str) -> Said {
         let mut said = UNREAD;
         for _ in 0..times.parse::<u32>().unwrap_or(0) {
@@ -71,11 +76,15 @@ impl<C: Ledger, A: Ledger> Player<C, A> {
         said
     }
 
+    /// Posts for one request the answer compiled for another one, as a table's line `- bring 2 1`
+    /// says, and returns the outcome.
     fn brought(&mut self, mut words: Words<'_>) -> Said {
         let own = words.long().unwrap_or(0);
         self.sides.bring_both(own, words.long().unwrap_or(0))
     }
 
+    /// Reads the request of a point's audit from the machine and the book, as a table's line
+    /// `CP1 job 1` says, and keeps it.
     fn read_job(&mut self, point: &str, mut words: Words<'_>) -> Said {
         let call = words.long().unwrap_or(0);
         let of_machine = self.sides.machine.audit_job(point, call);
@@ -85,7 +94,8 @@ impl<C: Ledger, A: Ledger> Player<C, A> {
         }
     }
 
-    /// Keeps the request of an audit if both sides have the same.
+    /// Keeps the request of a point's audit if the machine and the book have the same, and returns
+    /// its seconds as the outcome.
     fn keep_job(&mut self, job: Option<AuditJob>, other: Option<AuditJob>) -> Said {
         if !is_one_job(&job, &other) {
             return DIFFERENT;
@@ -98,6 +108,8 @@ impl<C: Ledger, A: Ledger> Player<C, A> {
         ("job", Some(seconds))
     }
 
+    /// Makes the verdict on a reply to the kept request of an audit, as a table's line
+    /// `CP1 judge 1 160` says.
     fn judged(&mut self, line: &str) -> Said {
         let Some(job) = &self.job else {
             return ("no job", None);
@@ -108,7 +120,8 @@ impl<C: Ledger, A: Ledger> Player<C, A> {
         }
     }
 
-    /// Returns a number of the sides if the line asks for one.
+    /// Returns the number that a table's line such as `- version` or `CP1 rows` asks for, or `None`
+    /// if it is a step.
     fn told(&self, point: &str, name: &str, words: Words<'_>) -> Option<Said> {
         let book = &self.sides.book;
         match name {
@@ -121,6 +134,8 @@ impl<C: Ledger, A: Ledger> Player<C, A> {
         }
     }
 
+    /// Returns what a table's line such as `CP1 link` asks about a charge point, or `None` if it
+    /// asks no such thing.
     fn told_of_point(&self, point: &str, name: &str, mut words: Words<'_>) -> Option<Said> {
         let machine = &self.sides.machine;
         match name {
@@ -132,6 +147,7 @@ impl<C: Ledger, A: Ledger> Player<C, A> {
     }
 }
 
+/// Whether the machine and the book have the same request of an audit, or both none.
 fn is_one_job(job: &Option<AuditJob>, other: &Option<AuditJob>) -> bool {
     match (job, other) {
         (Some(job), Some(other)) => job.same(other),
@@ -140,10 +156,13 @@ fn is_one_job(job: &Option<AuditJob>, other: &Option<AuditJob>) -> bool {
     }
 }
 
+/// Returns a number as the outcome of a table's line that asks for one.
 fn number(number: u64) -> Option<Said> {
     Some(("", Some(number)))
 }
 
+/// Returns the outcome of a table's line `CP1 link`: the link over which a call is to be sent, or
+/// `no link`.
 fn link_said(link: Option<u64>) -> Said {
     match link {
         Some(_) => ("", link),
@@ -151,7 +170,8 @@ fn link_said(link: Option<u64>) -> Said {
     }
 }
 
-/// Returns the profiles of a point.
+/// Returns the charging profiles of a point in the machine, for a table's lines that ask about
+/// them.
 fn rows_of<'a>(machine: &'a Machine, point: &str) -> &'a [Row] {
     match machine.book_of(point) {
         Some(book) => book.view().rows,
@@ -159,6 +179,8 @@ fn rows_of<'a>(machine: &'a Machine, point: &str) -> &'a [Row] {
     }
 }
 
+/// Returns the moment of a charging profile's install, or its transaction, for a table's line such
+/// as `CP1 moment 0`.
 fn told_of_row(row: &Row, name: &str) -> Option<Said> {
     match name {
         "moment" => number(row.moment.seconds().saturating_sub(MIDNIGHT)),

@@ -21,7 +21,8 @@ pub fn is_candidate(purpose: Purpose, rows: &[Row], connector: usize, row: &Row)
     }
 }
 
-/// Whether a connector has a TxDefaultProfile of its own at a stack level.
+/// Whether a connector has a TxDefaultProfile of its own at a stack level, which replaces that of
+/// the whole charge point.
 fn is_replaced_at(rows: &[Row], connector: usize, level: u32) -> bool
     ensures { result ≡ is_replaced_at rows.now connector level }
 {

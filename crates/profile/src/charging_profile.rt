@@ -141,6 +141,8 @@ impl Profile {
         self.has_keys_of(other) && self.has_times_of(other) && self.schedule.same(&other.schedule)
     }
 
+    /// Whether two charging profiles have the same chargingProfileId, transactionId, stack level
+    /// and purpose.
     // Compared in groups: the prover doesn't decide one `&&` over all fields by itself.
     fn has_keys_of(&self, other: &Profile) -> bool
         ensures { IsTrue result ↔ HaveSameKeys self.now other.now }
@@ -151,6 +153,7 @@ impl Profile {
             && self.purpose == other.purpose
     }
 
+    /// Whether two charging profiles have the same kind, validFrom and validTo.
     fn has_times_of(&self, other: &Profile) -> bool
         ensures { IsTrue result ↔ HaveSameTimes self.now other.now }
     {
@@ -201,7 +204,8 @@ impl Profile {
             && self.valid_to.is_none_or(|to| instant < to)
     }
 
-    /// Returns the limit at an offset, or `None` from the end of the schedule's duration on.
+    /// Returns the limit of a charging profile at an offset in its schedule, or `None` from the end
+    /// of the schedule's duration on.
     fn rate_within(&self, offset: u64) -> Option<u32>
         ensures { result ≡ rate_within self.now offset }
     {

@@ -12,7 +12,8 @@ pub trait Named {
     /// The value of a name.
     ghost named: { List ℕ → Option Self };
 
-    /// Returns the value of this name, or `None` if no value has it.
+    /// Returns the value that OCPP payloads write as this name, such as a chargingProfilePurpose,
+    /// or `None` if no value has it.
     fn named(text: &str) -> Option<Self>
         ensures { result ≡ named text.now };
 }

@@ -51,7 +51,8 @@ pub fn takes_place_of(came: PrevailingProfile, gone: PrevailingProfile) -> bool 
             && came.stack_level == gone.stack_level)
 }
 
-/// Makes the finding that a profile replaced another.
+/// Makes the finding that a profile which a SetChargingProfile installed replaced another one of
+/// the point.
 fn replaced(
     alloc: Global,
     number: u64,
@@ -77,7 +78,8 @@ fn replaced(
     Ok(Finding::warning(place, message))
 }
 
-/// Makes the finding that a clear removed a fuse limit too.
+/// Makes the warning that a ClearChargingProfile removed a fuse limit (a ChargePointMaxProfile)
+/// too.
 fn cleared_too(alloc: Global, number: u64, gone: PrevailingProfile) -> Result<Finding, AllocError> {
     let name = named(alloc, gone)?;
     let message = format!(in alloc;
@@ -86,7 +88,7 @@ fn cleared_too(alloc: Global, number: u64, gone: PrevailingProfile) -> Result<Fi
     Ok(Finding::warning(Location::Line(number), message))
 }
 
-/// Names a profile by its purpose, id, stack level and connector.
+/// Names a charging profile in a finding by its purpose, id, stack level and connector.
 fn named(alloc: Global, profile: PrevailingProfile) -> Result<String, AllocError> {
     let purpose = purpose_name(profile.purpose);
     let id = profile.id;
@@ -106,6 +108,7 @@ fn clears_at_large(alloc: Global, text: &str) -> Result<bool, AllocError> {
     }
 }
 
+/// Returns whether a frame is a ClearChargingProfile with criteria, but no id or purpose.
 fn is_clear_at_large(alloc: Global, frame: Frame<'_>) -> Result<bool, AllocError> {
     match frame {
         Frame::Call {
@@ -120,6 +123,7 @@ fn is_clear_at_large(alloc: Global, frame: Frame<'_>) -> Result<bool, AllocError
     }
 }
 
+/// Returns whether the payload of a ClearChargingProfile has criteria, but neither id nor purpose.
 fn has_large_criteria(alloc: Global, payload: Node<'_, '_>) -> Result<bool, AllocError> {
     match read_fields(alloc, ActionKind::ClearChargingProfile, payload) {
         Ok(Action::ClearChargingProfile(criteria)) => Ok(is_at_large(&criteria)),
@@ -128,7 +132,8 @@ fn has_large_criteria(alloc: Global, payload: Node<'_, '_>) -> Result<bool, Allo
     }
 }
 
-/// Returns whether a clear has criteria, but neither id nor purpose.
+/// Returns whether a ClearChargingProfile has criteria, but neither id nor purpose, so that it may
+/// match a fuse limit.
 // A clear without any has a warning of its own.
 fn is_at_large(criteria: &Criteria) -> bool {
     criteria.id.is_none() && criteria.purpose.is_none() && !has_no_criterion(criteria)

@@ -17,7 +17,8 @@ pub(crate) fn is_hidden_everywhere(view: &View<'_>, row: &Row) -> bool
         && speaks_for_none(view, row)
 }
 
-/// Returns whether a row may prevail at no connector among the TxDefaultProfiles.
+/// Returns whether a profile of a point may prevail at no connector among the TxDefaultProfiles, so
+/// that it counts nowhere.
 fn speaks_for_none(view: &View<'_>, row: &Row) -> bool
     ensures { IsTrue result
         ↔ SpeaksForNone view.now.rows.now (length view.now.ceilings.now) row.now }

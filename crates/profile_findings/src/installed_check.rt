@@ -45,7 +45,8 @@ fn hidden_defaults(
     Ok(findings)
 }
 
-/// Returns a warning for each ChargePointMaxProfile that another one lifts, with the first such.
+/// Returns a warning for each ChargePointMaxProfile of a point that one of a higher stack level may
+/// exceed, with the first such one.
 fn lifted_limits(
     alloc: Global,
     unit: Unit,
@@ -72,7 +73,7 @@ fn lifts(high: &Row, low: &Row) -> bool {
         && highest_limit(high) > lowest_limit(low)
 }
 
-/// Returns the highest limit of a profile's periods, in tenths.
+/// Returns the highest limit in the periods of a point's charging profile, in tenths.
 pub(crate) fn highest_limit(row: &Row) -> u32 {
     let mut highest = 0;
     for period in row.profile.schedule.periods.as_slice() {
@@ -81,7 +82,7 @@ pub(crate) fn highest_limit(row: &Row) -> u32 {
     highest
 }
 
-/// Returns the lowest limit of a profile's periods, in tenths.
+/// Returns the lowest limit in the periods of a point's charging profile, in tenths.
 fn lowest_limit(row: &Row) -> u32 {
     let mut lowest = u32::MAX;
     for period in row.profile.schedule.periods.as_slice() {
@@ -90,7 +91,8 @@ fn lowest_limit(row: &Row) -> u32 {
     lowest
 }
 
-/// Makes the finding that the connectors may draw more together than their point.
+/// Makes the finding that a point's connectors may draw more together than its
+/// ChargePointMaxProfile allows, if they may.
 fn excess_finding(
     alloc: Global,
     unit: Unit,
@@ -112,6 +114,7 @@ fn excess_finding(
     Ok(Some(finding_at_end(alloc, severity, point, message)?))
 }
 
+/// Makes a finding in the profiles that the point of this identity has when a script ends.
 fn finding_at_end(
     alloc: Global,
     severity: Severity,
@@ -125,7 +128,8 @@ fn finding_at_end(
     })
 }
 
-/// Describes a profile that counts nowhere.
+/// Describes a TxDefaultProfile at connector 0 that counts nowhere, since each connector has its
+/// own one.
 fn hidden_message(alloc: Global, row: &Row) -> Result<String, AllocError> {
     let id = row.profile.id;
     let level = row.profile.stack_level;
@@ -134,7 +138,7 @@ fn hidden_message(alloc: Global, row: &Row) -> Result<String, AllocError> {
     )
 }
 
-/// Describes a ChargePointMaxProfile that allows more than another one.
+/// Describes a ChargePointMaxProfile that allows more than another one of a lower stack level.
 fn lifted_message(alloc: Global, unit: Unit, high: &Row, low: &Row) -> Result<String, AllocError> {
     let unit = unit_name(unit);
     let (above, below) = (high.profile.id, low.profile.id);
@@ -145,7 +149,8 @@ fn lifted_message(alloc: Global, unit: Unit, high: &Row, low: &Row) -> Result<St
     )
 }
 
-/// Describes connectors that may draw more together than their point.
+/// Describes connectors that may draw more together than the ChargePointMaxProfile of their point
+/// allows.
 fn excess_message(alloc: Global, unit: Unit, excess: &Excess<'_>) -> Result<String, AllocError> {
     let what = if excess.is_scheduled {
         "schedules"

@@ -48,7 +48,7 @@ pub fn never_rated(profile: &Profile) -> Option<NeverRated>
     None
 }
 
-/// Returns whether validTo isn't after validFrom.
+/// Returns whether a charging profile's validTo isn't after its validFrom, so that it never counts.
 fn has_empty_validity(profile: &Profile) -> bool
     ensures exact { result ≡ has_empty_validity profile.now }
     ensures never { IsTrue result → IsNeverRated profile.now }
@@ -59,7 +59,8 @@ fn has_empty_validity(profile: &Profile) -> bool
     }
 }
 
-/// Returns whether validTo isn't after startSchedule.
+/// Returns whether a charging profile's validTo isn't after its startSchedule, so that it never
+/// counts.
 // This holds for Recurring profiles too, since they don't reach back before startSchedule.
 fn is_valid_before_start(profile: &Profile) -> bool
     ensures exact { result ≡ is_valid_before_start profile.now }
@@ -71,7 +72,8 @@ fn is_valid_before_start(profile: &Profile) -> bool
     }
 }
 
-/// Returns whether an Absolute schedule is over before the profile becomes valid.
+/// Returns whether the schedule of an Absolute profile is over before its validFrom, so that it
+/// never counts.
 fn is_valid_after_end(profile: &Profile) -> bool
     ensures exact { result ≡ is_valid_after_end profile.now }
     ensures never { IsTrue result → IsNeverRated profile.now }
@@ -92,7 +94,7 @@ fn is_valid_after_end(profile: &Profile) -> bool
     }
 }
 
-/// Returns whether the duration is 0.
+/// Returns whether the duration of a charging profile's schedule is 0, so that it never counts.
 fn has_no_duration(profile: &Profile) -> bool
     ensures exact { result ≡ has_no_duration profile.now }
     ensures never { IsTrue result → IsNeverRated profile.now }
@@ -103,7 +105,8 @@ fn has_no_duration(profile: &Profile) -> bool
     }
 }
 
-/// Returns whether no period starts within the duration.
+/// Returns whether no period of a charging profile starts within its schedule's duration, so that
+/// it never counts.
 fn has_periods_past_duration(profile: &Profile) -> bool
     ensures exact { result ≡ has_periods_past_duration profile.now }
     ensures never { IsTrue result → IsNeverRated profile.now }
@@ -114,7 +117,8 @@ fn has_periods_past_duration(profile: &Profile) -> bool
     }
 }
 
-/// Returns whether no period starts within the day or the week of a Recurring schedule.
+/// Returns whether no period of a Recurring profile starts within its day or week, so that it never
+/// counts.
 fn has_periods_past_recurrence(profile: &Profile) -> bool
     ensures exact { result ≡ has_periods_past_recurrence profile.now }
     ensures never { IsTrue result → IsNeverRated profile.now }
@@ -125,7 +129,7 @@ fn has_periods_past_recurrence(profile: &Profile) -> bool
     }
 }
 
-/// Returns whether each period starts at this offset or later, in seconds.
+/// Returns whether each period of a charging profile starts at this offset or later, in seconds.
 fn start_past(profile: &Profile, end: u64) -> bool
     ensures exact { result ≡ start_past profile.now.schedule.periods (Some end) }
     ensures before { IsTrue result → HasNoPeriodBefore profile.now end }
@@ -133,6 +137,8 @@ fn start_past(profile: &Profile, end: u64) -> bool
     start_from(profile.schedule.periods.as_slice(), end)
 }
 
+/// Returns whether each of a charging schedule's periods starts at this offset or later, in
+/// seconds.
 fn start_from(periods: &[Period], end: u64) -> bool
     ensures { result ≡ start_past periods.now (Some end) }
 {

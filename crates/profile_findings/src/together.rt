@@ -87,7 +87,8 @@ pub(crate) fn worst_excess(
     Ok(excess_of(&week, overrun))
 }
 
-/// Returns the week from the last install on, if the point has a ChargePointMaxProfile.
+/// Returns the week from a point's last install on, to compare its connectors' limits with its
+/// ChargePointMaxProfile. None without one.
 fn week_of(book: &PointBook) -> Option<Week<'_>> {
     let mut last = None;
     let mut is_bounded = false;
@@ -108,7 +109,7 @@ fn week_of(book: &PointBook) -> Option<Week<'_>> {
     })
 }
 
-/// Appends the changes of the prevailing ChargePointMaxProfile.
+/// Appends the changes of a point's prevailing ChargePointMaxProfile in the checked week.
 fn push_most_turns<'a>(turns: &mut Vec<WeekTurn<'a>>, week: &Week<'a>) -> Result<(), AllocError> {
     let mut second = 0;
     // Each change is at least a second after the last, so this range ends the loop without a proof.
@@ -126,7 +127,7 @@ fn push_most_turns<'a>(turns: &mut Vec<WeekTurn<'a>>, week: &Week<'a>) -> Result
     Ok(())
 }
 
-/// Returns the instant that number of seconds later.
+/// Returns the instant at this second of the checked week, which begins at a point's last install.
 fn later_by(asked: Instant, second: u32) -> Option<Instant> {
     Instant::try_new(asked.seconds().saturating_add(u64::from(second)))
 }
@@ -142,7 +143,8 @@ fn most_at(book: &PointBook, asked: Instant, instant: Instant) -> Option<Most<'_
     None
 }
 
-/// Returns the next second at which the limit of a ChargePointMaxProfile may change.
+/// Returns the next second of the checked week at which the limit of a ChargePointMaxProfile may
+/// change.
 fn next_most_turn(week: &Week<'_>, instant: Instant) -> Option<u32> {
     let mut next = None;
     for row in week.book.view().rows {
@@ -155,7 +157,7 @@ fn next_most_turn(week: &Week<'_>, instant: Instant) -> Option<u32> {
     u32::try_from(second).ok()
 }
 
-/// Appends the changes of the connectors' limits.
+/// Appends the changes of all connectors' limits in the checked week, which are to be added up.
 // Connectors that are alike change together, so one schedule serves up to 64 of them.
 fn push_limit_turns<'a>(
     alloc: Global,
@@ -173,7 +175,8 @@ fn push_limit_turns<'a>(
     Ok(())
 }
 
-/// Returns whether no connector before this one is like it.
+/// Returns whether no connector before this one has the same limits, so that this one's schedule is
+/// computed.
 fn is_first_alike(view: &View<'_>, connector: u32) -> bool {
     for before in 1..connector {
         if are_alike(view, before, connector) {
@@ -183,7 +186,7 @@ fn is_first_alike(view: &View<'_>, connector: u32) -> bool {
     true
 }
 
-/// Returns the number of connectors like this one, itself included.
+/// Returns the number of a point's connectors with the same limits as this one, itself included.
 fn count_alike(view: &View<'_>, connector: u32) -> u64 {
     let mut count: u64 = 0;
     for before in 0..view.ceilings.len() {
@@ -209,7 +212,8 @@ fn are_alike(view: &View<'_>, one: u32, other: u32) -> bool {
             .any(|row| row.connector == one || row.connector == other)
 }
 
-/// Appends the changes of a connector's limit, times the number of connectors like it.
+/// Appends the changes of a connector's limit in the checked week, times the number of connectors
+/// like it.
 fn push_turns_of<'a>(
     alloc: Global,
     turns: &mut Vec<WeekTurn<'a>>,
@@ -234,7 +238,8 @@ fn push_turns_of<'a>(
     Ok(())
 }
 
-/// Returns the worst overrun at these changes, which are sorted by second.
+/// Returns the second at which the connectors' limits together exceed the prevailing
+/// ChargePointMaxProfile most. The changes are sorted by second.
 fn worst_of<'a>(turns: &[WeekTurn<'a>]) -> Option<Overrun<'a>> {
     let mut worst: Option<Overrun<'a>> = None;
     let mut together: u64 = 0;
@@ -255,7 +260,8 @@ fn worst_of<'a>(turns: &[WeekTurn<'a>]) -> Option<Overrun<'a>> {
     worst
 }
 
-/// Returns the overrun at a second, if there is one.
+/// Returns the overrun at a second, if the connectors' limits together exceed the prevailing
+/// ChargePointMaxProfile.
 fn overrun_of(second: u32, together: u64, most: Option<Most<'_>>) -> Option<Overrun<'_>> {
     let most = most?;
     if together <= u64::from(most.limit) {
@@ -268,7 +274,8 @@ fn overrun_of(second: u32, together: u64, most: Option<Most<'_>>) -> Option<Over
     })
 }
 
-/// Returns the worse of an overrun and a later one, and the first if both are equal.
+/// Returns the worse of an overrun of the ChargePointMaxProfile and a later one, and the first if
+/// both are equal.
 fn worse<'a>(first: Option<Overrun<'a>>, later: Option<Overrun<'a>>) -> Option<Overrun<'a>> {
     match (first, later) {
         (Some(first), Some(later)) if later.beyond() <= first.beyond() => Some(first),
@@ -278,13 +285,14 @@ fn worse<'a>(first: Option<Overrun<'a>>, later: Option<Overrun<'a>>) -> Option<O
 }
 
 impl Overrun<'_> {
-    /// Returns the excess over the point's limit.
+    /// Returns the excess of the connectors' limits together over that of the
+    /// ChargePointMaxProfile, in tenths.
     fn beyond(&self) -> u64 {
         self.together.saturating_sub(u64::from(self.most.limit))
     }
 }
 
-/// Makes an `Excess` of an overrun, with its instant.
+/// Makes the `Excess` for a finding from an overrun of the ChargePointMaxProfile, with its instant.
 fn excess_of<'a>(week: &Week<'a>, overrun: Overrun<'a>) -> Option<Excess<'a>> {
     let instant = later_by(week.asked, overrun.second)?;
     Some(Excess {
@@ -296,7 +304,8 @@ fn excess_of<'a>(week: &Week<'a>, overrun: Overrun<'a>) -> Option<Excess<'a>> {
     })
 }
 
-/// Returns whether a profile other than a ChargePointMaxProfile prevails at an instant.
+/// Returns whether a profile other than a ChargePointMaxProfile prevails at a connector at an
+/// instant, not only the site file's ceilings.
 fn is_scheduled(view: &View<'_>, asked: Instant, instant: Instant) -> bool {
     for (place, row) in view.rows.iter().enumerate() {
         if row.profile.purpose != Purpose::ChargePointMaxProfile
@@ -308,7 +317,8 @@ fn is_scheduled(view: &View<'_>, asked: Instant, instant: Instant) -> bool {
     false
 }
 
-/// Returns whether the row at this index prevails at a connector.
+/// Returns whether the charging profile at this index prevails at a connector of its point at an
+/// instant.
 fn prevails_somewhere(view: &View<'_>, asked: Instant, instant: Instant, place: usize) -> bool
     requires within { place < length view.now.rows.now }
 {

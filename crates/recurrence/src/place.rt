@@ -86,7 +86,8 @@ impl Iterator for Places<'_> {
     }
 }
 
-/// Returns the next place of a profile, and the occurrence from there on.
+/// Returns the next place of a charging profile, at which its limit can change, and the occurrence
+/// of its schedule from there on.
 fn next_place(
     profile: &Profile,
     base: Instant,
@@ -112,7 +113,8 @@ fn next_place(
     ))
 }
 
-/// Returns the first place of a profile later than an instant and up to a last one.
+/// Returns the first place of a charging profile, at which its limit can change, later than an
+/// instant and up to a last one.
 fn first_place(profile: &Profile, base: Instant, instant: Instant, last: Instant) -> Option<Instant>
     ensures { IsFirstPlace profile.now base instant last result }
 {

@@ -30,7 +30,8 @@ pub fn next_change(profile: &Profile, base: Instant, instant: Instant) -> Option
     Instant::try_new(place)
 }
 
-/// Returns the next place, in seconds, which may be past the last instant.
+/// Returns the next second at which a charging profile's limit can change, which may be past the
+/// last instant.
 fn next_place(profile: &Profile, base: Instant, instant: Instant) -> Option<u64>
     ensures { IsNext (is_place profile.now base) instant result }
 {
@@ -40,15 +41,15 @@ fn next_place(profile: &Profile, base: Instant, instant: Instant) -> Option<u64>
     sooner(from, sooner(to, turn))
 }
 
-/// Returns a bound of the validity if it is later than an instant.
+/// Returns a charging profile's validFrom or validTo, in seconds, if it is later than an instant.
 fn next_bound(bound: Option<Instant>, instant: Instant) -> Option<u64>
     ensures { IsNext (λ (k : ℕ). is_at k bound) instant result }
 {
     later(bound?.seconds(), instant.seconds())
 }
 
-/// Returns the next second at which the schedule of a profile turns: its anchor, if that is still
-/// to come, otherwise the next turn after it.
+/// Returns the next second at which the schedule of a charging profile turns: its anchor, if that
+/// is still to come, otherwise the next turn after it.
 fn next_turn(profile: &Profile, base: Instant, instant: Instant) -> Option<u64>
     ensures { IsNext
         (λ (k : ℕ). is_turn_at profile.now.schedule (offset profile.now base k))

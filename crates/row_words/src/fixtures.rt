@@ -66,6 +66,7 @@ pub fn criteria_of(words: &str) -> Result<Criteria, UnreadWords> {
     }
 }
 
+/// Makes a period of a test's charging profile, of a limit in tenths from a second on.
 fn period(start: u32, limit: u32) -> Period {
     Period {
         start,
@@ -74,7 +75,7 @@ fn period(start: u32, limit: u32) -> Period {
     }
 }
 
-/// Reads the period `3600:80`: its start and its limit.
+/// Reads a period of a test's charging profile, such as `3600:80`: its start and its limit.
 fn period_of_word(word: &str) -> Option<Period> {
     let (start, limit) = word.split_once(':')?;
     let start = start.parse::<u32>().ok()?;
@@ -82,7 +83,7 @@ fn period_of_word(word: &str) -> Option<Period> {
     Some(period(start, limit))
 }
 
-/// Reads the value of `periods=0:160,3600:80`.
+/// Reads the periods of a test's charging profile, from the value of `periods=0:160,3600:80`.
 fn periods_of_words(alloc: Global, keyed: &str) -> Result<Vec<Period>, UnreadWords> {
     let mut periods = Vec::new(alloc);
     for word in keyed.split(',') {
@@ -94,7 +95,8 @@ fn periods_of_words(alloc: Global, keyed: &str) -> Result<Vec<Period>, UnreadWor
     Ok(periods)
 }
 
-/// Returns 200 periods of a number of seconds, alternating between 6 A and 10 A.
+/// Returns the 200 periods of a test's charging profile, of a number of seconds each, alternating
+/// between 6 A and 10 A.
 fn periods_by_turns(alloc: Global, seconds: u32) -> Result<Vec<Period>, UnreadWords> {
     let mut periods = Vec::new(alloc);
     for index in 0..200u32 {
@@ -104,6 +106,8 @@ fn periods_by_turns(alloc: Global, seconds: u32) -> Result<Vec<Period>, UnreadWo
     Ok(periods)
 }
 
+/// Reads the periods of a test's charging profile by `turns=` or `periods=`. Without either it has
+/// one of 16 A.
 fn period_list(alloc: Global, keyed: &mut KeyedWords<'_>) -> Result<PeriodList, UnreadWords> {
     let periods = match keyed.number("turns=") {
         Some(seconds) => periods_by_turns(alloc, seconds),
@@ -112,6 +116,8 @@ fn period_list(alloc: Global, keyed: &mut KeyedWords<'_>) -> Result<PeriodList, 
     PeriodList::try_new(periods?)?.ok_or(UnreadWords::Words)
 }
 
+/// Reads the fields of a test's charging profile from words such as `id=1`, with the defaults of
+/// `profile_of`.
 fn parts_of(keyed: &mut KeyedWords<'_>, periods: PeriodList) -> ProfileParts {
     let schedule = ScheduleParts {
         duration: keyed.number("duration="),
@@ -133,6 +139,7 @@ fn parts_of(keyed: &mut KeyedWords<'_>, periods: PeriodList) -> ProfileParts {
     }
 }
 
+/// Reads a test's charging profile from words such as `id=1 level=3`, or returns why there is none.
 fn keyed_profile(alloc: Global, keyed: &mut KeyedWords<'_>) -> Result<Profile, UnreadWords> {
     let periods = period_list(alloc, keyed)?;
     let parts = parts_of(keyed, periods);
@@ -186,7 +193,7 @@ pub fn begin_of(
     }
 }
 
-/// Returns the limits of a number of connectors of 32 A, as they are in a site file.
+/// Returns the limits of a number of connectors of 32 A, as they are in a test's site file.
 fn limits_text(alloc: Global, connectors: usize) -> Result<String, UnreadWords> {
     let mut text = String::from_str(alloc, "32")?;
     for _ in 1..connectors {

@@ -8,7 +8,7 @@ use profile::Named;
 /// 2025-01-01T00:00:00Z, a Wednesday.
 pub const MIDNIGHT: u64 = 1_735_689_600;
 
-/// Returns the instant a number of seconds after midnight.
+/// Returns the instant a number of seconds after midnight of 2025-01-01, for test data in words.
 pub(crate) fn instant_of(second: u64) -> Option<Instant> {
     Instant::try_new(MIDNIGHT.saturating_add(second))
 }
@@ -62,6 +62,7 @@ pub(crate) struct KeyedWords<'a> {
 }
 
 impl<'a> KeyedWords<'a> {
+    /// Makes the reader of a test's words such as `id=1 level=3`, before any is looked up.
     pub(crate) fn of(words: &'a str) -> KeyedWords<'a> {
         KeyedWords {
             words,
@@ -69,12 +70,14 @@ impl<'a> KeyedWords<'a> {
         }
     }
 
-    /// Returns whether each value looked up so far could be read or is absent.
+    /// Returns whether each value looked up so far in words of test data could be read or is
+    /// absent.
     pub(crate) fn is_read(&self) -> bool {
         self.is_read
     }
 
-    /// Returns the text after a key, in the first word that begins with the key.
+    /// Returns the text after a key such as `level=`, in the first word of test data that begins
+    /// with the key.
     pub(crate) fn value(&self, key: &str) -> Option<&'a str> {
         for word in self.words.split(' ') {
             if let Some(value) = word.strip_prefix(key) {
@@ -84,28 +87,36 @@ impl<'a> KeyedWords<'a> {
         None
     }
 
-    /// Notes whether a value could be read, and returns it.
+    /// Notes whether a value in words of test data could be read, and returns it.
     fn noted<T: Copy>(&mut self, read: Option<T>) -> Option<T> {
         // An unreadable value and an absent one are both `None`: this flag distinguishes them.
         self.is_read = self.is_read && read.is_some();
         read
     }
 
+    /// Reads the unsigned number after a key such as `level=` in words of test data, if the key is
+    /// there.
     pub(crate) fn number(&mut self, key: &str) -> Option<u32> {
         let read = self.value(key)?.parse::<u32>().ok();
         self.noted(read)
     }
 
+    /// Reads the signed number after a key such as `id=` in words of test data, if the key is
+    /// there.
     pub(crate) fn whole(&mut self, key: &str) -> Option<i32> {
         let read = self.value(key)?.parse::<i32>().ok();
         self.noted(read)
     }
 
+    /// Reads the instant after a key such as `start=` in words of test data, in seconds after
+    /// midnight, if the key is there.
     pub(crate) fn instant(&mut self, key: &str) -> Option<Instant> {
         let mut value = Words::of(self.value(key)?);
         self.noted(value.instant())
     }
 
+    /// Reads the value after a key such as `purpose=` in words of test data by its name, if the key
+    /// is there.
     pub(crate) fn name<T: Named + Copy>(&mut self, key: &str) -> Option<T> {
         let read = T::named(self.value(key)?);
         self.noted(read)

@@ -47,8 +47,8 @@ struct CallMoment {
     moment: Instant,
 }
 
-/// Serves messages until the socket is closed or fails, the client is silent for too long, or a
-/// call to it has no reply in time. Returns how the session ended.
+/// Serves the messages of a session. It ends if its WebSocket is closed or fails, the client is
+/// silent for too long, or a call to it has no reply in time. Returns how the session ended.
 pub(crate) fn run_session<R: Wait + Clock, W: World>(
     context: &Context<'_, W>,
     watch: &SessionWatch<'_, R>,
@@ -84,7 +84,8 @@ pub(crate) fn run_session<R: Wait + Clock, W: World>(
     unreachable!()
 }
 
-/// Serves the next message, or does what is due if none comes. An error ends the session.
+/// Serves the next message of a session, or does what is due if none comes. An error ends the
+/// session.
 fn attend_next<R: Wait + Clock, W: World>(
     context: &Context<'_, W>,
     watch: &SessionWatch<'_, R>,
@@ -139,7 +140,7 @@ fn attend_next<R: Wait + Clock, W: World>(
     Ok(())
 }
 
-/// Pings a silent client once. After a longer silence it ends the session.
+/// Sends a session's silent client one WebSocket ping. After a longer silence it ends the session.
 fn keep_alive<R: Wait + Clock>(
     socket: &mut WebSocket<IncomingStream<'_, R>, NoMask>,
     attention: &mut ClientState,
@@ -163,8 +164,8 @@ fn keep_alive<R: Wait + Clock>(
     }
 }
 
-/// Sends the call that waits for a silent point, and returns it. A point that has just connected
-/// first gets the time for its BootNotification.
+/// Sends the call that waits for a silent charge point, and returns it. A point that has just
+/// connected first gets the time for its BootNotification.
 fn send_to_silent<R: Wait + Clock, W: World>(
     rt: &R,
     context: &Context<'_, W>,
@@ -185,7 +186,8 @@ fn send_to_silent<R: Wait + Clock, W: World>(
 }
 
 impl ClientState {
-    /// Records that a call was sent just now. Without a clock its reply has no deadline.
+    /// Records that the call of this number was sent to the session's point just now. Without a
+    /// clock its reply has no deadline.
     fn note_sent<R: Clock>(&mut self, rt: &R, number: u64) {
         self.sent = match Instant::now(rt) {
             Ok(moment) => Some(CallMoment { number, moment }),
@@ -193,7 +195,7 @@ impl ClientState {
         };
     }
 
-    /// Returns the number of the last call if it has no reply in time.
+    /// Returns the number of the last call sent to the session's point if it has no reply in time.
     fn overdue<R: Wait + Clock, W: World>(
         &mut self,
         rt: &R,

@@ -10,8 +10,8 @@ use tungstenite::{CloseCode, CloseFrame, NoMask, Utf8Bytes, WebSocket};
 use version_store::Pass;
 use world::World;
 
-/// Serves a connection from its handshake until it ends. Returns the pass, whose counters never
-/// decrease.
+/// Serves a WebSocket connection from its handshake until it ends. Returns the pass, whose counters
+/// never decrease.
 pub(crate) fn run_connection<W: World, S: Read + Write + Drop>(
     context: &Context<'_, W>,
     stream: S,
@@ -43,7 +43,8 @@ pub(crate) struct Admitted {
     pub(crate) place: usize,
 }
 
-/// Returns the session that a client asks for, if it offers OCPP 1.6 and names a point of the site.
+/// Returns the session that a WebSocket client asks for, if it offers OCPP 1.6 and names a point of
+/// the site.
 pub(crate) fn admit<W: World>(
     context: &Context<'_, W>,
     asked: &ClientRequest,
@@ -64,8 +65,8 @@ pub(crate) fn admit<W: World>(
     Ok(Some(Admitted { core, place }))
 }
 
-/// Closes a socket whose client isn't served (RFC 6455, section 7.4.1, policy violation). It
-/// doesn't wait for the client's close frame.
+/// Closes the WebSocket of a client that isn't served (RFC 6455, section 7.4.1, policy violation).
+/// It doesn't wait for the client's close frame.
 pub(crate) fn close_at_once<S: Read + Write + Drop>(mut socket: WebSocket<S, NoMask>) {
     let frame = CloseFrame {
         code: CloseCode::Policy,

@@ -13,12 +13,12 @@ use std::thread::{JoinHandle, Scope, Threads};
 use version_store::Pass;
 use world::World;
 
-/// What serves a connection.
+/// A site that serves connections, each with a pass.
 pub(crate) trait ConnectionSite {
     /// The pass with which a connection is served.
     type Pass;
 
-    /// Serves a connection from its handshake until it ends. Returns the pass.
+    /// Serves a connection of the server from its handshake until it ends. Returns the pass.
     fn run(&self, stream: TcpStream, pass: Self::Pass) -> Self::Pass;
 }
 
@@ -59,8 +59,8 @@ enum Session<P> {
     Ended(P),
 }
 
-/// Accepts a connection for each pass, and serves it on a thread of its own, or on this one if no
-/// thread can be made. Ends when all connections have ended, and returns all passes.
+/// Accepts a connection of `serve` for each pass. Serves it on a thread of its own, or on this one
+/// if no thread can be made. Ends when all connections have ended, and returns all passes.
 pub(crate) fn run_connections<
     R: Threads + Wait,
     S: ConnectionSite<Pass = P> + Sync,
@@ -95,8 +95,8 @@ pub(crate) fn run_connections<
     ))
 }
 
-/// Starts a session for each pass, in `room`. Then it closes the listener, so that no client waits
-/// for a connection that is never accepted.
+/// Accepts a connection of `serve` for each pass, and starts its session, in `room`. Then it closes
+/// the listener, so that no client waits for a connection that is never accepted.
 fn begin_all<'s, E, S: ConnectionSite<Pass = P> + Sync + 's, P: Send + Drop + 's>(
     scope: &Scope<'s, E>,
     site: &'s S,
@@ -119,7 +119,8 @@ fn begin_all<'s, E, S: ConnectionSite<Pass = P> + Sync + 's, P: Send + Drop + 's
     }
 }
 
-/// Starts the session of a pass with the next connection.
+/// Accepts the next connection of `serve`, and starts its session with this pass on a thread of its
+/// own.
 fn begin<'s, E, S: ConnectionSite<Pass = P> + Sync + 's, P: Send + Drop + 's>(
     scope: &Scope<'s, E>,
     site: &'s S,
@@ -142,7 +143,7 @@ fn begin<'s, E, S: ConnectionSite<Pass = P> + Sync + 's, P: Send + Drop + 's>(
     }
 }
 
-/// Waits until each session has ended, and returns the passes in `room`.
+/// Waits until each session of `serve` has ended, and returns their passes in `room`.
 fn end_all<R: Threads + Wait, P: Drop>(rt: &R, sessions: Vec<Session<P>>, room: Vec<P>) -> Vec<P>
     requires empty { vec_len room ≡ 0 }
     requires room { length sessions.items ≤ vec_capacity room }
@@ -155,7 +156,7 @@ fn end_all<R: Threads + Wait, P: Drop>(rt: &R, sessions: Vec<Session<P>>, room: 
     ended
 }
 
-/// Waits until a session has ended, and returns its pass.
+/// Waits until a session of `serve` has ended, and returns its pass.
 fn pass_of<R: Threads + Wait, P>(rt: &R, session: Session<P>) -> P {
     match session {
         Session::Running(session) => session.join(rt),

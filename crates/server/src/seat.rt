@@ -42,8 +42,8 @@ pub trait SeatedSite {
     /// The pass that a seat keeps.
     type Pass;
 
-    /// Serves one connection after another, each with the seat's pass, until no more are sent.
-    /// Returns the pass.
+    /// Serves one connection of the server after another, each with the seat's pass, until no more
+    /// are sent. Returns the pass.
     fn keep_seat(
         &self,
         jobs: Jobs<'_>,
@@ -97,7 +97,8 @@ pub fn keep_seat<R: Threads + Wait + Clock + Sync, W: World>(
     unreachable!()
 }
 
-/// Serves a connection from its handshake until it ends. Returns the pass.
+/// Serves a client's connection in a seat of the server, from its handshake until it ends. Returns
+/// the pass.
 fn run_incoming<R: Threads + Wait + Clock + Sync, W: World>(
     seats: &Seats<R>,
     context: &Context<'_, W>,
@@ -138,7 +139,8 @@ fn run_incoming<R: Threads + Wait + Clock + Sync, W: World>(
     }
 }
 
-/// Does the handshake with a client, which may have to give way until it is complete.
+/// Does the WebSocket handshake with a client. Until it is complete, it may have to give its seat
+/// to another connection.
 fn shake_in_time<'a, R: Threads + Wait + Clock + Sync>(
     seats: &Seats<R>,
     stream: IncomingStream<'a, R>,
@@ -158,7 +160,8 @@ fn shake_in_time<'a, R: Threads + Wait + Clock + Sync>(
     shaken
 }
 
-/// Does the handshake on a thread of its own, or on this one if none can be made.
+/// Does the WebSocket handshake with a client on a thread of its own, or on this one if none can be
+/// made.
 // A handshake takes far more stack than a waiting session, and the stack that a thread once used
 // stays in memory until the thread ends.
 fn shake_apart<'a, R: Threads + Wait + Clock + Sync>(
@@ -171,7 +174,8 @@ fn shake_apart<'a, R: Threads + Wait + Clock + Sync>(
     shaken
 }
 
-/// Returns the limits of a connection.
+/// Returns the limits of a client's WebSocket connection: the sizes of its read buffer, messages
+/// and frames.
 fn limits() -> WebSocketConfig {
     WebSocketConfig::default()
         .read_buffer_size(READ_BYTES)
@@ -179,8 +183,8 @@ fn limits() -> WebSocketConfig {
         .max_frame_size(Some(LONGEST_MESSAGE_BYTES))
 }
 
-/// Serves a session after its handshake. A point's older connection is shut once this one has its
-/// link, and this one is shut once a later one has. Returns the pass.
+/// Serves an admitted client's session after its handshake. A point's older connection is shut once
+/// this one has its link, and this one is shut once a later one has. Returns the pass.
 fn run_admitted<R: Wait + Clock, W: World>(
     seats: &Seats<R>,
     context: &Context<'_, W>,

@@ -115,7 +115,7 @@ pub fn run_seats<
     }
 }
 
-/// Starts the thread that writes lines for people to standard error.
+/// Starts the server's thread that writes lines for people to standard error.
 fn begin_writer<R: Wait + Threads + Eprint + Shareable>(
     seats: &Arc<Seats<R>, Global>,
 ) -> Result<(), ServeFault> {
@@ -127,7 +127,8 @@ fn begin_writer<R: Wait + Threads + Eprint + Shareable>(
     }
 }
 
-/// Starts a seat for each pass. Returns the number of seats that have a thread.
+/// Starts a seat of the server, which serves connections, for each pass. Returns the number of
+/// seats that have a thread.
 fn begin_seats<R: Threads + Wait, S: SeatedSite<Pass = P> + Shareable, P: Send + Drop + 'static>(
     seats: &Seats<R>,
     site: &Arc<S, Global>,
@@ -148,7 +149,8 @@ fn begin_seats<R: Threads + Wait, S: SeatedSite<Pass = P> + Shareable, P: Send +
     Ok(begun)
 }
 
-/// Starts a seat. Returns false if no thread can be made for it.
+/// Starts a seat of the server: a thread that serves connections from this queue. Returns false if
+/// no thread can be made for it.
 fn begin_seat<R: Threads, S: SeatedSite<Pass = P> + Shareable, P: Send + Drop + 'static>(
     rt: &R,
     site: &Arc<S, Global>,

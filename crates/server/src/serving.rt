@@ -59,7 +59,7 @@ struct ServePlan<'a, M> {
     clock: &'a M,
 }
 
-/// Serves a site whose changes and answers these two ledgers count.
+/// Runs the server of `serve` for a site whose changes and answers these two ledgers count.
 fn run_counted<
     C: Ledger + Send + Sync,
     A: Ledger + Send + Sync,
@@ -104,8 +104,8 @@ fn run_counted<
     }
 }
 
-/// Serves the connections while workers compile on threads of their own. If no thread can be made
-/// for the workers, the sessions compile their jobs themselves.
+/// Serves the connections of `serve` while workers compile schedules on threads of their own. If no
+/// thread can be made for the workers, the sessions compile their jobs themselves.
 fn run_beside_workers<
     C: Ledger + Send + Sync,
     A: Ledger + Send + Sync,

@@ -22,7 +22,7 @@ pub(crate) struct SessionWatch<'a, R> {
 }
 
 impl<R: Wait + Clock> SessionWatch<'_, R> {
-    /// Records that the session has begun.
+    /// Records that a client's session has begun, for the status of the site and the log.
     pub(crate) fn begin(&self, core: &SessionCore) {
         let seats = self.seats;
         seats.watch.begin(&seats.rt, self.link.is_some());
@@ -32,7 +32,7 @@ impl<R: Wait + Clock> SessionWatch<'_, R> {
         }
     }
 
-    /// Records how the session has ended.
+    /// Records how a client's session has ended, for the status of the site and the log.
     pub(crate) fn end(&self, core: &SessionCore, ended: Ended) {
         let seats = self.seats;
         seats.watch.end(&seats.rt, self.link.is_some());
@@ -48,7 +48,8 @@ impl<R: Wait + Clock> SessionWatch<'_, R> {
         self.say(core, event);
     }
 
-    /// Records a message of the session, with its event.
+    /// Records a message of a client's session, with its event, for the status of the site and the
+    /// log.
     pub(crate) fn hear<W: World>(
         &self,
         context: &Context<'_, W>,
@@ -79,7 +80,7 @@ impl<R: Wait + Clock> SessionWatch<'_, R> {
         }
     }
 
-    /// Records that a call was sent.
+    /// Records that a call was sent to the session's point, for the status of the site.
     pub(crate) fn send(&self, call: SentCall) {
         if let Some(moment) = self.seats.clock.now() {
             self.see(Observation::Sent(SentMoment {
@@ -90,12 +91,13 @@ impl<R: Wait + Clock> SessionWatch<'_, R> {
         }
     }
 
-    /// Reports that the call of this number has no reply in time.
+    /// Reports in the log that the call of this number has no reply from its point in time.
     pub(crate) fn give_up(&self, core: &SessionCore, call: u64) {
         self.say_made(core, without_reply(self.seats.alloc, call));
     }
 
-    /// Records when the last call of the point was added.
+    /// Records when an operator's session last added a call to the point, for the status of the
+    /// site.
     fn see_calls<W: World>(&self, context: &Context<'_, W>, core: &SessionCore, moment: Instant) {
         let seats = self.seats;
         let book = context.shared.lock(context.rt);
@@ -111,6 +113,8 @@ impl<R: Wait + Clock> SessionWatch<'_, R> {
         }
     }
 
+    /// Records the BootNotification of the session's point, with the number of the first call that
+    /// it hadn't confirmed by then.
     fn hear_boot<W: World>(&self, context: &Context<'_, W>, core: &SessionCore, moment: Instant) {
         let book = context.shared.lock(context.rt);
         let first_call = match book.present().outbox_of(core.point_id().as_str()) {
@@ -122,6 +126,8 @@ impl<R: Wait + Clock> SessionWatch<'_, R> {
         self.say(core, Event::Booted);
     }
 
+    /// Records the point's reply to a call for the status of the site, and reports it in the log if
+    /// it is a rejection.
     fn hear_reply(&self, core: &SessionCore, reply: PointReply) {
         let seats = self.seats;
         let call = reply.call;
@@ -136,12 +142,13 @@ impl<R: Wait + Clock> SessionWatch<'_, R> {
         self.say_made(core, what);
     }
 
+    /// Adds an observation of the session's point to the status of the site.
     fn see(&self, sighting: Observation) {
         let seats = self.seats;
         seats.watch.see(&seats.rt, self.place, sighting);
     }
 
-    /// Reports an event of the point.
+    /// Reports an event of the session's point in the log.
     fn say(&self, core: &SessionCore, event: Event) {
         let seats = self.seats;
         let who = core.point_id().as_str();
@@ -150,6 +157,7 @@ impl<R: Wait + Clock> SessionWatch<'_, R> {
             .say(&seats.rt, &seats.clock, who, event.name());
     }
 
+    /// Reports a text about the session's point in the log, if memory sufficed to make it.
     fn say_made(&self, core: &SessionCore, what: Result<String, AllocError>) {
         let seats = self.seats;
         let who = core.point_id().as_str();
@@ -170,6 +178,7 @@ enum Event {
 }
 
 impl Event {
+    /// Returns the words by which the log reports an event of a point's connection.
     fn name(self) -> &'static str {
         match self {
             Event::Connected => "connected",
@@ -183,7 +192,8 @@ impl Event {
     }
 }
 
-/// Returns a copy of the reason for which a point rejects a call, or an empty text if it doesn't.
+/// Returns a copy of the reason for which a point's reply rejects a call, or an empty text if it
+/// doesn't.
 fn reason_of(alloc: Global, reply: &PointReply) -> Result<String, AllocError> {
     match &reply.rejection {
         Some(reason) => String::from_str(alloc, reason.as_str()),
@@ -191,10 +201,12 @@ fn reason_of(alloc: Global, reply: &PointReply) -> Result<String, AllocError> {
     }
 }
 
+/// Returns the log's text that a point hasn't replied to the call of this number in time.
 fn without_reply(alloc: Global, call: u64) -> Result<String, AllocError> {
     format!(in alloc; "call {call} has no reply in time: its connection is closed")
 }
 
+/// Returns the log's text that a point rejected a call: its number, its action and the reason.
 fn rejected(
     alloc: Global,
     call: u64,

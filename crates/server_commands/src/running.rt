@@ -106,7 +106,7 @@ pub fn run_file<
     run_counted::<Brand, Brand, Brand, R>(rt, plan, blanks, (Unnamed::new(), Unnamed::new()))
 }
 
-/// Reads the keys of a file, if one is given.
+/// Reads the site's keys from the file of `--keys`, if one is given.
 fn read_keys<R: Files<File = File> + Eprint + AllocGlobal>(
     rt: &R,
     path: Option<&str>,
@@ -117,7 +117,7 @@ fn read_keys<R: Files<File = File> + Eprint + AllocGlobal>(
     }
 }
 
-/// Listens at the status port, if one is wanted.
+/// Listens at the status port of `run`, if one is wanted.
 fn listen_for_status<R: Eprint + Net<Listener = TcpListener, Stream = TcpStream>>(
     rt: &R,
     running: &Running<'_>,
@@ -134,8 +134,9 @@ fn listen_for_status<R: Eprint + Net<Listener = TcpListener, Stream = TcpStream>
     Ok(Some(listener))
 }
 
-/// Listens at an address with a port. Unless the port is open to others, the address has to be a
-/// loopback address: any other is the fault `closed`.
+/// Listens at an address with a port, for the clients or the status requests of `run`. Unless the
+/// port is open to others, the address has to be a loopback address: any other is the fault
+/// `closed`.
 fn listen<R: Eprint + Net<Listener = TcpListener, Stream = TcpStream>>(
     rt: &R,
     address: &str,
@@ -158,8 +159,8 @@ fn listen<R: Eprint + Net<Listener = TcpListener, Stream = TcpStream>>(
     }
 }
 
-/// Runs a site whose changes and answers these two ledgers count. These two ghost lists record its
-/// states and syncs.
+/// Does the job of `run` on a site whose changes and answers these two ledgers count. These two
+/// ghost lists record its states and syncs.
 fn run_counted<
     C: Ledger + Shareable,
     A: Ledger + Shareable,
@@ -232,7 +233,8 @@ fn run_counted<
     Err(ProgramFault::Folder(FolderFault::Write))
 }
 
-/// Starts the status port, if one is wanted. It answers already while the site is being restored.
+/// Starts the status port of `run`, if one is wanted. It answers already while the site is being
+/// restored.
 fn begin_port<
     R: AllocGlobal + Clock + RandomSource + Threads + Wait + Copy + Shareable,
     S: WatchedSite + Shareable,
@@ -251,7 +253,7 @@ fn begin_port<
     Ok(port)
 }
 
-/// Returns a copy of a text, if there is one.
+/// Returns a copy of the address of the status port of `run`, if there is one.
 fn owned(alloc: Global, text: Option<&str>) -> Result<Option<String>, AllocError> {
     match text {
         Some(text) => Ok(Some(String::from_str(alloc, text)?)),
@@ -259,7 +261,7 @@ fn owned(alloc: Global, text: Option<&str>) -> Result<Option<String>, AllocError
     }
 }
 
-/// Starts the thread that writes lines for people about the journal.
+/// Starts the thread of `run` that writes lines for people about the journal.
 fn begin_lines<
     R: Eprint + AllocGlobal + Clock + Threads + Wait + Shareable,
     N: ListName + Shareable,
@@ -272,7 +274,7 @@ fn begin_lines<
     }
 }
 
-/// Starts to keep the boots of points, if there is a file for them.
+/// Starts to keep the boots of points over a restart of `run`, if there is a file for them.
 fn keep_boots<R: Clock + Threads + Wait + Shareable>(
     seats: &Arc<Seats<R>, Global>,
     file: Option<BootsFile>,
@@ -286,6 +288,7 @@ fn keep_boots<R: Clock + Threads + Wait + Shareable>(
     }
 }
 
+/// Prints the figures of the site that `run` restored from its journal.
 fn print_resumed<R: Print>(rt: &R, resumed: &Resumed) -> Result<(), ProgramFault> {
     let Resumed {
         points,

@@ -41,7 +41,7 @@ pub fn serve_file<
     print_totals(rt, totals)
 }
 
-/// Serves a site on a listener, and prints where that listens.
+/// Does the job of `serve` on a listener: prints where that listens, and serves the site.
 fn serve_listening<
     R: Print
         + AllocGlobal
@@ -71,6 +71,7 @@ fn serve_listening<
     }
 }
 
+/// Prints the last line of `serve`: the numbers of changes and answers.
 fn print_totals<R: Print>(rt: &R, totals: Totals) -> Result<(), ProgramFault> {
     match println!(rt;
         "done changes {} answers {}",
@@ -81,7 +82,7 @@ fn print_totals<R: Print>(rt: &R, totals: Totals) -> Result<(), ProgramFault> {
     }
 }
 
-/// Returns why the program stops when its server fails.
+/// Returns why the program stops when the server of `run` or `serve` fails.
 pub(crate) fn stop_of(fault: ServeFault) -> ProgramFault {
     match fault {
         ServeFault::Socket => ProgramFault::Socket,

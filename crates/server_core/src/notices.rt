@@ -27,7 +27,8 @@ struct WaitingLines {
 }
 
 impl WaitingLines {
-    /// Keeps a line, unless too many wait or memory runs out. Returns whether it is kept.
+    /// Keeps a line of the server's log for standard error, unless too many wait or memory runs
+    /// out. Returns whether it is kept.
     fn keep(&mut self, line: String) -> bool {
         if self.lines.len() >= MAX_WAITING {
             return false;
@@ -70,7 +71,8 @@ impl Notices {
         }
     }
 
-    /// Adds a line, or counts it as left out if too many wait or memory ran out.
+    /// Adds a line of the server's log to those that wait for standard error. Counts it as left out
+    /// if too many wait or memory ran out.
     fn add<R: Wait>(&self, rt: &R, line: Result<String, AllocError>) {
         let mut waiting = self.waiting.lock(rt);
         let is_kept = match line {
@@ -97,7 +99,7 @@ impl Notices {
         }
     }
 
-    /// Waits until there are lines, and takes them.
+    /// Waits until there are lines of the server's log to write to standard error, and takes them.
     fn take<R: Wait>(&self, rt: &R) -> WaitingLines {
         let waiting = self.waiting.lock(rt);
         let mut waiting = self.more.wait_while(rt, waiting, |waiting| {
@@ -111,7 +113,8 @@ impl Notices {
     }
 }
 
-/// Returns the line of an event: the moment, the name and the text, without control characters.
+/// Returns a line of the server's log about an event: the moment, a name and the text, without
+/// control characters.
 fn line_of(alloc: Global, moment: Instant, who: &str, what: &str) -> Result<String, AllocError> {
     let mut line = String::from_str(alloc, "central: ")?;
     push_instant(&mut line, moment)?;

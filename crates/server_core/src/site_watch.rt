@@ -224,13 +224,15 @@ impl SiteWatch {
     }
 }
 
-/// Returns since when a call to the point at a place waits, if one does.
+/// Returns since when a call to the point at a place of the site waits, if one does, for the status
+/// of the site.
 // The state may have changed since these moments: a call has one only if both have its number.
 fn waiting_at(machine: &Machine, place: usize, moments: &CallMoments) -> Option<Instant> {
     let point = machine.site().point(place)?;
     moments.waiting_since(machine.outbox_of(point.id)?)
 }
 
+/// Returns the count of the points' sessions, or of the operators', in the status of the site.
 fn sessions_of(counts: &mut SiteCounts, is_point: bool) -> &mut u64 {
     if is_point {
         &mut counts.point_sessions
@@ -239,6 +241,7 @@ fn sessions_of(counts: &mut SiteCounts, is_point: bool) -> &mut u64 {
     }
 }
 
+/// Returns the counts in the status of a site before any session: all are zero.
 fn no_counts() -> SiteCounts {
     SiteCounts {
         point_sessions: 0,
@@ -252,7 +255,8 @@ fn no_counts() -> SiteCounts {
     }
 }
 
-/// Returns why a call is rejected, if it is. A status that leaves nothing undone rejects nothing.
+/// Returns why a point's reply rejects a call, if it does. A status that leaves nothing undone
+/// rejects nothing.
 fn rejection_of(sent: Option<SentMoment>, call: u64, rejection: Option<String>) -> Option<String> {
     let reason = rejection?;
     match (sent, ReplyStatus::named(reason.as_str())) {

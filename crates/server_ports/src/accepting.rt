@@ -53,8 +53,8 @@ pub fn accept_connections<R: Wait + Clock>(
     }
 }
 
-/// Takes a seat for a connection. If none is free, the oldest handshake gives way, once it has had
-/// its time.
+/// Takes a seat of the server for a new connection, and returns whether it got one. If none is
+/// free, the oldest handshake gives way, once it has had its time.
 fn take_seat<R: Wait + Clock>(seats: &Seats<R>) -> bool {
     let rt = &seats.rt;
     if seats.free.take(rt) {
@@ -75,8 +75,8 @@ fn take_seat<R: Wait + Clock>(seats: &Seats<R>) -> bool {
     false
 }
 
-/// Accepts the next connection. Returns none after a pause if it couldn't be accepted: a file
-/// descriptor may be free then.
+/// Accepts the server's next connection. Returns none after a pause if it couldn't be accepted: a
+/// file descriptor may be free then.
 fn accept_next<R: Wait + Clock>(
     seats: &Seats<R>,
     listener: &TcpListener,
@@ -97,15 +97,15 @@ fn accept_next<R: Wait + Clock>(
     }
 }
 
-/// Reports that all seats are taken.
+/// Reports in the log that all seats of the server are taken.
 fn say_full<R: Wait + Clock>(seats: &Seats<R>, full: &mut LineThrottle) {
     if full.is_due(&seats.rt) {
         seats.notices.say(&seats.rt, &seats.clock, "seats", FULL);
     }
 }
 
-/// Sends a connection the response that there is no seat, and closes it. It never blocks: the next
-/// connection must not wait for this one.
+/// Sends a new connection the HTTP response that the server has no seat for it, and closes it. It
+/// never blocks: the next connection must not wait for this one.
 fn refuse(stream: TcpStream) {
     let mut stream = stream;
     if stream.set_nonblocking(true).is_err() {

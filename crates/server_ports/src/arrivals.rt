@@ -43,6 +43,8 @@ pub fn note_operator<R: Wait + Clock>(
     say_from(seats, from, what);
 }
 
+/// Appends, for the log, why a connection is refused after its handshake: no such point or no OCPP
+/// 1.6, with its path.
 fn push_unknown(what: &mut String, asked: &ClientRequest) -> Result<(), AllocError> {
     what.push_str(if asked.offers_ocpp {
         "refused, no such point: "
@@ -52,6 +54,8 @@ fn push_unknown(what: &mut String, asked: &ClientRequest) -> Result<(), AllocErr
     push_path(what, asked.path.as_str())
 }
 
+/// Counts a connection that the server refused, for the status of the site, and reports it in the
+/// log.
 fn note_refused<R: Wait + Clock>(
     seats: &Seats<R>,
     from: Option<SocketAddr>,
@@ -61,7 +65,7 @@ fn note_refused<R: Wait + Clock>(
     say_from(seats, from, what);
 }
 
-/// Reports an event of the client with this address.
+/// Reports an event of the connecting client with this address in the log.
 fn say_from<R: Wait + Clock>(
     seats: &Seats<R>,
     from: Option<SocketAddr>,
@@ -78,7 +82,7 @@ fn say_from<R: Wait + Clock>(
     }
 }
 
-/// Returns the text of an address.
+/// Returns the text of a client's address in a line of the log.
 fn name_of(alloc: Global, from: Option<SocketAddr>) -> Result<String, AllocError> {
     match from {
         Some(from) => format!(in alloc; "{from}"),

@@ -18,7 +18,8 @@ const SECONDS_BETWEEN: u64 = 1;
 
 /// A place that keeps the boots of points.
 pub trait BootKeeper {
-    /// Keeps these boots in place of the earlier ones, each at the place of its point in the site.
+    /// Keeps the boots of the site's points over a restart, in place of the earlier ones, each at
+    /// the place of its point in the site.
     fn keep(&self, boots: &[Option<Boot>]) -> io::Result<()>;
 }
 
@@ -36,8 +37,8 @@ pub fn begin_boots<R: Threads + Wait + Clock + Shareable, K: BootKeeper + Send +
     }
 }
 
-/// Keeps the boots of points forever. A failure is reported once until they are kept again, and the
-/// next change is the next try.
+/// Keeps the boots of the site's points over a restart, forever. A failure is reported once until
+/// they are kept again, and the next change is the next try.
 fn keep_boots<R: Wait + Clock, K: BootKeeper>(seats: &Seats<R>, keeper: &K) {
     let mut is_said = false;
     for _change in seats.rt.forever() {
@@ -61,7 +62,7 @@ fn save_boots<R: Wait, K: BootKeeper>(seats: &Seats<R>, keeper: &K) -> io::Resul
     keeper.keep(boots.as_slice())
 }
 
-/// Reports that the boots can't be kept.
+/// Reports in the log that the boots of points can't be kept over a restart.
 fn say_unkept<R: Wait + Clock>(seats: &Seats<R>, error: &io::Error) {
     let what = format!(in seats.alloc; "they can't be kept over a restart: {error}");
     seats

@@ -62,7 +62,8 @@ impl Access<'_> {
     }
 }
 
-/// Returns the status that refuses the peer of a path by the keys, or None if they admit it.
+/// Returns the HTTP status that refuses the peer of a connection's path by the site's keys, or None
+/// if they admit it.
 fn refusal_by_keys(
     alloc: Global,
     keys: &Keys,
@@ -77,7 +78,8 @@ fn refusal_by_keys(
     Ok(refusal_of(&admission))
 }
 
-/// Checks the peer of a path: a point needs its own key, an operator an operator's.
+/// Checks the credentials of a connecting peer against the site's keys: a point needs its own key,
+/// an operator an operator's.
 fn admission_of(
     alloc: Global,
     keys: &Keys,
@@ -94,7 +96,7 @@ fn admission_of(
     }
 }
 
-/// Returns the status for a peer that isn't admitted.
+/// Returns the HTTP status that refuses a connecting peer whom the site's keys don't admit.
 fn refusal_of(admission: &Admission) -> Option<StatusCode>
     ensures { (result ≡ None) ↔ ((user : List ℕ) × IsAdmittedAs admission.now user) }
 {

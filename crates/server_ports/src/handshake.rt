@@ -69,8 +69,8 @@ impl Callback for RequestReader<'_> {
     }
 }
 
-/// Stores the client's request in `asked`, and returns the response that accepts it. If memory runs
-/// out, it stores nothing.
+/// Stores the client's request for a WebSocket in `asked`, and returns the response that accepts
+/// it. If memory runs out, it stores nothing.
 fn accepted(
     alloc: Global,
     request: &Request<()>,
@@ -102,7 +102,7 @@ fn accepted(
     response
 }
 
-/// Returns whether OCPP 1.6 is among the subprotocols of all headers that offer any.
+/// Returns whether OCPP 1.6 is among the WebSocket subprotocols of all headers that offer any.
 fn offers_ocpp(headers: &HeaderMap<HeaderValue>) -> bool {
     headers
         .get_all(SUBPROTOCOLS)
@@ -113,8 +113,8 @@ fn offers_ocpp(headers: &HeaderMap<HeaderValue>) -> bool {
         })
 }
 
-/// Returns the response that refuses a request with this status. If memory runs out for a header,
-/// the response lacks it.
+/// Returns the HTTP response that refuses a request for a WebSocket with this status. If memory
+/// runs out for a header, the response lacks it.
 fn refusal(alloc: Global, status: StatusCode) -> ErrorResponse {
     let mut response = Response::new(alloc, None);
     *response.status_mut() = status;

@@ -54,7 +54,8 @@ pub fn push_path(said: &mut String, path: &str) -> Result<(), AllocError> {
     Ok(())
 }
 
-/// Appends a user, or only its beginning if it is long.
+/// Appends the user of a request for a session to its line in the log, or only the beginning if it
+/// is long.
 // A client may send its key in the place of its user, and keys must not get into the log.
 fn push_user(said: &mut String, user: &Option<String>) -> Result<(), AllocError> {
     let Some(user) = user else {
@@ -70,7 +71,8 @@ fn push_user(said: &mut String, user: &Option<String>) -> Result<(), AllocError>
     Ok(())
 }
 
-/// Returns whether a text has the length of a key and only hexadecimal digits.
+/// Returns whether the user in a request has the length of a key and only hexadecimal digits, so
+/// that it isn't logged.
 fn is_like_a_key(text: &str) -> bool {
     text.len() == KEY_DIGITS && text.bytes().all(|byte| byte.is_ascii_hexdigit())
 }

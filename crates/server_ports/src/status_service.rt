@@ -54,7 +54,8 @@ impl<R: Wait + Drop, S: WatchedSite + Drop> Service for StatusService<'_, R, S> 
 }
 
 impl<R: Wait + Drop, S: WatchedSite + Drop> StatusService<'_, R, S> {
-    /// Returns whether a request is for this machine, or true if the port is open to others.
+    /// Returns whether a request to the status port is for this machine, or true if the port is
+    /// open to others.
     fn is_for_us(&self, request: &Request<Bytes>) -> bool {
         match &self.port.address {
             Some(address) => is_for_this_machine(request.headers(), address.as_str()),
@@ -62,7 +63,7 @@ impl<R: Wait + Drop, S: WatchedSite + Drop> StatusService<'_, R, S> {
         }
     }
 
-    /// Returns the answer to a request.
+    /// Returns the status port's answer to a request.
     fn answer(&self, request: &Request<Bytes>) -> Result<StatusAnswer, AllocError> {
         let alloc = self.port.alloc;
         let Some(path) = status_path(request.uri().path()) else {
@@ -75,7 +76,7 @@ impl<R: Wait + Drop, S: WatchedSite + Drop> StatusService<'_, R, S> {
     }
 }
 
-/// Fills in the response with an answer.
+/// Fills in the HTTP response with an answer of the status port.
 fn fill(alloc: Global, response: &mut Response, answer: StatusAnswer) -> Result<(), AllocError> {
     let StatusAnswer { status, kind, body } = answer;
     if let Ok(status) = StatusCode::from_u16(status) {

@@ -15,7 +15,7 @@ use std::sync::ledger::Ledger;
 
 /// A site that a status port reports.
 pub trait WatchedSite {
-    /// Returns the answer at a path of the status port.
+    /// Returns the status port's answer at a path.
     fn answer(&self, path: StatusPath<'_>) -> Result<StatusAnswer, AllocError>;
 }
 
@@ -26,13 +26,13 @@ impl<C: Ledger, A: Ledger, R: Wait + Clock, J: WatchedJournal, N: ListName> Watc
         if let StatusPath::Health = path {
             return health_answer(self.seats.alloc, Health::of(Some(journal.state)));
         }
-        answer_by(self, journal, path)
+        state_answer(self, journal, path)
     }
 }
 
-/// Returns the answer at a path that reports the state of the site. The book is locked while it is
-/// copied, and not while a text is made.
-fn answer_by<C: Ledger, A: Ledger, R: Wait + Clock, J, N: ListName>(
+/// Returns the status port's answer at a path that reports the state of the site. The book is
+/// locked while it is copied, and not while a text is made.
+fn state_answer<C: Ledger, A: Ledger, R: Wait + Clock, J, N: ListName>(
     site: &SeatContext<C, A, R, J, N>,
     journal: JournalReport,
     path: StatusPath<'_>,

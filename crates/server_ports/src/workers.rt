@@ -44,7 +44,8 @@ impl JobSenders {
 
 /// A site whose jobs workers compile.
 pub trait CompiledSite {
-    /// Compiles the jobs of a queue with this number of workers, until the last sender is dropped.
+    /// Compiles the schedules that the jobs of a queue request, with this number of workers, until
+    /// the last sender is dropped.
     fn run_workers(&self, workers: usize, queue: &Receiver<Job>) -> usize
         requires { 1 ≤ workers };
 }
@@ -82,7 +83,8 @@ pub fn begin_workers<R: Threads, S: CompiledSite + Shareable>(
     })
 }
 
-/// Starts `workers` threads on one queue of at most `most_waiting` jobs. Returns its sender.
+/// Starts `workers` threads, which compile schedules for sessions, on one queue of at most
+/// `most_waiting` jobs. Returns its sender.
 fn begin_pool<R: Threads, S: CompiledSite + Shareable>(
     rt: &R,
     alloc: Global,

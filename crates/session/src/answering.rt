@@ -9,7 +9,7 @@ use messages::{ActionKind, Response};
 use profile::Unit;
 use texts::{refused_response, reply_response, schedule_response};
 
-/// Returns the outcome of a session's step as a response to a CALL of this kind.
+/// Returns the answer to a session's CALL of this kind, by the outcome of its step on the book.
 pub(crate) fn response_of_outcome(
     unit: Unit,
     kind: ActionKind,

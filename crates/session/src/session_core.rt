@@ -61,6 +61,8 @@ impl SessionCore {
         SessionCore::new(alloc, id, peer)
     }
 
+    /// Makes the session of this peer, an operator or the point itself, for the point of this
+    /// identity.
     fn new(alloc: Global, id: &str, peer: Peer) -> Result<SessionCore, AllocError>
         ensures { IfOk result (λ core. core ≡ record { point = id.now; peer = peer }) }
     {
@@ -153,7 +155,8 @@ impl SessionCore {
         }
     }
 
-    /// Returns the unit in which schedules are answered. A point asks for no schedule.
+    /// Returns the unit in which the session answers requests for schedules. A point asks for no
+    /// schedule.
     fn unit(&self) -> Unit
         ensures { result ≡ answer_unit self.now.peer }
     {
@@ -163,7 +166,7 @@ impl SessionCore {
         }
     }
 
-    /// Returns the text of a response to the CALL of this id, if there is one.
+    /// Returns the text of a session's answer to the CALL of this id, if there is one.
     fn response_text(
         &self,
         id: &MessageId,
@@ -183,7 +186,7 @@ impl SessionCore {
     }
 }
 
-/// Returns the text of a response to the CALL of this id.
+/// Returns the text of a session's answer to the CALL of this id.
 fn text_of_response(alloc: Global, id: &str, response: &Response) -> Result<String, AllocError>
     ensures { IfOk result (λ text. string_bytes text ≡ response_text id.now response.now) }
 {

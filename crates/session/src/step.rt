@@ -43,7 +43,8 @@ pub fn perform<C: Ledger, A: Ledger, N: ListName>(
     }
 }
 
-/// Keeps a request for a schedule, which has seen the changes that its session has.
+/// Keeps a session's request for a schedule on the book. The request has seen the changes that its
+/// session has.
 fn perform_take<C: Ledger, A: Ledger, N: ListName>(
     book: &mut Book<C, A, N>,
     pass: &mut Pass<C, A>,
@@ -66,12 +67,14 @@ fn perform_take<C: Ledger, A: Ledger, N: ListName>(
     }
 }
 
+/// Returns the outcome of a session's step that was made on the book, with its reply.
 fn made(reply: Reply) -> Performed
     ensures { result ≡ Performed.Outcome (Outcome.Made reply) }
 {
     Performed::Outcome(Outcome::Made(reply))
 }
 
+/// Returns the outcome of a session's step that the book refused.
 fn refused(refusal: Refusal) -> Performed
     ensures { result ≡ Performed.Outcome (Outcome.Refused refusal) }
 {

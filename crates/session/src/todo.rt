@@ -44,7 +44,8 @@ impl Model for Todo {
 }
 
 impl Todo {
-    /// Returns the work for the request of a message.
+    /// Returns the work of a session for the request of a message: at most one step, and the
+    /// answer.
     #[tactic(auto, using(crate::proofs::TodoLemmas::of_call))]
     pub(crate) fn asked(peer: Peer, asked: Asked) -> Todo
         requires { AsksByCall asked }
@@ -70,7 +71,7 @@ impl Todo {
         }
     }
 
-    /// Returns the work that answers the CALL of this id with `OutOfMemory`.
+    /// Returns the work of a session that answers the CALL of this id with `OutOfMemory`.
     pub(crate) fn without_memory(id: MessageId) -> Todo
         ensures { result ≡ without_memory id }
     {
@@ -80,8 +81,8 @@ impl Todo {
         })
     }
 
-    /// Returns the work if the step can't be noted: the CALL is answered with `OutOfMemory`.
-    /// Returns none if no CALL asks for a step.
+    /// Returns the work of a session if the step of its message can't be noted in the journal: the
+    /// CALL is answered with `OutOfMemory`. Returns none if no CALL asks for a step.
     pub(crate) fn into_unnoted(self) -> Option<Todo>
         ensures { IfSome result (IsUnnoted self.owed) }
     {
@@ -91,6 +92,8 @@ impl Todo {
         }
     }
 
+    /// Returns the work of a session for a message without a step: only the answer that its sender
+    /// is owed.
     fn without_step(owed: Owed) -> Todo
         ensures { result ≡ record { step = None; owed = owed } }
     {
@@ -106,7 +109,8 @@ impl Todo {
         self.step.take()
     }
 
-    /// Returns whether this answers a BootNotification.
+    /// Returns whether the work for a session's message is to answer a BootNotification, for the
+    /// session's observer.
     pub(crate) fn is_of_boot(&self) -> bool {
         matches!(
             self.owed,
@@ -125,7 +129,8 @@ impl Todo {
     }
 }
 
-/// Returns the step for a point's reply to the call of this number, if the point has a link.
+/// Returns the step of a session that confirms the call of this number, after the point's reply to
+/// it, if the point has a link.
 fn confirming(peer: Peer, point: PointId, call: u64, accepted: bool) -> Option<Step>
     ensures step { result ≡ confirming peer point call accepted }
     ensures of_text { IfSome result IsOfText }

@@ -26,7 +26,8 @@ pub fn ending_text(alloc: Global, trace: &Trace<'_>) -> Result<String, AllocErro
     page.finish()
 }
 
-/// Appends a sentence for each held request.
+/// Appends `check`'s sentence for each request for a schedule that the script held and never
+/// released.
 fn push_held(page: &mut Page, trace: &Trace<'_>) {
     for held in trace.playing().held() {
         let number = held.number;
@@ -44,11 +45,12 @@ fn push_held(page: &mut Page, trace: &Trace<'_>) {
     }
 }
 
+/// Returns the line of a script that held a request of this number, if there is one.
 fn line_of_request(lines: &[HeldLine], request: u64) -> Option<&HeldLine> {
     lines.iter().find(|line| line.request == request)
 }
 
-/// Appends a sentence for each call that the point rejected.
+/// Appends `check`'s sentence for each call of a script that the charge point rejected.
 fn push_rejected(page: &mut Page, id: &str, calls: &PointCalls) {
     for rejected in &calls.rejected {
         let line = rejected.line;
@@ -63,7 +65,7 @@ fn push_rejected(page: &mut Page, id: &str, calls: &PointCalls) {
     }
 }
 
-/// Appends a sentence for each start that the point accepted and never made.
+/// Appends `check`'s sentence for each remote start that the charge point accepted and never made.
 fn push_starts(page: &mut Page, id: &str, machine: &Machine) {
     let Some(outbox) = machine.outbox_of(id) else {
         return;
@@ -82,7 +84,7 @@ fn push_starts(page: &mut Page, id: &str, machine: &Machine) {
     }
 }
 
-/// Appends a sentence if a call is in flight.
+/// Appends `check`'s sentence if a call to the charge point is in flight at the end of a script.
 fn push_unanswered(page: &mut Page, id: &str, calls: &PointCalls) {
     if let Some(call) = &calls.in_flight {
         let number = call.number;
@@ -95,7 +97,7 @@ fn push_unanswered(page: &mut Page, id: &str, calls: &PointCalls) {
     }
 }
 
-/// Appends a sentence if calls never went out.
+/// Appends `check`'s sentence if calls to the charge point never went out in a script.
 fn push_waiting(page: &mut Page, id: &str, calls: &PointCalls) {
     // No line added call 0, so a point for which only that waits has no sentence.
     let Some(line) = first_line(&calls.waiting) else {
@@ -110,7 +112,7 @@ fn push_waiting(page: &mut Page, id: &str, calls: &PointCalls) {
     write!(page, " never went out, waiting since line {line}: {why}\n");
 }
 
-/// Returns the first line that added one of these calls.
+/// Returns the first line of a script that added one of these calls that never went out.
 fn first_line(waiting: &[UnsentCall]) -> Option<u64> {
     waiting.iter().find_map(|added| added.line)
 }

@@ -32,6 +32,8 @@ pub fn standing_json(alloc: Global, standing: &Standing<'_>) -> Result<String, A
     page.finish()
 }
 
+/// Appends the state of a charge point to `show`'s JSON: its profiles, transactions, audit, waiting
+/// starts and calls.
 fn push_point(page: &mut JsonPage, machine: &Machine, id: &str, rejected: &[RejectedCall]) {
     let (Some(book), Some(outbox)) = (machine.book_of(id), machine.outbox_of(id)) else {
         return;
@@ -47,7 +49,7 @@ fn push_point(page: &mut JsonPage, machine: &Machine, id: &str, rejected: &[Reje
     page.end_object();
 }
 
-/// Appends the profiles of a point.
+/// Appends the charging profiles of a point to `show`'s JSON.
 fn push_profiles(page: &mut JsonPage, book: &PointBook) {
     page.array("profiles");
     for row in book.view().rows {
@@ -56,6 +58,8 @@ fn push_profiles(page: &mut JsonPage, book: &PointBook) {
     page.end_array();
 }
 
+/// Appends an installed charging profile to `show`'s JSON, with its connector and the moment of the
+/// install.
 fn push_row(page: &mut JsonPage, row: &Row) {
     let profile = profile_json(page.allocator(), &row.profile);
     page.begin_object();
@@ -65,13 +69,14 @@ fn push_row(page: &mut JsonPage, row: &Row) {
     page.end_object();
 }
 
+/// Returns a charging profile as OCPP's JSON, for `show`'s JSON.
 fn profile_json(alloc: Global, profile: &Profile) -> Result<String, AllocError> {
     let mut text = String::new(alloc);
     push_profile(&mut text, profile)?;
     Ok(text)
 }
 
-/// Appends the active transactions of a point.
+/// Appends the active transactions of a point to `show`'s JSON.
 fn push_transactions(page: &mut JsonPage, book: &PointBook) {
     page.array("transactions");
     for before in 0..book.connectors() {
@@ -83,6 +88,7 @@ fn push_transactions(page: &mut JsonPage, book: &PointBook) {
     page.end_array();
 }
 
+/// Appends the active transaction at a connector to `show`'s JSON.
 fn push_transaction(page: &mut JsonPage, connector: u32, active: &Transaction) {
     page.begin_object();
     page.number("connectorId", u64::from(connector));
@@ -93,7 +99,7 @@ fn push_transaction(page: &mut JsonPage, connector: u32, active: &Transaction) {
     page.end_object();
 }
 
-/// Appends the last audit of a point and its outcome, or null if there was none.
+/// Appends the last audit of a point and its outcome to `show`'s JSON, or null if there was none.
 fn push_audit(page: &mut JsonPage, audit: Option<&PointAudit>) {
     let Some(audit) = audit else {
         return page.null("audit");
@@ -106,7 +112,7 @@ fn push_audit(page: &mut JsonPage, audit: Option<&PointAudit>) {
     page.end_object();
 }
 
-/// Appends the remote starts of a point that wait.
+/// Appends the remote starts of a point that wait to `show`'s JSON.
 fn push_starts(page: &mut JsonPage, outbox: &Outbox, starts: &[WaitingStart]) {
     page.array("waitingStarts");
     for start in starts {
@@ -115,7 +121,7 @@ fn push_starts(page: &mut JsonPage, outbox: &Outbox, starts: &[WaitingStart]) {
     page.end_array();
 }
 
-/// Appends a waiting start, with the progress of its call.
+/// Appends a waiting remote start to `show`'s JSON, with the progress of its call.
 fn push_start(page: &mut JsonPage, outbox: &Outbox, start: &WaitingStart) {
     page.begin_object();
     page.number("connectorId", u64::from(start.connector));
@@ -129,8 +135,8 @@ fn push_start(page: &mut JsonPage, outbox: &Outbox, start: &WaitingStart) {
     page.end_object();
 }
 
-/// Appends whether a point is linked, how many calls it confirmed, and the calls that aren't
-/// confirmed.
+/// Appends to `show`'s JSON whether a point is linked, how many calls it confirmed, and the calls
+/// that aren't confirmed.
 fn push_calls(page: &mut JsonPage, outbox: &Outbox) {
     page.flag("linked", outbox.link().is_some());
     page.number("confirmed", outbox.first_number());
@@ -146,7 +152,7 @@ fn push_calls(page: &mut JsonPage, outbox: &Outbox) {
     page.end_array();
 }
 
-/// Appends an unconfirmed call.
+/// Appends an unconfirmed call to a point to `show`'s JSON, with the fields of its payload.
 fn push_call(page: &mut JsonPage, waiting: &WaitingCall) {
     let fields = payload_fields(page.allocator(), &waiting.call.body);
     page.begin_object();
@@ -157,13 +163,14 @@ fn push_call(page: &mut JsonPage, waiting: &WaitingCall) {
     page.end_object();
 }
 
+/// Returns the fields of a call's payload as JSON with commas between them, for `show`'s JSON.
 fn payload_fields(alloc: Global, body: &CallBody) -> Result<String, AllocError> {
     let mut fields = String::new(alloc);
     push_payload_fields(&mut fields, body)?;
     Ok(fields)
 }
 
-/// Appends the calls that the point replied to without doing them.
+/// Appends to `show`'s JSON the calls that the point replied to without doing them.
 fn push_rejected(page: &mut JsonPage, rejected: &[RejectedCall]) {
     page.array("rejected");
     for answered in rejected {
@@ -178,7 +185,7 @@ fn push_rejected(page: &mut JsonPage, rejected: &[RejectedCall]) {
     page.end_array();
 }
 
-/// Appends the held requests.
+/// Appends the held requests for schedules to `show`'s JSON.
 fn push_held(page: &mut JsonPage, machine: &Machine, requests: &[Held]) {
     page.array("held");
     for held in requests {
@@ -187,6 +194,7 @@ fn push_held(page: &mut JsonPage, machine: &Machine, requests: &[Held]) {
     page.end_array();
 }
 
+/// Appends a held request for a schedule to `show`'s JSON.
 fn push_request(page: &mut JsonPage, machine: &Machine, held: &Held) {
     page.begin_object();
     page.number("number", held.number);

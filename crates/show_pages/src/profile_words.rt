@@ -33,8 +33,9 @@ pub fn from_text(alloc: Global, row: &Row, started: Option<Instant>) -> Result<S
     }
 }
 
-/// Returns the start of a row's schedule: its startSchedule, if it has one. Otherwise it is the
-/// install for a ChargePointMaxProfile, and the start of a transaction for any other.
+/// Returns the start of a profile's schedule for `show`'s table of profiles: its startSchedule, if
+/// it has one. Otherwise it is the install for a ChargePointMaxProfile, and the start of a
+/// transaction for any other.
 fn start_of(row: &Row, started: Option<Instant>) -> Option<Instant> {
     match (row.profile.schedule.start, row.profile.purpose) {
         (Some(start), _) => Some(start),
@@ -58,7 +59,8 @@ pub fn until_text(
     }
 }
 
-/// Returns the end of a row's schedule, if it has one within the calendar.
+/// Returns the end of a profile's schedule for `show`'s table of profiles, if it has one within the
+/// calendar.
 fn end_of(row: &Row, started: Option<Instant>) -> Option<Instant> {
     // The schedule begins again with each recurrence, so its duration doesn't end it.
     if recurrency_name(row.profile.kind).is_some() {

@@ -20,7 +20,8 @@ pub fn rejection_in(
     }
 }
 
-/// Returns the status of a reply that leaves a call of this action undone.
+/// Returns the status in a charge point's reply that leaves a call of this action undone, or `None`
+/// if the call was done.
 fn status_of_rejection(
     alloc: Global,
     action: ActionKind,

@@ -31,14 +31,15 @@ pub(crate) struct RowDifference {
 }
 
 impl PointRows {
-    /// Returns no profiles, as before the first line.
+    /// Returns a charge point's recorded profiles before the first line of a script: none.
     pub(crate) fn new(alloc: Global) -> PointRows {
         PointRows {
             named: Vec::new(alloc),
         }
     }
 
-    /// Records the rows that the point has now. Returns the difference, if there is one.
+    /// Records the profiles that the charge point has after a line of a script. Returns which came
+    /// and which are gone, if any.
     pub(crate) fn follow(
         &mut self,
         alloc: Global,
@@ -66,7 +67,8 @@ impl PointRows {
         Ok(Some(RowDifference { came, gone }))
     }
 
-    /// Returns whether these rows have the names of the recorded ones, in their order.
+    /// Returns whether a charge point's profiles have the names that were recorded after an earlier
+    /// line of the script, in their order.
     fn are(&self, rows: &[Row]) -> bool {
         self.named.len() == rows.len()
             && self
@@ -77,7 +79,8 @@ impl PointRows {
     }
 }
 
-/// Returns the id, the purpose, the stack level and the connector of a row's profile.
+/// Returns the values that name a charging profile of a point: its id, purpose, stack level and
+/// connector.
 fn name_of(row: &Row) -> PrevailingProfile {
     PrevailingProfile {
         id: row.profile.id,

@@ -60,7 +60,8 @@ pub fn standing_text(alloc: Global, standing: &Standing<'_>) -> Result<String, A
     page.finish()
 }
 
-/// Appends the state of a point.
+/// Appends the state of a charge point to `show`'s text page: its profiles, transactions, audit,
+/// waiting starts and calls.
 fn push_point(page: &mut Page, machine: &Machine, id: &str, rejected: &[RejectedCall]) {
     let (Some(book), Some(outbox)) = (machine.book_of(id), machine.outbox_of(id)) else {
         return;
@@ -84,6 +85,8 @@ fn push_point(page: &mut Page, machine: &Machine, id: &str, rejected: &[Rejected
     push_rejected(page, rejected);
 }
 
+/// Returns whether no connector of the charge point has an active transaction, for `show`'s text
+/// page.
 fn has_no_transaction(book: &PointBook) -> bool {
     for before in 0..book.connectors() {
         if book.transaction_at(before + 1).is_some() {
@@ -93,7 +96,7 @@ fn has_no_transaction(book: &PointBook) -> bool {
     true
 }
 
-/// Appends the table of a point's active transactions, if there are any.
+/// Appends the table of a point's active transactions to `show`'s text page, or that there is none.
 fn push_transactions(page: &mut Page, book: &PointBook) {
     if has_no_transaction(book) {
         return page.push_str("  no transaction\n");
@@ -114,7 +117,7 @@ fn push_transactions(page: &mut Page, book: &PointBook) {
     table.push_to(page, 4);
 }
 
-/// Appends the point's last audit, and its outcome.
+/// Appends the point's last audit and its outcome to `show`'s text page.
 fn push_audit(page: &mut Page, audit: Option<&PointAudit>) {
     let Some(audit) = audit else {
         return page.push_str("  no audit\n");
@@ -129,7 +132,7 @@ fn push_audit(page: &mut Page, audit: Option<&PointAudit>) {
     );
 }
 
-/// Appends the remote starts that wait, if there are any.
+/// Appends the table of a point's remote starts that wait to `show`'s text page, if there are any.
 fn push_starts(page: &mut Page, outbox: &Outbox, starts: &[WaitingStart]) {
     if starts.is_empty() {
         return;
@@ -150,7 +153,8 @@ fn push_starts(page: &mut Page, outbox: &Outbox, starts: &[WaitingStart]) {
     table.push_to(page, 4);
 }
 
-/// Appends the numbers of a point's calls, and a table of the unconfirmed ones.
+/// Appends the numbers of a point's calls to `show`'s text page, and a table of the unconfirmed
+/// ones.
 fn push_calls(page: &mut Page, outbox: &Outbox, calls: &[WaitingCall]) {
     page.push_str("  ");
     push_call_counts(page, outbox, calls.len());
@@ -170,7 +174,8 @@ fn push_calls(page: &mut Page, outbox: &Outbox, calls: &[WaitingCall]) {
     table.push_to(page, 4);
 }
 
-/// Appends the calls that the point replied to without doing them, if there are any.
+/// Appends to `show`'s text page the calls that the point replied to without doing them, if there
+/// are any.
 fn push_rejected(page: &mut Page, rejected: &[RejectedCall]) {
     if rejected.is_empty() {
         return;
@@ -187,8 +192,8 @@ fn push_rejected(page: &mut Page, rejected: &[RejectedCall]) {
     table.push_to(page, 4);
 }
 
-/// Appends the single line of a point with neither profiles nor transactions, and at most one
-/// waiting call.
+/// Appends to `show`'s text page the single line of a point with neither profiles nor transactions,
+/// and at most one waiting call.
 fn push_empty_point(page: &mut Page, id: &str, outbox: &Outbox, calls: &[WaitingCall]) {
     write!(page, "{id}: no profile, no transaction; ");
     push_call_counts(page, outbox, calls.len());
@@ -201,7 +206,7 @@ fn push_empty_point(page: &mut Page, id: &str, outbox: &Outbox, calls: &[Waiting
     page.push('\n');
 }
 
-/// Appends the profiles of a point.
+/// Appends the table of a point's charging profiles to `show`'s text page, or that there is none.
 fn push_profiles(page: &mut Page, book: &PointBook) {
     let rows = book.view().rows;
     if rows.is_empty() {
@@ -215,7 +220,7 @@ fn push_profiles(page: &mut Page, book: &PointBook) {
     table.push_to(page, 4);
 }
 
-/// Appends the row of a profile of a point.
+/// Appends the row of a charging profile to the table of a point's profiles in `show`'s text page.
 fn push_profile(table: &mut Table, alloc: Global, book: &PointBook, row: &Row) {
     let profile = &row.profile;
     table.begin_row();
@@ -229,12 +234,14 @@ fn push_profile(table: &mut Table, alloc: Global, book: &PointBook, row: &Row) {
     table.made_cell(periods_text(alloc, profile));
 }
 
-/// Returns the start of the active transaction at the connector of a row, if there is one.
+/// Returns the start of the active transaction at the connector of a profile's row in `show`'s text
+/// page, if there is one.
 fn started_at(book: &PointBook, row: &Row) -> Option<Instant> {
     book.view().active_since(row.connector as usize)
 }
 
-/// Appends the numbers of calls that are confirmed, in flight and waiting.
+/// Appends to `show`'s text page the numbers of a point's calls that are confirmed, in flight and
+/// waiting.
 fn push_call_counts(page: &mut Page, outbox: &Outbox, calls: usize) {
     let confirmed = outbox.first_number();
     let in_flight = usize::from(outbox.is_in_flight());
@@ -249,15 +256,15 @@ fn push_call_counts(page: &mut Page, outbox: &Outbox, calls: usize) {
     );
 }
 
-/// Returns the subject of a call: its profiles, the schedule that it requests, or the idTag to
-/// start.
+/// Returns the subject of a call in `show`'s text page: its profiles, the schedule that it
+/// requests, or the idTag to start.
 fn subject_text(alloc: Global, body: &CallBody) -> Result<String, AllocError> {
     let mut out = String::new(alloc);
     push_subject(&mut out, body)?;
     Ok(out)
 }
 
-/// Appends the held requests, if there are any.
+/// Appends the table of the held requests for schedules to `show`'s text page, if there are any.
 fn push_held(page: &mut Page, machine: &Machine, requests: &[Held]) {
     if requests.is_empty() {
         return;

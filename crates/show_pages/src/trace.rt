@@ -182,7 +182,8 @@ impl<'a> Trace<'a> {
         Ok(())
     }
 
-    /// Records the effect of a message on its point.
+    /// Records the effect of a script's message on its charge point: the change, the calls that
+    /// went out, and the requests that were held.
     fn follow(&mut self, sent: &SentText<'_>, played: &PlayedLine<'a>) -> Result<(), AllocError> {
         self.follow_change(sent, played)?;
         for line in &played.outcome.printed {
@@ -204,7 +205,8 @@ impl<'a> Trace<'a> {
         Ok(())
     }
 
-    /// Records the change that a message made to its point.
+    /// Records the change that a message of a script made to the calls and the profiles of its
+    /// charge point.
     fn follow_change(
         &mut self,
         sent: &SentText<'_>,
@@ -233,7 +235,8 @@ impl<'a> Trace<'a> {
         self.follow_rows(place, sent, played.number)
     }
 
-    /// Records which profiles came to the point at a place, and which are gone.
+    /// Records which charging profiles a line of a script brought to the point at a place, and
+    /// which are gone.
     fn follow_rows(
         &mut self,
         place: usize,
@@ -255,7 +258,7 @@ impl<'a> Trace<'a> {
         Ok(())
     }
 
-    /// Keeps a line that printed something.
+    /// Keeps a line of a script that printed something, for the table of `check --trace`.
     fn keep_line(&mut self, played: PlayedLine<'a>) -> Result<(), AllocError> {
         let moment = moment_word(self.alloc, &played)?;
         let (point, text) = self.words_of(&played)?;
@@ -269,7 +272,8 @@ impl<'a> Trace<'a> {
         Ok(())
     }
 
-    /// Returns the point that a line is from or for, and its message.
+    /// Returns the charge point that a line of a script is from or for, and its message, for the
+    /// table of `check --trace`.
     fn words_of(&self, played: &PlayedLine<'a>) -> Result<(Option<String>, String), AllocError> {
         let alloc = self.alloc;
         match &played.said {
@@ -293,7 +297,7 @@ impl<'a> Trace<'a> {
         }
     }
 
-    /// Returns the identity of the point that a request was held for.
+    /// Returns the identity of the charge point for which a line of a script held a request.
     fn point_of_request(&self, request: u64) -> Result<Option<String>, AllocError> {
         for held in &self.held {
             if held.request == request {
@@ -304,7 +308,8 @@ impl<'a> Trace<'a> {
     }
 }
 
-/// Returns the word for the moment of a line, if the line can be read.
+/// Returns the word for the moment of a script's line in the table of `check --trace`, if the line
+/// can be read.
 fn moment_word(alloc: Global, played: &PlayedLine<'_>) -> Result<Option<String>, AllocError> {
     if !matches!(played.said, Some(Ok(_))) {
         return Ok(None);
@@ -316,7 +321,8 @@ fn moment_word(alloc: Global, played: &PlayedLine<'_>) -> Result<Option<String>,
     }
 }
 
-/// Returns the point of a line with a message, and that message.
+/// Returns the charge point of a script's line with a message, and that message, for the table of
+/// `check --trace`.
 fn text_words(
     alloc: Global,
     word: &str,
@@ -343,7 +349,7 @@ pub fn trace_text(alloc: Global, trace: &Trace<'_>) -> Result<String, AllocError
     page.finish()
 }
 
-/// Returns a text, or `-` if there is none.
+/// Returns the text of a cell in the table of `check --trace`, or `-` if there is none.
 fn shown(text: &Option<String>) -> &str {
     match text {
         Some(text) => text.as_str(),

@@ -59,7 +59,8 @@ enum Turn {
     End(Ended),
 }
 
-/// Reads a WebSocket message, and answers it if it is a text message.
+/// Reads the next WebSocket message to a simulated charge point, and answers it if it is a text
+/// message.
 fn take_message<S: Read + Write + Drop, K: MaskKeys + Drop, M: Moments>(
     alloc: Global,
     socket: &mut WebSocket<S, K>,
@@ -78,7 +79,7 @@ fn take_message<S: Read + Write + Drop, K: MaskKeys + Drop, M: Moments>(
     }
 }
 
-/// Answers a message, and sends the next call.
+/// Answers a message to a simulated charge point, and sends the point's next call.
 fn take_text<S: Read + Write + Drop, K: MaskKeys + Drop>(
     alloc: Global,
     socket: &mut WebSocket<S, K>,
@@ -96,7 +97,7 @@ fn take_text<S: Read + Write + Drop, K: MaskKeys + Drop>(
     }
 }
 
-/// Sends the next call, if one may go.
+/// Sends the next call of a simulated charge point, if one may go.
 fn send_next<S: Read + Write + Drop, K: MaskKeys + Drop>(
     alloc: Global,
     socket: &mut WebSocket<S, K>,
@@ -114,6 +115,7 @@ fn send_next<S: Read + Write + Drop, K: MaskKeys + Drop>(
     }
 }
 
+/// Sends an OCPP message of a simulated charge point over its WebSocket.
 fn send<S: Read + Write + Drop, K: MaskKeys + Drop>(
     alloc: Global,
     socket: &mut WebSocket<S, K>,
@@ -122,7 +124,7 @@ fn send<S: Read + Write + Drop, K: MaskKeys + Drop>(
     socket.send(Message::text(alloc, text)?)
 }
 
-/// Closes the connection, and waits for the other side to close it.
+/// Closes the connection of a simulated charge point, and waits for the central system to close it.
 fn close<S: Read + Write + Drop, K: MaskKeys + Drop, R: Wait>(
     rt: &R,
     socket: &mut WebSocket<S, K>,
@@ -139,6 +141,7 @@ fn close<S: Read + Write + Drop, K: MaskKeys + Drop, R: Wait>(
     unreachable!()
 }
 
+/// Returns how the connection of a simulated charge point ended, by the error of its WebSocket.
 fn ended_by(error: Error) -> Ended {
     match error {
         Error::ConnectionClosed | Error::AlreadyClosed => Ended::Closed,

@@ -53,7 +53,8 @@ pub fn answer_action(
     }
 }
 
-/// Returns the row of the profile that these fields make, installed now.
+/// Returns the row of the charging profile that these fields make, installed now in a simulated
+/// point's book.
 fn row_made(now: Instant, connector: u32, parts: ProfileParts) -> Result<Row, Refusal>
     ensures { result ≡ row_made now connector (profile_of_parts parts) }
 {
@@ -67,7 +68,8 @@ fn row_made(now: Instant, connector: u32, parts: ProfileParts) -> Result<Row, Re
     }
 }
 
-/// Installs a profile (chapter 5.16), or answers with the refusal.
+/// Installs a charging profile in a simulated point's book (chapter 5.16). Returns the answer to
+/// its SetChargingProfile.
 fn install(
     answering: AnswerContext,
     book: &mut OwnBook,
@@ -92,7 +94,8 @@ fn install(
     }
 }
 
-/// Returns the refusal of a row, apart from a lack of memory.
+/// Returns why a simulated point refuses the charging profile of a row, apart from a lack of
+/// memory.
 fn row_refusal(unit: Unit, book: &PointBook, row: &Row) -> Option<Refusal>
     ensures refusal { result ≡ row_refusal unit book.now row.now }
     ensures has_connector { result ≡ None → row.now.connector ≤ length book.now.ceilings }
@@ -103,7 +106,8 @@ fn row_refusal(unit: Unit, book: &PointBook, row: &Row) -> Option<Refusal>
     book.install_refusal(row)
 }
 
-/// Returns why a profile isn't allowed where it is sent.
+/// Returns why a charging profile isn't allowed at its connector of a simulated point, or in its
+/// unit.
 fn place_refusal(unit: Unit, book: &PointBook, row: &Row) -> Option<Refusal>
     ensures refusal { result ≡ place_refusal unit book.now row.now }
     ensures has_connector { result ≡ None → row.now.connector ≤ length book.now.ceilings }
@@ -119,7 +123,8 @@ fn place_refusal(unit: Unit, book: &PointBook, row: &Row) -> Option<Refusal>
     }
 }
 
-/// Clears profiles (chapter 5.5).
+/// Clears charging profiles in a simulated point's book (chapter 5.5). Returns the answer to its
+/// ClearChargingProfile.
 fn clear(
     alloc: Global,
     book: &mut OwnBook,
@@ -140,7 +145,8 @@ fn clear(
     Ok(text)
 }
 
-/// Composes the schedule of the point's profiles (chapter 5.7), or returns the refusal.
+/// Composes the schedule of a simulated point's profiles for GetCompositeSchedule (chapter 5.7), or
+/// returns the refusal.
 fn compose(
     answering: AnswerContext,
     book: &PointBook,
@@ -161,7 +167,8 @@ fn compose(
     }
 }
 
-/// Returns the request for a schedule from this moment on, or its refusal.
+/// Returns the request for a composite schedule of a simulated point from this moment on, or its
+/// refusal.
 fn ask_at(
     unit: Unit,
     book: &PointBook,
@@ -180,6 +187,8 @@ fn ask_at(
     Ask::try_new(request.connector, now, request.duration)
 }
 
+/// Returns whether a GetCompositeSchedule asks for a unit other than that of the simulated point's
+/// limits.
 fn is_other_unit(asked: Option<Unit>, unit: Unit) -> bool
     ensures { result ≡ is_other_unit asked unit }
 {
@@ -189,7 +198,7 @@ fn is_other_unit(asked: Option<Unit>, unit: Unit) -> bool
     }
 }
 
-/// Returns the exact schedule of a request, or that it is too long.
+/// Returns the exact composite schedule of a request to a simulated point, or that it is too long.
 fn compile(alloc: Global, unit: Unit, book: &PointBook, ask: Ask) -> Result<Response, AllocError>
     requires has_connector { ask.connector ≤ length book.now.ceilings }
     ensures { IfOk result (λ response. response ≡ schedule_of_ask unit book.now (Ok ask)) }

@@ -128,6 +128,8 @@ impl OwnBook {
     }
 }
 
+/// Returns what the stop of a simulated point's transaction needs: the transactionId and the meter
+/// value of its start.
 fn running_of(id: i32, begin: &Begin) -> ActiveTransaction
     ensures { result ≡ record { id = id; meter = begin.now.meter_start } }
 {
@@ -137,6 +139,7 @@ fn running_of(id: i32, begin: &Begin) -> ActiveTransaction
     }
 }
 
+/// Returns the active transaction at a connector of a simulated point, if there is one.
 fn running_at(running: &[Option<ActiveTransaction>], connector: u32) -> Option<ActiveTransaction>
     ensures { result ≡ running_at running.now connector }
 {
@@ -149,6 +152,8 @@ fn running_at(running: &[Option<ActiveTransaction>], connector: u32) -> Option<A
     }
 }
 
+/// Returns the active transactions of a simulated point with this many connectors before any start:
+/// none.
 fn nothing_running(
     alloc: Global,
     connectors: u32,

@@ -112,7 +112,8 @@ impl SimPoint {
         Ok(self.on_request(now, request)?)
     }
 
-    /// Performs the request of a message, and returns the answer, if it has one.
+    /// Performs the request of a message to a simulated point, and returns the answer, if it has
+    /// one.
     fn on_request(&mut self, now: Instant, request: Request) -> Result<Option<String>, AllocError>
         ensures heard { IfOk result (λ answer. heard_request self.old now request
             ≡ record { answer = option_map string_bytes answer; after = self.new }) }
@@ -131,7 +132,8 @@ impl SimPoint {
         }
     }
 
-    /// Performs an action, and returns the message that answers the CALL of this id.
+    /// Performs an action of the central system at a simulated point. Returns the message that
+    /// answers the CALL of this id.
     fn on_action(
         &mut self,
         now: Instant,
@@ -155,8 +157,8 @@ impl SimPoint {
         }
     }
 
-    /// Keeps a remote start as the next step, or rejects it (chapter 5.11). Returns the message
-    /// that answers the CALL of this id.
+    /// Keeps a RemoteStartTransaction as the simulated point's next step, or rejects it (chapter
+    /// 5.11). Returns the message that answers the CALL of this id.
     fn on_remote_start(
         &mut self,
         id: &str,
@@ -178,7 +180,7 @@ impl SimPoint {
         }
     }
 
-    /// Inserts a step before the remaining ones.
+    /// Inserts a step of a simulated point before its remaining ones.
     #[tactic(auto, using(crate::proofs::StepLemmas::drop_insert))]
     fn put_first(&mut self, step: SimStep) -> Result<(), AllocError>
         ensures put { OnOk result (self.new ≡ record self.old { steps = step ∷ self.old.steps }) }
@@ -190,7 +192,7 @@ impl SimPoint {
         }
     }
 
-    /// Ends the call in flight, if a reply of this id is its own.
+    /// Ends the simulated point's call in flight, if a reply of this id is its own.
     fn on_reply(&mut self, id: &str, transaction: Option<i32>) -> Result<(), AllocError>
         ensures replied { OnOk result (self.new ≡ replied self.old id.now transaction) }
         ensures unchanged { OnErr result (self.new ≡ self.old) }
@@ -252,7 +254,7 @@ impl SimPoint {
     }
 }
 
-/// Returns whether an id is exactly a call's number in decimal.
+/// Returns whether the id of a reply is exactly the number of a simulated point's call in decimal.
 fn is_id_of(number: u64, id: &str) -> bool
     ensures { result ≡ bytes_eq id.now (decimal number) }
 {

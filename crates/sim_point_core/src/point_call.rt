@@ -60,7 +60,7 @@ pub fn first_call(
     Ok(None)
 }
 
-/// Returns the call that a step makes at a moment, if it makes one.
+/// Returns the OCPP call that a step of a simulated point makes at a moment, if it makes one.
 fn call_of(
     alloc: Global,
     book: &OwnBook,
@@ -94,7 +94,8 @@ fn call_of(
     }
 }
 
-/// Returns the start of a transaction with a profile, if the point has its connector.
+/// Returns a simulated point's StartTransaction with a charging profile, if the point has its
+/// connector.
 fn start_of(
     book: &OwnBook,
     connector: u32,
@@ -114,13 +115,15 @@ fn start_of(
     })
 }
 
-/// Returns whether a point has a connector at which transactions begin.
+/// Returns whether a simulated point has a connector of this number at which transactions begin.
 pub(crate) fn has_connector(book: &PointBook, connector: u32) -> bool
     ensures { result ≡ has_connector book.now connector }
 {
     connector > 0 && connector <= book.connectors()
 }
 
+/// Returns the data of a simulated point's StartTransaction: a copy of the idTag, the meter value
+/// and the moment.
 fn begin_of(alloc: Global, tag: &IdTag, meter: i32, now: Instant) -> Result<Begin, AllocError>
     ensures { IfOk result (λ begin. begin
         ≡ record { id_tag = tag.now; meter_start = meter; timestamp = now }) }
@@ -132,7 +135,8 @@ fn begin_of(alloc: Global, tag: &IdTag, meter: i32, now: Instant) -> Result<Begi
     })
 }
 
-/// Returns the stop of the active transaction at a connector, if there is one.
+/// Returns a simulated point's StopTransaction for the active transaction at a connector, if there
+/// is one.
 fn stop_of(book: &OwnBook, connector: u32, now: Instant) -> Option<PointCall>
     ensures { result ≡ option_map (stop_of now) (active_at book.now.transactions connector) }
 {

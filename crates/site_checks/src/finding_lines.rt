@@ -31,8 +31,9 @@ pub fn push_findings(
     Ok(())
 }
 
-/// Appends a line for each finding in a script, with the point of its line. The findings are sorted
-/// by line. Equal ones in the points at the end, which come last, share a line.
+/// Appends a line to the output of `check` for each finding in a script, with the point of its
+/// line. The findings are sorted by line. Equal ones in the points at the end, which come last,
+/// share a line.
 pub(crate) fn push_script_findings(
     page: &mut String,
     lines: &mut LinePoints<'_>,
@@ -53,7 +54,7 @@ pub(crate) fn push_script_findings(
     Ok(())
 }
 
-/// Appends a finding in a line of a script, with the point of that line.
+/// Appends a finding in a line of a script to the output of `check`, with the point of that line.
 fn push_in_line(
     page: &mut String,
     lines: &mut LinePoints<'_>,
@@ -79,7 +80,7 @@ fn push_in_line(
     }
 }
 
-/// Appends a line for each finding of this severity.
+/// Appends a line to the output of `check` for each finding of this severity in a site file.
 fn push_of_severity(
     page: &mut String,
     name: &str,
@@ -94,6 +95,7 @@ fn push_of_severity(
     Ok(())
 }
 
+/// Appends the line of a finding to the output of `check`, with the name of its source before it.
 fn push_finding(page: &mut String, name: &str, finding: &Finding) -> Result<(), AllocError> {
     match writeln!(page, "{name}: {finding}") {
         Ok(()) => Ok(()),
@@ -101,7 +103,8 @@ fn push_finding(page: &mut String, name: &str, finding: &Finding) -> Result<(), 
     }
 }
 
-/// Appends the finding at this index, unless an earlier point has the same one.
+/// Appends the finding at this index to the output of `check`, unless an earlier point has the same
+/// one.
 fn push_once(
     page: &mut String,
     name: &str,
@@ -118,7 +121,8 @@ fn push_once(
     push_counted(page, name, finding, rest)
 }
 
-/// Returns whether both are warnings on points, or both remarks, with the same message.
+/// Returns whether two findings of `check` are both warnings on points, or both remarks, with the
+/// same message.
 // A fault has to be mended at each point, so each one has a line.
 fn are_alike(finding: &Finding, other: &Finding) -> bool {
     is_on_point(finding)
@@ -133,7 +137,8 @@ fn is_on_point(finding: &Finding) -> bool {
     matches!(finding.place, Location::Point { .. } | Location::End(_))
 }
 
-/// Appends a finding, with the last of the other points that have it, and the number of points.
+/// Appends a finding to the output of `check`, with the last of the other points that have it, and
+/// the number of points.
 fn push_counted(
     page: &mut String,
     name: &str,
@@ -161,7 +166,8 @@ fn push_counted(
     }
 }
 
-/// Counts the findings that are like this one. Returns the last of them too.
+/// Returns the number of findings of `check` that are like this one, and the last of them, to write
+/// one line.
 fn count_alike<'a>(finding: &'a Finding, others: &'a [Finding]) -> (usize, &'a Finding) {
     let mut count = 0usize;
     let mut last = finding;

@@ -11,7 +11,7 @@ pub(crate) fn fuse_at(machine: &Machine, point: &str) -> Option<u32> {
     fuse_limit(machine.book_of(point)?)
 }
 
-/// Returns the identity of the point that a line changed, if it changed one.
+/// Returns the identity of the point that a line of a script changed, if it changed one.
 fn changed_point<'a>(played: &'a PlayedLine<'_>) -> Option<&'a str> {
     match &played.said {
         Some(Ok(ScriptLine::Text(sent))) if played.outcome.change != PointChange::Nothing => {
@@ -36,7 +36,8 @@ pub(crate) struct MaxProfileLimits {
 }
 
 impl MaxProfileLimits {
-    /// Begins before the first line, without any fuse limit.
+    /// Begins before the first line of a script, without the fuse limit (ChargePointMaxProfile) of
+    /// any point.
     pub(crate) fn new(alloc: Global, machine: &Machine) -> Result<MaxProfileLimits, AllocError> {
         let mut fuses = Vec::new(alloc);
         for _place in 0..machine.site().len() {
@@ -48,8 +49,8 @@ impl MaxProfileLimits {
         Ok(MaxProfileLimits { fuses })
     }
 
-    /// Follows the effect of a line on the fuse limit of its point. Returns a remark if a profile
-    /// that replaces another one raised it.
+    /// Follows the effect of a script's line on the fuse limit of its point. Returns a remark if a
+    /// profile that replaces another one raised it.
     pub(crate) fn follow(
         &mut self,
         alloc: Global,
@@ -79,7 +80,8 @@ impl MaxProfileLimits {
         check_raise(alloc, unit, played.number, before.limit, fuse.limit)
     }
 
-    /// Adds a remark for each point without a fuse limit at the end, if most points have one.
+    /// Adds a remark for each point without a fuse limit at the end of a script, if most points
+    /// have one.
     pub(crate) fn find_unlimited(
         &self,
         alloc: Global,

@@ -77,7 +77,8 @@ impl<'a> PlayedCalls<'a> {
     }
 }
 
-/// Plays the next line, which has this number. Returns the findings in it.
+/// Plays the line of this number, which is a call after a script. Returns the findings in it, for
+/// `call`.
 fn find_in_line(
     alloc: Global,
     trace: &mut Trace<'_>,
@@ -94,7 +95,8 @@ fn find_in_line(
     Ok(found)
 }
 
-/// Returns the findings whose message none of the others has.
+/// Returns the findings whose message none of the others has, so that `call` reports only those
+/// that are new.
 // Places aren't compared: a call by itself is line 0, and a line of the script here.
 fn without(
     alloc: Global,

@@ -22,7 +22,7 @@ pub(crate) fn find_in_played<'a>(
     trace.take_in(played)
 }
 
-/// Adds the findings in the changes of profiles by the lines from number `first` on.
+/// Adds the findings in the changes of profiles by a script's lines from number `first` on.
 pub(crate) fn find_in_changes(
     alloc: Global,
     trace: &Trace<'_>,
@@ -45,7 +45,8 @@ pub(crate) fn find_in_changes(
     Ok(())
 }
 
-/// Returns the findings in the profiles of the point of this identity.
+/// Returns the findings in the profiles that the point of this identity has after the lines of a
+/// script.
 pub(crate) fn find_at_point(
     alloc: Global,
     machine: &Machine,

@@ -60,7 +60,7 @@ pub fn push_played<R: Clock + Eprint>(
     Ok(findings)
 }
 
-/// Plays a script line by line. Returns the findings in its lines and in their output.
+/// Plays a script line by line for `check`. Returns the findings in its lines and in their output.
 fn find_in_lines<R: Clock + Eprint>(
     rt: &R,
     alloc: Global,
@@ -88,7 +88,7 @@ fn find_in_lines<R: Clock + Eprint>(
     Ok(findings)
 }
 
-/// Adds the findings in the profiles that the points have when the script ends.
+/// Adds the findings in the profiles that the points have when the script ends, for `check`.
 fn find_at_the_end(
     alloc: Global,
     trace: &Trace<'_>,

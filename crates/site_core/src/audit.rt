@@ -49,7 +49,7 @@ impl PointAudit {
         &self.asked
     }
 
-    /// Copies the audit, sharing the book.
+    /// Copies a charge point's audit (the check of the schedule that it reports), sharing the book.
     pub(crate) fn copy(&self) -> Result<PointAudit, AllocError>
         ensures { IfOk result (λ copy. copy ≡ self.now) }
     {
@@ -82,7 +82,8 @@ impl PointAudit {
         }
     }
 
-    /// Whether the audited book has the same transactions as this one.
+    /// Whether the book of a charge point's audit has the same transactions as this one. Otherwise
+    /// a verdict on the schedules becomes Unsettled.
     fn has_transactions_of(&self, now: &PointBook) -> bool
         ensures { result
             ≡ same_transactions self.now.asked.book.transactions now.now.transactions }

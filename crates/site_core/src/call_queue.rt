@@ -139,6 +139,7 @@ impl CallQueue {
     }
 }
 
+/// Appends copies of the gathered calls of a charge point's queue to a list.
 fn copy_slice(
     alloc: Global,
     copies: &mut Vec<CallBody>,
@@ -152,6 +153,8 @@ fn copy_slice(
     Ok(())
 }
 
+/// Appends copies of the calls that joined a charge point's queue after the gathered ones to a
+/// list.
 fn copy_list(
     alloc: Global,
     copies: &mut Vec<CallBody>,
@@ -165,6 +168,8 @@ fn copy_list(
     Ok(())
 }
 
+/// Copies the calls that joined a charge point's queue after the gathered ones, for a copy of the
+/// queue.
 fn copy_of_bodies(bodies: &LinkedList<CallBody>) -> Result<LinkedList<CallBody>, AllocError>
     ensures { IfOk result (λ copy. copy ≡ bodies.now) }
 {

@@ -211,6 +211,8 @@ impl ChargePoint {
 
     // ---- Install (chapter 5.16)
 
+    /// Decides a request to install a charging profile at a charge point, or returns the refusal.
+    /// Changes nothing.
     fn decide_install(
         &self,
         site: &Site,
@@ -239,7 +241,8 @@ impl ChargePoint {
         }
     }
 
-    /// Installs a copy of a row, and adds the call that installs it at the point.
+    /// Installs a copy of a row in the charge point's book, and adds the SetChargingProfile call to
+    /// its outbox.
     fn install(
         &mut self,
         site: &Site,
@@ -267,6 +270,8 @@ impl ChargePoint {
 
     // ---- Clear (chapter 5.5)
 
+    /// Decides a request to clear charging profiles of a charge point, or returns the refusal. If
+    /// no profile matches the criteria, the answer is Unknown.
     fn decide_clear(&self, numbers: &Numbers, criteria: &Criteria) -> Result<Decision, Refusal>
         ensures decision { result ≡ decision_of (clears numbers.now criteria.now self.now) }
         ensures comes { ComesTo (clears numbers.now criteria.now self.now) Reply.Accepted result }
@@ -283,8 +288,8 @@ impl ChargePoint {
         }
     }
 
-    /// Removes the profiles that match each given criterion, and adds the call that clears them at
-    /// the point.
+    /// Removes the profiles that match each given criterion from the charge point's book, and adds
+    /// the ClearChargingProfile call to its outbox.
     fn clear(
         &mut self,
         numbers: &Numbers,
@@ -309,6 +314,8 @@ impl ChargePoint {
 
     // ---- Start (chapter 4.8)
 
+    /// Decides the start of a transaction at a charge point's connector, or returns the refusal. A
+    /// retransmitted start is answered with its transaction's number.
     fn decide_start(
         &self,
         numbers: &Numbers,
@@ -336,9 +343,9 @@ impl ChargePoint {
         }
     }
 
-    /// Begins a transaction with the next number and a copy of `begin`, or answers a retransmitted
-    /// start. A start that waits at the connector ends. If it is for this idTag, the transaction
-    /// begins with its profile.
+    /// Begins a transaction at a charge point's connector with the next number and a copy of
+    /// `begin`, or answers a retransmitted start. A remote start that waits at the connector ends.
+    /// If it is for this idTag, the transaction begins with its profile.
     fn start(
         &mut self,
         numbers: &Numbers,
@@ -364,7 +371,8 @@ impl ChargePoint {
         }
     }
 
-    /// Copies the profile with which a transaction begins at a connector.
+    /// Copies the profile with which a transaction begins at a connector: that of the remote start
+    /// which it ends, if that is for its idTag.
     fn profile_at_start(&self, connector: u32, begin: &Begin) -> Result<Option<Profile>, AllocError>
         ensures { IfOk result
             (λ profile. profile ≡ profile_at_start self.now connector begin.now) }
@@ -375,8 +383,8 @@ impl ChargePoint {
         }
     }
 
-    /// Returns the start that a transaction at a connector ends: it waits there, and its call has
-    /// gone out.
+    /// Returns the remote start that a transaction at a connector ends: it waits there, and its
+    /// call has gone out to the charge point.
     fn ended_start(&self, connector: u32) -> Option<&WaitingStart>
         ensures { option_copied result
             ≡ ended_start self.now.outbox self.now.waiting connector }
@@ -388,7 +396,7 @@ impl ChargePoint {
         }
     }
 
-    /// Removes the waiting start that a transaction at a connector ends.
+    /// Removes the waiting remote start that a transaction at a charge point's connector ends.
     fn end_start(&mut self, connector: u32)
         ensures { self.new ≡ record self.old {
           waiting = without_ended (ended_start self.old.outbox self.old.waiting connector)
@@ -401,7 +409,7 @@ impl ChargePoint {
         }
     }
 
-    /// Whether the call of a number is confirmed or in flight.
+    /// Whether the call of this number to the charge point is confirmed or in flight.
     fn has_gone_out(&self, call: u64) -> bool
         ensures { result ≡ has_gone_out self.now.outbox call }
     {
@@ -410,6 +418,8 @@ impl ChargePoint {
 
     // ---- Stop (chapter 4.10)
 
+    /// Decides the stop of a charge point's transaction by its number, or returns the refusal. If
+    /// no such transaction is active, the answer is NoSuch.
     fn decide_stop(&self, numbers: &Numbers, number: i32) -> Result<Decision, Refusal>
         ensures decision { result ≡ decision_of (stops numbers.now number self.now) }
         ensures comes { ComesTo (stops numbers.now number self.now) Reply.Ended result }
@@ -423,7 +433,7 @@ impl ChargePoint {
         }
     }
 
-    /// Ends the transaction of this number, if it is active.
+    /// Ends the charge point's transaction of this number, if it is active.
     fn stop(&mut self, numbers: &Numbers, point: &PointId, number: i32) -> Result<Reply, Refusal>
         ensures { IsMadeAt (stops numbers.now number self.old)
             (steps.Stop point.now number) self.old result self.new }
@@ -439,6 +449,7 @@ impl ChargePoint {
 
     // ---- links (OCPP-J 1.6, chapter 3)
 
+    /// Decides whether a charge point that connects gets a new link, or returns the refusal.
     fn decide_attach(&self, numbers: &Numbers) -> Result<Decision, Refusal>
         ensures { result ≡ decision_of (attaches numbers.now self.now) }
     {
@@ -448,7 +459,8 @@ impl ChargePoint {
         }
     }
 
-    /// Gives the point a new link. A call in flight over the one before waits again.
+    /// Gives the charge point a new link, as it connects. A call in flight over the one before
+    /// waits again.
     fn attach(&mut self, numbers: &Numbers, point: &PointId) -> Result<Reply, Refusal>
         requires { AreNumbers numbers.now }
         ensures { IsMadeAt (attaches numbers.now self.old) (steps.Attach point.now)
@@ -464,7 +476,7 @@ impl ChargePoint {
         }
     }
 
-    /// Removes the link to the point. A call in flight waits again.
+    /// Removes the lost link to the charge point. A call in flight waits again.
     fn lose(&mut self, point: &PointId, link: u64) -> Reply
         ensures { IsMadeAt (loses self.old) (steps.Lost point.now link)
             self.old (Ok result) self.new }
@@ -475,6 +487,8 @@ impl ChargePoint {
 
     // ---- calls (OCPP-J 1.6, chapter 4)
 
+    /// Decides whether the first call of the charge point's outbox can be sent now. Otherwise the
+    /// answer is Nothing.
     fn decide_send(&self) -> Result<Decision, Refusal>
         ensures { result ≡ decision_of (sends self.now) }
     {
@@ -485,7 +499,8 @@ impl ChargePoint {
         }
     }
 
-    /// Sends the first call, unless one is in flight. Only its copy needs memory.
+    /// Sends the first call of the charge point's outbox, unless one is in flight. Only its copy
+    /// needs memory.
     fn send(&mut self, point: &PointId, link: u64) -> Result<Reply, Refusal>
         ensures { IsMadeAt (sends self.old) (steps.Send point.now link) self.old result self.new }
     {
@@ -495,6 +510,8 @@ impl ChargePoint {
         }
     }
 
+    /// Decides whether the charge point's answer to the call of this number is recorded. The
+    /// refusal is `NothingInFlight`.
     fn decide_confirm(&self, call: u64) -> Result<Decision, Refusal>
         ensures { result ≡ decision_of (confirms call self.now) }
     {
@@ -505,8 +522,8 @@ impl ChargePoint {
         }
     }
 
-    /// Records that the point has answered the call of this number. If the answer isn't Accepted, a
-    /// start that came with the call is dropped.
+    /// Records that the charge point has answered the call of this number. If the answer isn't
+    /// Accepted, a remote start that came with the call is dropped.
     fn confirm(
         &mut self,
         point: &PointId,
@@ -528,6 +545,8 @@ impl ChargePoint {
 
     // ---- audits
 
+    /// Decides a request to audit the composite schedule that a charge point reports of a
+    /// connector, or returns the refusal.
     fn decide_audit(&self, site: &Site, connector: u32, duration: u32) -> Result<Decision, Refusal>
         ensures decision { result ≡ decision_of (audits site.now connector duration self.now) }
         ensures comes { ComesTo (audits site.now connector duration self.now)
@@ -551,7 +570,8 @@ impl ChargePoint {
         }
     }
 
-    /// Requests the point's schedule, and keeps its present book, in place of an earlier audit.
+    /// Begins an audit of the charge point: adds the GetCompositeSchedule call to its outbox, and
+    /// keeps its present book, in place of an earlier audit.
     fn begin_audit(
         &mut self,
         site: &Site,
@@ -582,8 +602,9 @@ impl ChargePoint {
         }
     }
 
-    /// Checks whether a verdict is kept. The refusals are `UnknownRequest`, if the audit of this
-    /// number isn't the present one or has its verdict, and then `StrangerInput`.
+    /// Checks whether the verdict on a charge point's audit is kept. The refusals are
+    /// `UnknownRequest`, if the audit of this number isn't the present one or has its verdict, and
+    /// then `StrangerInput`.
     fn check_judged(&self, call: u64, judged: &Judged) -> Result<(), Refusal>
         ensures kept { OnOk result (judges call judged.now self.now ≡ Ok Reply.VerdictKept) }
         ensures refused { IfErr result (λ refusal. judges call judged.now self.now ≡ Err refusal) }
@@ -599,6 +620,8 @@ impl ChargePoint {
         Ok(())
     }
 
+    /// Decides whether the verdict on the charge point's audit whose call has this number is kept,
+    /// or returns the refusal.
     fn decide_judge(&self, call: u64, judged: &Judged) -> Result<Decision, Refusal>
         ensures { result ≡ decision_of (judges call judged.now self.now) }
     {
@@ -608,7 +631,7 @@ impl ChargePoint {
         }
     }
 
-    /// Keeps the verdict on the audit whose call has this number.
+    /// Keeps the verdict on the charge point's audit whose call has this number.
     fn judge(&mut self, point: &PointId, call: u64, judged: &Judged) -> Result<Reply, Refusal>
         ensures made { IsMadeAt (judges call judged.now self.old)
             (steps.Judge point.now call judged.now) self.old result self.new }
@@ -624,6 +647,8 @@ impl ChargePoint {
         }
     }
 
+    /// Stores the verdict on the charge point's audit. A verdict on the schedules becomes Unsettled
+    /// if the point's transactions have changed since.
     fn keep_verdict(&mut self, verdict: Verdict)
         ensures audit { self.new.audit
             ≡ judged_audit self.old.book.transactions verdict self.old.audit }
@@ -636,7 +661,8 @@ impl ChargePoint {
         }
     }
 
-    /// Returns the status of the point.
+    /// Returns the status of the charge point: the store's version, the number of its unconfirmed
+    /// calls, and the outcome of its audit.
     fn status(&self, numbers: &Numbers) -> PointStatus
         ensures { result ≡ status_of numbers.now self.now }
     {
@@ -650,7 +676,8 @@ impl ChargePoint {
         }
     }
 
-    /// Whether the call of the point's audit is still unconfirmed.
+    /// Whether the call of the charge point's audit is still unconfirmed, so that no other audit
+    /// may begin.
     fn is_audit_open(&self) -> bool
         ensures { result ≡ is_open_among self.now.outbox.calls self.now.audit }
     {
@@ -679,6 +706,8 @@ impl ChargePoint {
 
     // ---- remote starts (chapter 5.11)
 
+    /// Decides an operator's request that the charge point start a transaction
+    /// (RemoteStartTransaction), or returns the refusal.
     fn decide_remote_start(
         &self,
         site: &Site,
@@ -704,8 +733,8 @@ impl ChargePoint {
         }
     }
 
-    /// Adds the call that asks the point to start a transaction. The start waits, in place of an
-    /// earlier one at its connector.
+    /// Adds the RemoteStartTransaction call to the charge point's outbox. The start waits, in place
+    /// of an earlier one at its connector.
     fn remote_start(
         &mut self,
         site: &Site,
@@ -745,7 +774,7 @@ impl ChargePoint {
 
     // ---- all calls
 
-    /// Returns the reason why no call can be added for the point, if there is one.
+    /// Returns the reason why no call can be added to the charge point's outbox, if there is one.
     fn refusal_to_add(&self) -> Option<Refusal>
         ensures refusal { result ≡ refusal_to_add self.now.outbox }
         ensures room { IfNone result (length self.now.outbox.calls < max_calls) }
@@ -760,7 +789,8 @@ impl ChargePoint {
         None
     }
 
-    /// Returns the reason why no call of a change can be added for the point, if there is one.
+    /// Returns the reason why the call of a change of profiles can't be added to the charge point's
+    /// outbox, if there is one.
     fn refusal_to_call(&self, numbers: &Numbers) -> Option<Refusal>
         ensures refusal { result ≡ refusal_to_call numbers.now self.now }
         ensures room { IfNone result (length self.now.outbox.calls < max_calls) }
@@ -773,7 +803,7 @@ impl ChargePoint {
     }
 }
 
-/// Makes the call that installs a row at a point.
+/// Makes the SetChargingProfile call that installs a row at a charge point.
 fn call_of(alloc: Global, row: &Row) -> Result<PreparedCall, AllocError>
     ensures { IfOk result (λ call. call ≡ CallBody.Set row.now.connector row.now.profile) }
 {
@@ -787,7 +817,7 @@ fn call_of(alloc: Global, row: &Row) -> Result<PreparedCall, AllocError>
     }
 }
 
-/// Makes the call that requests a point's schedule.
+/// Makes the GetCompositeSchedule call that requests a charge point's schedule for an audit.
 fn audit_call(
     alloc: Global,
     connector: u32,
@@ -807,7 +837,7 @@ fn audit_call(
     }
 }
 
-/// Makes the call that asks a point to start a transaction.
+/// Makes the RemoteStartTransaction call that asks a charge point to start a transaction.
 fn remote_start_call(
     alloc: Global,
     connector: u32,
@@ -828,8 +858,8 @@ fn remote_start_call(
     }
 }
 
-/// Returns the reason why no transaction can begin with a profile: `WrongUnit`, or else
-/// `NotTxProfile`.
+/// Returns the reason why the transaction of a remote start can't begin with a profile:
+/// `WrongUnit`, or else `NotTxProfile`.
 fn refusal_of_profile(site: &Site, profile: &Option<Profile>) -> Option<Refusal>
     ensures { result ≡ refusal_of_profile site.now profile.now }
 {
@@ -841,6 +871,7 @@ fn refusal_of_profile(site: &Site, profile: &Option<Profile>) -> Option<Refusal>
     }
 }
 
+/// Copies the audit of a charge point, if it was audited, sharing the audited book.
 fn copy_of_audit(audit: &Option<PointAudit>) -> Result<Option<PointAudit>, AllocError>
     ensures { IfOk result (λ copy. copy ≡ audit.now) }
 {

@@ -8,7 +8,8 @@ use crate::charge_point::ChargePoint;
 use site_rules::Site;
 use std::alloc::{AllocError, Global};
 
-/// Makes the points of a site with nothing installed, no active transaction and no link.
+/// Makes the charge points of a site at its opening, with nothing installed, no active transaction
+/// and no link.
 pub(crate) fn opening_points(alloc: Global, site: &Site) -> Result<Vec<ChargePoint>, AllocError>
     ensures { IfOk result (λ points. points.items ≡ map opening_point site.now.points) }
 {
@@ -19,7 +20,7 @@ pub(crate) fn opening_points(alloc: Global, site: &Site) -> Result<Vec<ChargePoi
     Ok(points)
 }
 
-/// Copies the points, sharing their books.
+/// Copies the states of a site's charge points, sharing their books.
 pub(crate) fn copy_of_points(
     alloc: Global,
     points: &[ChargePoint],
@@ -33,7 +34,7 @@ pub(crate) fn copy_of_points(
     Ok(copies)
 }
 
-/// Gathers the calls to each point, if memory lasts, so that copies share them.
+/// Gathers the calls in each charge point's outbox, if memory lasts, so that copies share them.
 pub(crate) fn gather_calls(points: &mut Vec<ChargePoint>)
     ensures { points.new.items ≡ points.old.items }
 {
@@ -42,7 +43,7 @@ pub(crate) fn gather_calls(points: &mut Vec<ChargePoint>)
     }
 }
 
-/// Returns the point at a place.
+/// Returns the charge point at a place in the site file.
 pub(crate) fn point_at(points: &Vec<ChargePoint>, place: usize) -> &ChargePoint
     requires { place < length points.now.items }
     ensures { result.now ≡ point_in points.now.items place }

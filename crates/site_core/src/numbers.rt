@@ -26,7 +26,8 @@ pub struct Numbers {
 }
 
 impl Numbers {
-    /// Returns the reason why no change of a point's book can be made, if there is one.
+    /// Returns the reason why no change of a charge point's book can be made, if there is one: the
+    /// store's versions are exhausted.
     pub(crate) fn version_refusal(&self) -> Option<Refusal>
         ensures { result ≡ version_refusal self.now }
     {
@@ -37,7 +38,8 @@ impl Numbers {
         }
     }
 
-    /// Returns the reason why no transaction can begin, if there is one.
+    /// Returns the reason why no transaction can begin, if there is one: the store's versions or
+    /// the transactions' numbers are exhausted.
     pub(crate) fn refusal_to_start(&self) -> Option<Refusal>
         ensures { result ≡ refusal_to_start self.now }
     {
@@ -50,7 +52,8 @@ impl Numbers {
         None
     }
 
-    /// Returns the reason why no point can get a new link, if there is one.
+    /// Returns the reason why no charge point can get a new link, if there is one: the links'
+    /// numbers are exhausted.
     pub(crate) fn refusal_to_attach(&self) -> Option<Refusal>
         ensures { result ≡ refusal_to_attach self.now }
     {
@@ -61,7 +64,8 @@ impl Numbers {
         }
     }
 
-    /// Returns the number of the next transaction, which must be within the limit.
+    /// Returns the number (transactionId) of the next transaction at the site, which must be within
+    /// the limit.
     pub(crate) fn next_transaction(&self) -> i32
         requires numbers { AreNumbers self.now }
         requires last { refusal_to_start self.now ≡ None }

@@ -115,7 +115,8 @@ impl Reply {
         }
     }
 
-    /// Returns the numbers that were drawn last, after a step with this reply.
+    /// Returns the numbers of versions, requests, transactions and links that the central system
+    /// drew last, after a step with this reply.
     pub(crate) fn drawn(&self, numbers: Numbers) -> Numbers
         requires { AreNumbers numbers }
         ensures { result ≡ drawn self.now numbers }

@@ -77,12 +77,15 @@ impl KeptRequest {
     }
 }
 
+/// Whether two requests for composite schedules have the same connector, start and duration.
 fn is_same(one: &Ask, other: &Ask) -> bool
     ensures { IsTrue result ↔ (one.now ≡ other.now) }
 {
     one.connector == other.connector && one.start == other.start && one.duration == other.duration
 }
 
+/// Copies the answer to a kept request for a composite schedule, if it has one: the schedule or a
+/// refusal.
 fn copy_of_answer(
     answer: &Option<Result<Composite, Refusal>>,
 ) -> Result<Option<Result<Composite, Refusal>>, AllocError>

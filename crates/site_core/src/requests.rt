@@ -16,7 +16,8 @@ use ocpp_scalars::Refusal;
 use std::alloc::{AllocError, Global};
 use sweep_compiler::{Compiled, Turns, compile};
 
-/// Returns the place in the site file and the `Ask` of the request of a number, if it is kept.
+/// Returns the `Ask` of the kept request for a composite schedule of this number, and its point's
+/// place in the site file.
 pub(crate) fn request_asked(requests: &[KeptRequest], number: u64) -> Option<(usize, Ask)>
     ensures { result
         ≡ option_map (λ (kept : Kept). (kept.place, kept.ask)) (request_of number requests.now) }
@@ -28,15 +29,16 @@ pub(crate) fn request_asked(requests: &[KeptRequest], number: u64) -> Option<(us
     Some((request.place, request.ask))
 }
 
-/// Returns the index of the request of a number.
+/// Returns the index of the kept request for a composite schedule with this number.
 fn place_of(requests: &[KeptRequest], number: u64) -> Option<usize>
     ensures { result ≡ position (λ (kept : Kept). kept.number == number) requests.now }
 {
     requests.iter().position(|request| request.number == number)
 }
 
-/// Compiles the schedule of the request of a number. The refusals are `UnknownRequest` and
-/// `AlreadyAnswered`. If memory runs out, `OutOfMemory` is the request's answer.
+/// Compiles the composite schedule of the kept request with this number. The refusals are
+/// `UnknownRequest` and `AlreadyAnswered`. If memory runs out, `OutOfMemory` is the request's
+/// answer.
 pub(crate) fn compile_request(
     alloc: Global,
     requests: &mut Vec<KeptRequest>,
@@ -61,9 +63,9 @@ pub(crate) fn compile_request(
     Ok(())
 }
 
-/// Compiles the request of a number with a brought answer, and returns a second copy of it. The
-/// refusals are `UnknownRequest`, `AlreadyAnswered` and `StrangerInput`; then the brought answer
-/// comes back.
+/// Answers a kept request for a composite schedule with a brought answer, and returns a second copy
+/// of it. The refusals are `UnknownRequest`, `AlreadyAnswered` and `StrangerInput`; then the
+/// brought answer comes back.
 pub(crate) fn post_answer(
     requests: &mut Vec<KeptRequest>,
     number: u64,
@@ -90,7 +92,7 @@ pub(crate) fn post_answer(
     Ok(again)
 }
 
-/// Copies the requests, sharing the books.
+/// Copies the kept requests for composite schedules, sharing the books.
 pub(crate) fn copy_of_requests(
     alloc: Global,
     requests: &[KeptRequest],
@@ -104,8 +106,8 @@ pub(crate) fn copy_of_requests(
     Ok(copies)
 }
 
-/// Hands out the answer to the request of a number, and removes the request. Replies NotYet if it
-/// has no answer. The refusal is `UnknownRequest`.
+/// Hands out the answer to the request for a composite schedule with this number, and removes the
+/// request. Replies NotYet if it has no answer. The refusal is `UnknownRequest`.
 pub(crate) fn hand_out(requests: &mut Vec<KeptRequest>, number: u64) -> Result<Reply, Refusal>
     ensures made { MatchResult result
         (λ reply. handed_out number requests.old.items ≡ Ok (reply, requests.new.items))
@@ -125,13 +127,15 @@ pub(crate) fn hand_out(requests: &mut Vec<KeptRequest>, number: u64) -> Result<R
     Ok(reply_of(request))
 }
 
+/// Whether a kept request for a composite schedule has its answer.
 fn is_answered(request: &KeptRequest) -> bool
     ensures { result ≡ is_some request.now.answer }
 {
     request.answer.is_some()
 }
 
-/// Makes the reply of a request that has an answer, with its book and `Ask`.
+/// Makes the reply that hands out the answer to a request for a composite schedule, with its book
+/// and `Ask`.
 fn reply_of(request: KeptRequest) -> Reply
     requires { is_some request.answer ≡ true }
     ensures reply { Some result
@@ -145,7 +149,8 @@ fn reply_of(request: KeptRequest) -> Reply
     }
 }
 
-/// Answers each request without an answer by `Stopped`.
+/// Answers by `Stopped` each kept request for a composite schedule that has no answer, as the
+/// central system stops.
 pub(crate) fn stop_all(requests: &mut Vec<KeptRequest>)
     ensures { requests.new.items ≡ all_stopped requests.old.items }
 {
@@ -154,6 +159,7 @@ pub(crate) fn stop_all(requests: &mut Vec<KeptRequest>)
     }
 }
 
+/// Answers a kept request for a composite schedule by `Stopped`, unless it has its answer.
 fn stop(request: &mut KeptRequest)
     ensures { request.new ≡ stopped_request request.old }
 {
@@ -162,7 +168,8 @@ fn stop(request: &mut KeptRequest)
     }
 }
 
-/// Returns the outlook of compiling the request of a number: an event, or the refusal.
+/// Returns the outlook of compiling the kept request for a composite schedule with this number: an
+/// event, or the refusal.
 pub(crate) fn compile_outlook(requests: &[KeptRequest], number: u64) -> Result<bool, Refusal>
     ensures { result ≡ compile_outlook (request_of number requests.now) }
 {
@@ -175,8 +182,8 @@ pub(crate) fn compile_outlook(requests: &[KeptRequest], number: u64) -> Result<b
     Ok(true)
 }
 
-/// Returns the outlook of handing out the answer to the request of a number: whether it has one, or
-/// the refusal.
+/// Returns the outlook of handing out the answer to a request for a composite schedule: whether it
+/// has one, or the refusal.
 pub(crate) fn hand_out_outlook(requests: &[KeptRequest], number: u64) -> Result<bool, Refusal>
     ensures { result ≡ hand_out_outlook (request_of number requests.now) }
 {

@@ -62,7 +62,8 @@ impl SharedBook {
         self.book
     }
 
-    /// Installs a row that may be installed (chapter 5.16).
+    /// Installs a row that may be installed (chapter 5.16) in a charge point's book, which is
+    /// copied first if it is shared.
     pub(crate) fn install(&mut self, row: Row) -> Result<(), AllocError>
         requires connector { row.connector ≤ length self.old.ceilings }
         requires allowed { install_refusal self.old row ≡ None }
@@ -75,7 +76,8 @@ impl SharedBook {
         }
     }
 
-    /// Removes the profiles that match each given criterion (chapter 5.5).
+    /// Removes the profiles that match each given criterion (chapter 5.5) from a charge point's
+    /// book, which is copied first if it is shared.
     pub(crate) fn clear(&mut self, criteria: &Criteria) -> Result<(), AllocError>
         ensures book { OnOk result (self.new ≡ book_cleared self.old criteria.now) }
         ensures kept { OnErr result (self.new ≡ self.old) }
@@ -84,8 +86,8 @@ impl SharedBook {
         Ok(())
     }
 
-    /// Begins a transaction of this number at a connector (chapter 4.8), with a profile if one is
-    /// given (chapter 5.11).
+    /// Begins a transaction of this number at a connector (chapter 4.8) in a charge point's book,
+    /// with a profile if one is given (chapter 5.11).
     pub(crate) fn start(
         &mut self,
         connector: u32,
@@ -105,7 +107,8 @@ impl SharedBook {
         }
     }
 
-    /// Ends the transaction of this number, if it is active (chapter 4.10).
+    /// Ends the transaction of this number, if it is active (chapter 4.10), in a charge point's
+    /// book, which is copied first if it is shared.
     pub(crate) fn stop(&mut self, number: i32) -> Result<(), AllocError>
         ensures book { OnOk result (self.new ≡ book_stopped self.old number) }
         ensures kept { OnErr result (self.new ≡ self.old) }

@@ -104,7 +104,7 @@ pub struct Take {
 }
 
 impl Step {
-    /// Returns the point that a step at a point names, and the way to it.
+    /// Returns the charge point that a step of the central system names, and the way to it.
     pub(crate) fn target(&self) -> (&PointId, Via)
         requires { IsAtPoint (work self.now) }
         ensures { IsFor (work self.now) result.0.now result.1 }

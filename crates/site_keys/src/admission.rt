@@ -21,7 +21,7 @@ pub enum Admission {
     Forbidden,
 }
 
-/// Decides on a header by the keys of a site.
+/// Decides by the keys of a site whether the client with this Authorization header is admitted.
 pub(crate) fn decide(
     alloc: Global,
     keys: &[Key],
@@ -38,7 +38,8 @@ pub(crate) fn decide(
     }
 }
 
-/// Decides on the user and the password in the decoded bytes of a header.
+/// Decides whether a client is admitted, by the user and the password in the decoded bytes of its
+/// Authorization header.
 fn decide_decoded(
     alloc: Global,
     keys: &[Key],
@@ -59,7 +60,8 @@ fn decide_decoded(
     }
 }
 
-/// Decides on a user with right credentials.
+/// Decides whether a user with right credentials is admitted to the URL of the charge point of this
+/// identity.
 fn decide_identity(
     alloc: Global,
     role: Role,
@@ -76,7 +78,8 @@ fn decide_identity(
     }
 }
 
-/// Returns whether a user of this role may use this identity.
+/// Returns whether a user of this role may connect to the URL of this charge point: a point only to
+/// its own.
 fn is_own(role: Role, identity: &str, user: &str) -> bool
     ensures { result ≡ is_own role identity.now user.now }
 {

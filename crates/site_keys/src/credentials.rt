@@ -19,7 +19,8 @@ pub(crate) struct Credentials<'a> {
     pub(crate) password: &'a [u8],
 }
 
-/// Decodes the base64 of a header with the scheme Basic.
+/// Decodes the base64 of an Authorization header with the scheme Basic (RFC 7617), or returns
+/// `None` if it has none.
 pub(crate) fn sent_bytes(alloc: Global, header: &[u8]) -> Result<Option<Vec<u8>>, AllocError>
     ensures { IfOk result (λ sent. (bytes : List ℕ)
         → (option_map (λ v. v.items) sent ≡ Some bytes) ↔ HasSent header.now bytes) }
@@ -30,7 +31,8 @@ pub(crate) fn sent_bytes(alloc: Global, header: &[u8]) -> Result<Option<Vec<u8>>
     }
 }
 
-/// Returns the token after the scheme Basic of a header, if that is its scheme.
+/// Returns the token after the scheme Basic of an Authorization header (RFC 7617), if that is its
+/// scheme.
 fn token_in(header: &[u8]) -> Option<&[u8]>
     ensures { option_copied result ≡ token_in header.entry.now }
 {
@@ -47,7 +49,7 @@ fn token_in(header: &[u8]) -> Option<&[u8]>
     }
 }
 
-/// Decodes a text in base64. `None` if it isn't base64.
+/// Decodes the token of a Basic Authorization header. `None` if it isn't base64.
 fn base64_bytes(alloc: Global, text: &[u8]) -> Result<Option<Vec<u8>>, AllocError>
     ensures { IfOk result (λ decoded. (bytes : List ℕ)
         → (option_map (λ v. v.items) decoded ≡ Some bytes) ↔ IsBase64 text.now bytes) }
@@ -60,7 +62,8 @@ fn base64_bytes(alloc: Global, text: &[u8]) -> Result<Option<Vec<u8>>, AllocErro
     }
 }
 
-/// Splits bytes into the user before the first colon and the password after it.
+/// Splits the decoded bytes of a Basic Authorization header into the user before the first colon
+/// and the password after it.
 pub(crate) fn credentials_of(bytes: &[u8]) -> Option<Credentials<'_>>
     ensures { option_map credentials_view result ≡ credentials_of bytes.entry.now }
 {
@@ -81,7 +84,7 @@ pub fn user_in(alloc: Global, header: &[u8]) -> Result<Option<String>, AllocErro
     }
 }
 
-/// Copies the user before the first colon.
+/// Copies the user before the first colon in the decoded bytes of a Basic Authorization header.
 fn user_of(alloc: Global, bytes: &[u8]) -> Result<Option<String>, AllocError>
     ensures { IfOk result (λ found. option_map string_bytes found
         ≡ option_map (λ sent. sent.user) (credentials_of bytes.now)) }

@@ -7,7 +7,8 @@ ghost use Rattle.site_keys.specs.Key.{key_bytes};
 use hex::FromHex;
 use sha2::{Digest, Sha256};
 
-/// Computes the digest of a password's key bytes under a salt.
+/// Computes the digest of a client's password under the salt of a key, to compare it with the one
+/// in the key file.
 pub(crate) fn digest_of(salt: &[u8; 16], password: &[u8]) -> [u8; 32]
     ensures { result ≡ sha256 (salt.now ++ key_bytes password.now) }
 {
@@ -19,7 +20,7 @@ pub(crate) fn digest_of(salt: &[u8; 16], password: &[u8]) -> [u8; 32]
     }
 }
 
-/// Computes the SHA-256 of a salt and a key.
+/// Computes the SHA-256 of a salt and a key, as a line of the key file has it.
 pub(crate) fn salted_digest(salt: &[u8; 16], key: &[u8]) -> [u8; 32]
     ensures { result ≡ sha256 (salt.now ++ key.now) }
 {
@@ -30,7 +31,8 @@ pub(crate) fn salted_digest(salt: &[u8; 16], key: &[u8]) -> [u8; 32]
     hasher.finalize()
 }
 
-/// Returns whether two digests are the same. Compares each byte, whatever the others are.
+/// Returns whether the digest of a client's password is the same as that of a key. Compares each
+/// byte, whatever the others are.
 pub(crate) fn is_same(one: &[u8; 32], other: &[u8; 32]) -> bool
     ensures { IsTrue result ↔ (one.now ≡ other.now) }
 {

@@ -44,7 +44,8 @@ struct Words<'a> {
     digest: &'a [u8],
 }
 
-/// Reads a line, given without its line end. Returns `None` for an empty line or a comment.
+/// Reads a line of the key file, given without its line end. Returns `None` for an empty line or a
+/// comment.
 pub(crate) fn read_line(line: &[u8]) -> Result<Option<KeyLine<'_>>, KeyLineFault>
     ensures { result ≡ line_in line.entry.now }
 {
@@ -54,7 +55,7 @@ pub(crate) fn read_line(line: &[u8]) -> Result<Option<KeyLine<'_>>, KeyLineFault
     Ok(Some(read_key(line)?))
 }
 
-/// Returns whether a line is empty or a comment.
+/// Returns whether a line of the key file is empty or a comment.
 fn is_left_out(line: &[u8]) -> bool
     ensures { result ≡ is_left_out line.now }
 {
@@ -64,7 +65,7 @@ fn is_left_out(line: &[u8]) -> bool
     }
 }
 
-/// Reads a line with a key.
+/// Reads a line of the key file that has a key: role, user, salt and digest.
 #[tactic(auto, unfolding(crate::specs::ByCases::KeyFile::key_in))]
 fn read_key(line: &[u8]) -> Result<KeyLine<'_>, KeyLineFault>
     ensures { result ≡ key_in line.entry.now }
@@ -82,7 +83,7 @@ fn read_key(line: &[u8]) -> Result<KeyLine<'_>, KeyLineFault>
     })
 }
 
-/// Splits a line into its words.
+/// Splits a line of the key file into its words: role, user, salt and digest.
 fn split_words(line: &[u8]) -> Result<Words<'_>, KeyLineFault>
     ensures { result_map_both words_view (λ fault. fault) result ≡ words_of line.entry.now }
 {
@@ -97,7 +98,8 @@ fn split_words(line: &[u8]) -> Result<Words<'_>, KeyLineFault>
     })
 }
 
-/// Splits a text into the word before the first space and the rest after it.
+/// Splits the rest of a line of the key file into the word before the first space and the text
+/// after it.
 fn split_word(text: &[u8]) -> Result<(&[u8], &[u8]), KeyLineFault>
     ensures { result_map_both (λ parts. (parts.0.now, parts.1.now)) (λ fault. fault) result
         ≡ word_at text.entry.now }
@@ -108,7 +110,7 @@ fn split_word(text: &[u8]) -> Result<(&[u8], &[u8]), KeyLineFault>
     }
 }
 
-/// Returns the role that a word names.
+/// Returns the role that the first word in a line of the key file names, `point` or `operator`.
 fn role_named(word: &[u8]) -> Result<Role, KeyLineFault>
     ensures { result ≡ role_named word.now }
 {
@@ -121,7 +123,7 @@ fn role_named(word: &[u8]) -> Result<Role, KeyLineFault>
     }
 }
 
-/// Reads bytes as a user's name.
+/// Reads the second word in a line of the key file as a user's name.
 fn read_name(bytes: &[u8]) -> Result<&str, KeyLineFault>
     ensures { result_map_both (λ name. name.now) (λ fault. fault) result ≡ name_in bytes.entry.now }
 {
@@ -135,7 +137,7 @@ fn read_name(bytes: &[u8]) -> Result<&str, KeyLineFault>
     }
 }
 
-/// Decodes a salt from its 32 hex digits.
+/// Decodes the salt in a line of the key file from its 32 hex digits.
 fn read_salt(digits: &[u8]) -> Result<[u8; 16], KeyLineFault>
     ensures { result ≡ salt_in digits.now }
 {
@@ -145,7 +147,7 @@ fn read_salt(digits: &[u8]) -> Result<[u8; 16], KeyLineFault>
     }
 }
 
-/// Decodes a digest from its 64 hex digits.
+/// Decodes the password's digest in a line of the key file from its 64 hex digits.
 fn read_digest(digits: &[u8]) -> Result<[u8; 32], KeyLineFault>
     ensures { result ≡ digest_in digits.now }
 {

@@ -71,7 +71,7 @@ impl Keys {
     }
 }
 
-/// Reads the keys of a file.
+/// Reads the keys of a site from the bytes of its key file.
 #[tactic(auto, unfolding(crate::specs::ByCases::KeyFile::keys_in))]
 fn read_keys(alloc: Global, bytes: &[u8]) -> Result<Vec<Key>, KeysFault>
     ensures { Gives (items_of result) (keys_in bytes.now) }
@@ -89,14 +89,15 @@ fn read_keys(alloc: Global, bytes: &[u8]) -> Result<Vec<Key>, KeysFault>
     Ok(keys)
 }
 
-/// Adds the key of a line, unless that is empty or a comment.
+/// Adds the key in a line of the key file to the site's keys, unless the line is empty or a
+/// comment.
 fn add_line(alloc: Global, keys: &mut Vec<Key>, number: usize, line: &[u8]) -> Result<(), KeysFault>
     ensures { Adds result keys.old.items keys.new.items (numbered_line number line.now) }
 {
     match read_line(without_return(line)) {
         Ok(None) => Ok(()),
         Ok(Some(line)) => {
-            let key = owned(alloc, &line)?;
+            let key = copied_key(alloc, &line)?;
             keys.push(key)?;
             Ok(())
         }
@@ -104,8 +105,8 @@ fn add_line(alloc: Global, keys: &mut Vec<Key>, number: usize, line: &[u8]) -> R
     }
 }
 
-/// Copies the key of a line.
-fn owned(alloc: Global, line: &KeyLine<'_>) -> Result<Key, AllocError>
+/// Copies the key in a line of the key file, so that it outlives the file's bytes.
+fn copied_key(alloc: Global, line: &KeyLine<'_>) -> Result<Key, AllocError>
     ensures { IfOk result (λ key. key ≡ line.now) }
 {
     Ok(Key {

@@ -6,7 +6,8 @@ ghost use Rattle.std.specs.Option.{option_copied};
 ghost use Rattle.site_keys.specs.Bytes.{text_in};
 ghost use Rattle.site_keys.specs.KeyFile.{is_name, is_name_byte};
 
-/// Returns bytes as a text, if they are UTF-8.
+/// Returns the bytes of a user's name, in a key file or an Authorization header, as a text, if they
+/// are UTF-8.
 pub(crate) fn text_in(bytes: &[u8]) -> Option<&str>
     ensures { option_copied result ≡ text_in bytes.entry.now }
 {
@@ -16,7 +17,7 @@ pub(crate) fn text_in(bytes: &[u8]) -> Option<&str>
     }
 }
 
-/// Returns whether a text can be a user's name.
+/// Returns whether a text can be the name of a user in the key file.
 #[tactic(auto, unfolding(crate::specs::KeyFile::is_name))]
 pub(crate) fn is_name(name: &str) -> bool
     ensures { result ≡ is_name name.now }
@@ -24,14 +25,14 @@ pub(crate) fn is_name(name: &str) -> bool
     !name.is_empty() && has_name_bytes(name.as_bytes())
 }
 
-/// Returns whether a name can have each of these bytes.
+/// Returns whether the name of a user in the key file can have each of these bytes.
 fn has_name_bytes(name: &[u8]) -> bool
     ensures { result ≡ list_all is_name_byte name.now }
 {
     name.iter().all(|b| is_name_byte(*b))
 }
 
-/// Returns whether a name can have this byte.
+/// Returns whether the name of a user in the key file can have this byte.
 fn is_name_byte(byte: u8) -> bool
     ensures { result ≡ is_name_byte byte }
 {

@@ -13,7 +13,7 @@ pub enum Role {
 }
 
 impl Role {
-    /// Returns the first word of its lines.
+    /// Returns the first word of the key file's lines for users of this role.
     pub(crate) fn word(self) -> &'static str
         ensures { result.now ≡ role_word self }
     {

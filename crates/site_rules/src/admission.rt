@@ -39,7 +39,7 @@ pub fn admit(site: &Site, point: &str, connector: u32, profile: &Profile) -> Res
     Ok(())
 }
 
-/// Returns the point of an identity.
+/// Returns the charge point of an identity in a site.
 fn point_named<'a>(site: &'a Site, id: &str) -> Option<SitePoint<'a>>
     ensures { option_map point_entry result ≡ entry_of site.now id.now }
 {
@@ -47,12 +47,14 @@ fn point_named<'a>(site: &'a Site, id: &str) -> Option<SitePoint<'a>>
     site.point(place)
 }
 
+/// Whether a purpose is ChargePointMaxProfile, which may be installed at connector 0 only.
 fn is_charge_point_max(purpose: Purpose) -> bool
     ensures { result ≡ is_charge_point_max purpose }
 {
     matches!(purpose, Purpose::ChargePointMaxProfile)
 }
 
+/// Whether a purpose is TxProfile, which may not be installed at connector 0.
 fn is_tx(purpose: Purpose) -> bool
     ensures { result ≡ is_tx purpose }
 {

@@ -47,6 +47,7 @@ pub fn read_site(alloc: Global, bytes: &[u8]) -> Result<Site, SiteFault>
     }
 }
 
+/// Reads the text of a site file, or returns its first fault.
 fn read_site_text(alloc: Global, text: &str) -> Result<Site, SiteFault>
     ensures { ReadsUnless is_memory (λ site. site) result (site_by (tree_of_text text.now)) }
 {
@@ -58,8 +59,8 @@ fn read_site_text(alloc: Global, text: &str) -> Result<Site, SiteFault>
     }
 }
 
-/// Reads the text as a tree, which takes many times its size. This is never reached, since a text
-/// that isn't JSON is refused earlier. But that isn't proved.
+/// Reads the text of a site file as a tree, which takes many times its size. This is never reached,
+/// since a text that isn't JSON is refused earlier. But that isn't proved.
 fn read_text_whole(alloc: Global, text: &str) -> Result<Site, SiteFault>
     ensures { ReadsUnless is_memory (λ site. site) result (site_by (tree_of_text text.now)) }
 {
@@ -71,6 +72,7 @@ fn read_text_whole(alloc: Global, text: &str) -> Result<Site, SiteFault>
     }
 }
 
+/// Reads a site from the tree of a site file: its unit, and its charge points.
 #[tactic(auto, unfolding(crate::specs::ByCases::SiteReading::site_of_tree))]
 fn read_site_tree(alloc: Global, tree: Node<'_, '_>) -> Result<Site, SiteFault>
     ensures { ReadsUnless is_memory (λ site. site) result (site_of_tree (tree_at tree.entry)) }
@@ -83,7 +85,7 @@ fn read_site_tree(alloc: Global, tree: Node<'_, '_>) -> Result<Site, SiteFault>
     read_points(alloc, unit, entries)
 }
 
-/// Reads the points, each completely before the next.
+/// Reads the charge points of a site from the tree of its file, each completely before the next.
 fn read_points(alloc: Global, unit: Unit, entries: Entries<'_, '_>) -> Result<Site, SiteFault>
     ensures { ReadsUnless is_memory (λ site. site) result
         (with_points (record { unit = unit; points = [] }) (entries_in entries.entry)) }

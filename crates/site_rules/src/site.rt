@@ -28,7 +28,7 @@ impl Model for Site {
 }
 
 impl Site {
-    /// Creates a site without points. Allocates nothing.
+    /// Creates a site without charge points, before they are read from its file. Allocates nothing.
     pub(crate) fn new(alloc: Global, unit: Unit) -> Site
         ensures { result ≡ record { unit = unit; points = [] } }
     {
@@ -38,7 +38,7 @@ impl Site {
         }
     }
 
-    /// Adds a point of a new identity, after the others.
+    /// Adds a charge point of a new identity to a site, after the others.
     pub(crate) fn add(&mut self, id: String, limits: PointLimits) -> Result<(), AllocError>
         requires { place_of self.old (string_bytes id) ≡ None }
         ensures unit { self.new.unit ≡ self.old.unit }
@@ -50,7 +50,8 @@ impl Site {
         Ok(())
     }
 
-    /// Returns the site with its points, in another unit.
+    /// Returns the site with its charge points, in another unit, which its file may name after the
+    /// points.
     pub(crate) fn with_unit(self, unit: Unit) -> Site
         ensures { result ≡ record { unit = unit; points = self.points } }
     {

@@ -35,6 +35,8 @@ pub fn status_path(path: &str) -> Option<StatusPath<'_>>
     }
 }
 
+/// Reads a path of the status port with a name or a number in it, `/page/N` or `/points/ID/C.svg`,
+/// if it is one.
 fn long_path(path: &str) -> Option<StatusPath<'_>>
     ensures { IfSome result IsOneOfMany }
 {

@@ -38,7 +38,7 @@ pub fn read_boot_line(text: &str) -> Option<BootLine<'_>> {
     })
 }
 
-/// Reads a word as a number.
+/// Reads the word for the number of a call in a line of the file of boots.
 fn read_number(word: &str) -> Option<u64> {
     word.parse::<u64>().ok()
 }

@@ -29,7 +29,7 @@ pub fn metrics_text(alloc: Global, report: &SiteReport<'_>) -> Result<String, Al
     Ok(out)
 }
 
-/// Appends the sample of a metric for the point at a place, if it has one.
+/// Appends the sample of a Prometheus metric for the charge point at a place, if it has one.
 fn push_of_point(
     out: &mut String,
     figure: PointFigure,
@@ -46,13 +46,13 @@ fn push_of_point(
     }
 }
 
-/// Appends the head of a metric family.
+/// Appends the head of a Prometheus metric family: its help and its type.
 fn push_head(out: &mut String, name: &str, help: &str, is_counter: bool) -> Result<(), AllocError> {
     let kind = if is_counter { "counter" } else { "gauge" };
     write!(out, "# HELP {name} {help}\n# TYPE {name} {kind}\n")
 }
 
-/// Appends a sample with one label.
+/// Appends a sample of a Prometheus metric with one label.
 fn push_sample(
     out: &mut String,
     name: &str,
@@ -65,7 +65,7 @@ fn push_sample(
     write!(out, "\"}} {value}\n")
 }
 
-/// Appends a label's value with backslash, quote and line feed escaped.
+/// Appends the value of a Prometheus metric's label, with backslash, quote and line feed escaped.
 fn push_label(out: &mut String, text: &str) -> Result<(), AllocError> {
     for character in text.chars() {
         match character {
@@ -110,6 +110,7 @@ const SITE_FIGURES: [SiteFigure; 11] = [
 ];
 
 impl SiteFigure {
+    /// Returns the name of the site's metric, as Prometheus reads it.
     fn name(self) -> &'static str {
         match self {
             SiteFigure::Healthy => "central_healthy",
@@ -126,6 +127,7 @@ impl SiteFigure {
         }
     }
 
+    /// Returns the help text of the site's metric for Prometheus.
     fn help(self) -> &'static str {
         match self {
             SiteFigure::Healthy => "Whether changes are kept: 1, or 0 where /health says 503.",
@@ -144,6 +146,7 @@ impl SiteFigure {
         }
     }
 
+    /// Returns whether the site's metric is a counter for Prometheus, rather than a gauge.
     fn is_counter(self) -> bool {
         match self {
             SiteFigure::Healthy
@@ -160,6 +163,7 @@ impl SiteFigure {
         }
     }
 
+    /// Appends the samples of the site's metric with their values in the report, for Prometheus.
     fn push_samples(self, out: &mut String, report: &SiteReport<'_>) -> Result<(), AllocError> {
         let name = self.name();
         let value = match self {
@@ -190,6 +194,8 @@ impl SiteFigure {
     }
 }
 
+/// Returns the value of the site's metric of health for Prometheus: 1 if changes are kept, or else
+/// 0.
 fn healthy(report: &SiteReport<'_>) -> u64 {
     match Health::of(Some(report.journal.state)) {
         Health::Well => 1,
@@ -197,7 +203,7 @@ fn healthy(report: &SiteReport<'_>) -> u64 {
     }
 }
 
-/// Appends a sample in seconds with six decimals.
+/// Appends a sample of a Prometheus metric in seconds with six decimals.
 fn push_seconds(out: &mut String, name: &str, microseconds: u64) -> Result<(), AllocError> {
     let (seconds, rest) = (microseconds / MILLION, microseconds % MILLION);
     // Prometheus' unit of time is the second; two whole numbers print the microseconds exactly.
@@ -235,6 +241,7 @@ const POINT_FIGURES: [PointFigure; 11] = [
 ];
 
 impl PointFigure {
+    /// Returns the name of the metric of each charge point, as Prometheus reads it.
     fn name(self) -> &'static str {
         match self {
             PointFigure::Connected => "central_point_connected",
@@ -251,6 +258,7 @@ impl PointFigure {
         }
     }
 
+    /// Returns the help text of the metric of each charge point for Prometheus.
     fn help(self) -> &'static str {
         match self {
             PointFigure::Connected => "Whether the point is connected.",
@@ -270,11 +278,14 @@ impl PointFigure {
         }
     }
 
+    /// Returns whether the metric of each charge point is a counter for Prometheus, rather than a
+    /// gauge.
     fn is_counter(self) -> bool {
         matches!(self, PointFigure::Confirmed | PointFigure::Rejected)
     }
 
-    /// Returns its value for a point at a moment, or `None` if there is no sample.
+    /// Returns the value of the Prometheus metric for a charge point at a moment, or `None` if
+    /// there is no sample.
     fn value(self, point: &PointSummary<'_>, now: Instant) -> Option<u64> {
         match self {
             PointFigure::Connected => Some(u64::from(point.news.connection.since.is_some())),
@@ -294,7 +305,7 @@ impl PointFigure {
     }
 }
 
-/// Returns how many seconds ago a moment was, if there is one.
+/// Returns how many seconds ago a moment was, if there is one, as the value of a Prometheus metric.
 fn seconds_since(moment: Option<Instant>, now: Instant) -> Option<u64> {
     Some(now.seconds().saturating_sub(moment?.seconds()))
 }

@@ -16,8 +16,8 @@ use sweep_compiler::{Explanation, Turns, explain};
 /// Seconds in a day.
 const DAY: u32 = 86_400;
 
-/// Returns the request for a connector of this book over the day from a moment on. Returns `None`
-/// if the book doesn't have the connector, or in the last day of the calendar.
+/// Returns the request for a connector's limits over the day from a moment on, for the status port.
+/// Returns `None` if the book doesn't have the connector, or in the last day of the calendar.
 fn ask_of(book: &PointBook, connector: u32, moment: Instant) -> Option<Ask>
     ensures asked { result ≡ asked_day book.now connector moment }
     ensures within { IfSome result (λ ask. ask.connector ≤ length book.now.ceilings) }
@@ -31,7 +31,8 @@ fn ask_of(book: &PointBook, connector: u32, moment: Instant) -> Option<Ask>
     }
 }
 
-/// Explains the limit of a connector over the next 24 hours, if the book has the connector.
+/// Explains the limit of a connector over the next 24 hours for the status page, if the book has
+/// the connector.
 pub(crate) fn explained_day(
     alloc: Global,
     book: &PointBook,

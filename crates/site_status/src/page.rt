@@ -49,7 +49,8 @@ pub fn site_page(
     Ok(Some(page.finish()?))
 }
 
-/// Returns the place of the first point of a page, if the site has the page.
+/// Returns the place of the first charge point on a page of the site's status, if the site has the
+/// page.
 fn first_of_page(points: usize, number: usize) -> Option<usize>
     ensures { is_some result ≡ is_page points number }
 {
@@ -57,6 +58,8 @@ fn first_of_page(points: usize, number: usize) -> Option<usize>
     if first < points { Some(first) } else { None }
 }
 
+/// Appends the beginning of the status page up to its points: the moment, the site's health and the
+/// numbers of sessions.
 fn push_opening(page: &mut Page, report: &SiteReport<'_>) {
     page.push_str("<!DOCTYPE html>\n<html lang=\"en\">\n<head>\n<meta charset=\"utf-8\">\n");
     page.push_str("<meta name=\"viewport\" content=\"width=device-width, initial-scale=1\">\n");
@@ -75,6 +78,7 @@ fn push_opening(page: &mut Page, report: &SiteReport<'_>) {
     page.push_str(" Times are in UTC.</p>\n</header>\n");
 }
 
+/// Returns the sentence about the site's health at the top of the status page.
 fn health_sentence(health: Health) -> &'static str {
     match health {
         Health::Well => "It is well.",
@@ -86,7 +90,7 @@ fn health_sentence(health: Health) -> &'static str {
     }
 }
 
-/// Appends the links to the pages, if there is more than one.
+/// Appends the links between the pages of the site's status, if there is more than one.
 fn push_pages(page: &mut Page, number: usize, pages: usize) {
     if pages <= 1 {
         return;
@@ -105,7 +109,7 @@ fn push_pages(page: &mut Page, number: usize, pages: usize) {
     page.push_str("</ul></nav>\n");
 }
 
-/// Appends a point: its state, and the limits of its connectors.
+/// Appends a charge point to the status page: its state, and the limits of its connectors.
 fn push_point(page: &mut Page, report: &SiteReport<'_>, point: &PointSummary<'_>) {
     push_element(page, "<section>\n<h2>", point.id, "</h2>\n");
     push_state(page, point);
@@ -132,7 +136,7 @@ fn push_point(page: &mut Page, report: &SiteReport<'_>, point: &PointSummary<'_>
     page.push_str("</section>\n");
 }
 
-/// Appends the state of a point.
+/// Appends the state of a charge point to the status page, with its warnings.
 fn push_state(page: &mut Page, point: &PointSummary<'_>) {
     page.push_str("<dl>\n");
     push_seen(
@@ -152,7 +156,7 @@ fn push_state(page: &mut Page, point: &PointSummary<'_>) {
     push_warnings(page, point);
 }
 
-/// Appends the state of the calls to a point.
+/// Appends the state of the calls to a charge point to the status page.
 fn push_calls(page: &mut Page, point: &PointSummary<'_>) {
     push_seen(
         page,
@@ -171,7 +175,7 @@ fn push_calls(page: &mut Page, point: &PointSummary<'_>) {
     push_count(page, "Calls rejected", point.news.rejections);
 }
 
-/// Appends what an operator has to do about a point, if anything.
+/// Appends to the status page what an operator has to do about a charge point, if anything.
 fn push_warnings(page: &mut Page, point: &PointSummary<'_>) {
     if let Some(rejection) = &point.news.rejection {
         push_rejection(page, rejection);
@@ -186,6 +190,7 @@ fn push_warnings(page: &mut Page, point: &PointSummary<'_>) {
     }
 }
 
+/// Appends to the status page the warning that a charge point rejected a call, with its reason.
 fn push_rejection(page: &mut Page, rejection: &Rejection) {
     let call = rejection.call;
     write!(page, "<p class=\"warning\">It rejected call {call}");
@@ -200,7 +205,8 @@ fn push_rejection(page: &mut Page, rejection: &Rejection) {
 /// The text in place of a moment that wasn't observed.
 const NOT_SEEN: &str = "not seen";
 
-/// Appends the moment of an observation, or `without`.
+/// Appends the moment of an observation of a charge point to the status page, or `without` if there
+/// is none.
 fn push_seen(page: &mut Page, name: &str, moment: Option<Instant>, without: &str) {
     push_element(page, "<div><dt>", name, "</dt><dd>");
     match moment {
@@ -210,12 +216,13 @@ fn push_seen(page: &mut Page, name: &str, moment: Option<Instant>, without: &str
     page.push_str("</dd></div>\n");
 }
 
+/// Appends a count of calls to a charge point to the status page, with its name.
 fn push_count(page: &mut Page, name: &str, count: u64) {
     push_element(page, "<div><dt>", name, "</dt><dd>");
     write!(page, "{count}</dd></div>\n");
 }
 
-/// Appends a moment for people and for programs.
+/// Appends a moment to the status page as an element `time`, for people and for programs.
 fn push_moment(page: &mut Page, moment: Instant) {
     page.push_str("<time datetime=\"");
     page.push_instant(moment);

@@ -196,7 +196,8 @@ impl PointActivity {
         self.rejection = rejected.last;
     }
 
-    /// Returns the action of the call of this number, if it is the last one that was sent.
+    /// Returns the action of the call to a charge point of this number, if it is the last one that
+    /// was sent.
     fn action_of(&self, call: u64) -> Option<ActionKind>
         ensures { result ≡ action_of self.now.sent call }
     {
@@ -224,6 +225,7 @@ impl RejectedCalls {
 }
 
 impl Rejection {
+    /// Returns a copy of a call's rejection by a charge point, for a report on the site's status.
     fn copy(&self, alloc: Global) -> Result<Rejection, AllocError> {
         Ok(Rejection {
             call: self.call,

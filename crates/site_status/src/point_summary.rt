@@ -32,7 +32,8 @@ pub(crate) struct CallSummary {
     pub(crate) may_have_forgotten: bool,
 }
 
-/// Summarizes the calls to each point, in the order of the site file.
+/// Summarizes the calls to each charge point for the texts of the status port, in the order of the
+/// site file.
 pub(crate) fn calls_of_points(
     alloc: Global,
     report: &SiteReport<'_>,
@@ -45,7 +46,8 @@ pub(crate) fn calls_of_points(
     Ok(all)
 }
 
-/// Summarizes the calls to the point at a place, as no calls if the site has no point there.
+/// Summarizes the calls to the point at a place for the status port, as no calls if the site has no
+/// point there.
 fn calls_at(
     alloc: Global,
     report: &SiteReport<'_>,
@@ -71,7 +73,8 @@ fn calls_at(
     })
 }
 
-/// Returns since when a call to the point at a place waits, if one does.
+/// Returns since when a call to the point at a place waits, if one does, for the texts of the
+/// status port.
 fn waiting_since_at(report: &SiteReport<'_>, place: usize) -> Option<Instant> {
     match report.waiting_since.get(place) {
         Some(since) => *since,
@@ -79,6 +82,7 @@ fn waiting_since_at(report: &SiteReport<'_>, place: usize) -> Option<Instant> {
     }
 }
 
+/// Returns the status port's summary of the calls at a place where the site has no charge point.
 fn no_calls() -> CallSummary {
     CallSummary {
         confirmed: 0,
@@ -91,7 +95,8 @@ fn no_calls() -> CallSummary {
     }
 }
 
-/// Summarizes the point at a place, with its calls. Returns `None` if the site has no point there.
+/// Summarizes the charge point at a place for the texts of the status port, with its calls. Returns
+/// `None` if the site has no point there.
 pub(crate) fn summary_at<'a>(
     report: &SiteReport<'a>,
     place: usize,

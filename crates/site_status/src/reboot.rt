@@ -35,7 +35,8 @@ pub fn may_have_forgotten(reboot: Reboot) -> bool
     reboot.has_profiles && is_before(reboot.installed, first) && is_before(reboot.agreed, first)
 }
 
-/// Returns whether there is no such call, or the point had confirmed it before it booted.
+/// Returns whether there is no such call, or the charge point had confirmed it before it booted and
+/// may have forgotten it since.
 pub(crate) fn is_before(call: Option<u64>, first: u64) -> bool
     ensures { result ≡ is_before call first }
 {
@@ -67,7 +68,7 @@ impl Reboot {
     }
 }
 
-/// Returns the first call that a point hadn't confirmed when it booted.
+/// Returns the first call that a charge point hadn't confirmed when it last booted, if it did.
 fn first_call_at(boot: Option<Boot>) -> Option<u64>
     ensures { result ≡ first_call_at boot }
 {
@@ -77,7 +78,8 @@ fn first_call_at(boot: Option<Boot>) -> Option<u64>
     }
 }
 
-/// Returns whether a point should have a profile whose install isn't in its outbox.
+/// Returns whether a charge point should have a profile whose install isn't in its outbox, so that
+/// it could have forgotten it.
 fn has_profiles(alloc: Global, book: &PointBook, outbox: &Outbox) -> Result<bool, AllocError>
     ensures { IfOk result (λ has.
         has ≡ has_installed book.now.rows (waiting_bodies outbox.now)) }
@@ -87,7 +89,8 @@ fn has_profiles(alloc: Global, book: &PointBook, outbox: &Outbox) -> Result<bool
     Ok(has_installed(book.view().rows, bodies.as_slice()))
 }
 
-/// Returns the call of a point's last audit, if it agreed in that.
+/// Returns the call of a charge point's last audit, if the point agreed in that: it had its
+/// profiles then.
 fn agreed_in(audit: Option<&PointAudit>) -> Option<u64>
     ensures { result ≡ agreed_in (option_map (λ asked. asked.now) audit.entry) }
 {
@@ -98,21 +101,23 @@ fn agreed_in(audit: Option<&PointAudit>) -> Option<u64>
     }
 }
 
-/// Returns whether there is a row whose install is none of these calls.
+/// Returns whether a charge point should have a profile whose install is none of these waiting
+/// calls.
 fn has_installed(rows: &[Row], calls: &[CallBody]) -> bool
     ensures { result ≡ has_installed rows.now calls.now }
 {
     rows.iter().any(|row| !is_installed_by(calls, row))
 }
 
-/// Returns whether the install of a row's profile is one of these calls.
+/// Returns whether the install of a charging profile is one of these calls that the charge point
+/// hasn't confirmed.
 fn is_installed_by(calls: &[CallBody], row: &Row) -> bool
     ensures { result ≡ is_installed_by calls.now row.now }
 {
     calls.iter().any(|call| is_install_of(row, call))
 }
 
-/// Returns whether a call installs a row's profile.
+/// Returns whether a call to a charge point installs the charging profile of a row.
 fn is_install_of(row: &Row, call: &CallBody) -> bool
     ensures { result ≡ is_install_of row.now call.now }
 {

@@ -33,6 +33,8 @@ pub fn state_json(alloc: Global, report: &SiteReport<'_>) -> Result<String, Allo
     page.finish_line()
 }
 
+/// Appends the counts of the site to the status port's JSON: its sessions, seats, changes, answers
+/// and refused connections.
 fn push_counts(page: &mut JsonPage, counts: &SiteCounts) {
     page.object("sessions");
     page.number("points", counts.point_sessions);
@@ -46,6 +48,8 @@ fn push_counts(page: &mut JsonPage, counts: &SiteCounts) {
     page.number("turnedAway", counts.turned_away);
 }
 
+/// Appends the site's journal to the status port's JSON: its bytes, and how often and how long it
+/// was synced.
 fn push_journal(page: &mut JsonPage, report: &SiteReport<'_>) {
     page.object("journal");
     page.number("bytes", report.journal.bytes);
@@ -54,6 +58,8 @@ fn push_journal(page: &mut JsonPage, report: &SiteReport<'_>) {
     page.end_object();
 }
 
+/// Appends a charge point to the status port's JSON: its connection, calls, audit, transactions and
+/// profiles.
 fn push_point(page: &mut JsonPage, point: &PointSummary<'_>) {
     page.begin_object();
     page.text("id", point.id);
@@ -71,7 +77,7 @@ fn push_point(page: &mut JsonPage, point: &PointSummary<'_>) {
     page.end_object();
 }
 
-/// Appends the observations of a point's connection.
+/// Appends the observations of a charge point's connection to the status port's JSON.
 fn push_news(page: &mut JsonPage, news: &PointActivity) {
     page.instant("connectedSince", news.connection.since);
     page.instant("lastText", news.heard);
@@ -82,7 +88,8 @@ fn push_news(page: &mut JsonPage, news: &PointActivity) {
     page.instant("booted", booted);
 }
 
-/// Appends the number of calls that a point rejected, and the last of them.
+/// Appends the number of calls that a charge point rejected to the status port's JSON, and the last
+/// of them.
 fn push_rejected(page: &mut JsonPage, news: &PointActivity) {
     page.number("rejections", news.rejections);
     match &news.rejection {
@@ -91,6 +98,8 @@ fn push_rejected(page: &mut JsonPage, news: &PointActivity) {
     }
 }
 
+/// Appends the last call that a charge point rejected to the status port's JSON, with the point's
+/// reason.
 fn push_rejection(page: &mut JsonPage, rejection: &Rejection) {
     page.object("rejected");
     page.number("call", rejection.call);
@@ -102,7 +111,8 @@ fn push_rejection(page: &mut JsonPage, rejection: &Rejection) {
     page.end_object();
 }
 
-/// Appends the active transactions of a point, without their idTags.
+/// Appends the active transactions of a charge point to the status port's JSON, without their
+/// idTags.
 fn push_transactions(page: &mut JsonPage, book: &PointBook) {
     page.array("transactions");
     for before in 0..book.connectors() {
@@ -114,6 +124,7 @@ fn push_transactions(page: &mut JsonPage, book: &PointBook) {
     page.end_array();
 }
 
+/// Appends the active transaction at a connector to the status port's JSON, without its idTag.
 fn push_transaction(page: &mut JsonPage, connector: u32, active: &Transaction) {
     page.begin_object();
     page.number("connectorId", u64::from(connector));
@@ -123,7 +134,7 @@ fn push_transaction(page: &mut JsonPage, connector: u32, active: &Transaction) {
     page.end_object();
 }
 
-/// Appends the profiles of a point.
+/// Appends the charging profiles of a point to the status port's JSON.
 fn push_profiles(page: &mut JsonPage, book: &PointBook) {
     page.array("profiles");
     for row in book.view().rows {
@@ -132,6 +143,7 @@ fn push_profiles(page: &mut JsonPage, book: &PointBook) {
     page.end_array();
 }
 
+/// Appends an installed charging profile to the status port's JSON, without its schedule.
 fn push_profile(page: &mut JsonPage, row: &Row) {
     page.begin_object();
     page.integer("chargingProfileId", row.profile.id);

@@ -103,6 +103,7 @@ pub fn answer_of(
     }
 }
 
+/// Returns the status port's answer with a page or a picture, or 404 if the site doesn't have it.
 fn found_if_any(
     alloc: Global,
     kind: ContentKind,
@@ -116,6 +117,7 @@ fn found_if_any(
     }
 }
 
+/// Returns the status port's answer 200 with a body of this content type.
 fn found(kind: ContentKind, body: String) -> StatusAnswer
     ensures { result.status ≡ 200 }
 {

@@ -34,7 +34,8 @@ pub(crate) struct Shown<'a> {
     pub(crate) from: Instant,
 }
 
-/// Appends the strip of a connector, with the list of its intervals.
+/// Appends a connector to the status page: the strip of its limit over the next 24 hours, with the
+/// list of its intervals.
 pub(crate) fn push_strip(page: &mut Page, shown: &Shown<'_>, explanation: &Explanation) {
     push_heading(page, shown, explanation);
     push_picture(page, explanation);
@@ -43,7 +44,7 @@ pub(crate) fn push_strip(page: &mut Page, shown: &Shown<'_>, explanation: &Expla
     push_list(page, shown, explanation);
 }
 
-/// Appends the heading with the current limit.
+/// Appends the heading of a connector's strip to the status page, with its current limit.
 fn push_heading(page: &mut Page, shown: &Shown<'_>, explanation: &Explanation) {
     let (point, connector) = (shown.point, shown.connector);
     write!(page, "<h3>Connector {connector}");
@@ -69,7 +70,8 @@ fn push_heading(page: &mut Page, shown: &Shown<'_>, explanation: &Explanation) {
     )
 }
 
-/// Appends the line of the limit over its area, with a rule every six hours.
+/// Appends to a connector's strip in the status page the line of the limit over its area, with a
+/// rule every six hours.
 fn push_picture(page: &mut Page, explanation: &Explanation) {
     let intervals = explanation.intervals();
     let most = highest(intervals);
@@ -81,7 +83,7 @@ fn push_picture(page: &mut Page, explanation: &Explanation) {
     page.push_str("\"/></svg>\n");
 }
 
-/// Returns the highest limit, or 1 if none is above 0.
+/// Returns the highest limit of a connector's strip in the status page, or 1 if none is above 0.
 fn highest(intervals: &[Interval]) -> u64 {
     let mut most = 1;
     for interval in intervals {
@@ -90,7 +92,8 @@ fn highest(intervals: &[Interval]) -> u64 {
     most
 }
 
-/// Appends the path data along the limits, which starts with `beginning`.
+/// Appends the SVG path data along the limits of a connector's strip in the status page, which
+/// starts with `beginning`.
 fn push_steps(page: &mut Page, intervals: &[Interval], most: u64, beginning: &str) {
     let mut before = beginning;
     for interval in intervals {
@@ -101,13 +104,13 @@ fn push_steps(page: &mut Page, intervals: &[Interval], most: u64, beginning: &st
     }
 }
 
-/// Returns the row of a limit, counted from the top.
+/// Returns the row of a limit in a connector's strip of the status page, counted from the top.
 fn row_of(limit: u32, most: u64) -> u64 {
     let height = u64::from(limit) * (ROWS - TOP) / most.max(1);
     ROWS.saturating_sub(height)
 }
 
-/// Appends the times below a picture.
+/// Appends the times below a connector's strip in the status page.
 fn push_labels(page: &mut Page, shown: &Shown<'_>) {
     // The list has the times as text, so a screen reader skips these.
     page.push_str("<div class=\"times\" aria-hidden=\"true\">");
@@ -120,7 +123,7 @@ fn push_labels(page: &mut Page, shown: &Shown<'_>) {
     page.push_str("</div>");
 }
 
-/// Appends the time of day of a moment, as `hh:mm`.
+/// Appends a moment's time of day, as `hh:mm`, to a connector's strip or list in the status page.
 pub(crate) fn push_clock(page: &mut Page, moment: u64) {
     let Some(instant) = Instant::try_new(moment.min(LAST_SECOND)) else {
         return;
@@ -138,7 +141,7 @@ pub(crate) fn push_clock(page: &mut Page, moment: u64) {
     }
 }
 
-/// Appends the intervals up to the maximum of a list.
+/// Appends the list of a connector's intervals below its strip in the status page, up to a maximum.
 fn push_list(page: &mut Page, shown: &Shown<'_>, explanation: &Explanation) {
     page.push_str("<ol>\n");
     for interval in explanation.intervals().iter().take(MOST_LISTED) {
@@ -148,7 +151,8 @@ fn push_list(page: &mut Page, shown: &Shown<'_>, explanation: &Explanation) {
     push_link(page, shown, explanation.intervals().len());
 }
 
-/// Appends an interval: its start, the limit, and the cause.
+/// Appends an interval to a connector's list in the status page: its start, the limit, and the
+/// cause.
 fn push_item(page: &mut Page, shown: &Shown<'_>, interval: &Interval) {
     page.push_str("<li>from ");
     let moment = shown.from.seconds() + u64::from(interval.start);
@@ -162,7 +166,8 @@ fn push_item(page: &mut Page, shown: &Shown<'_>, interval: &Interval) {
     page.push_str("</li>\n");
 }
 
-/// Appends the link to the whole picture, and the number of intervals that the list leaves out.
+/// Appends to a connector's list in the status page the link to the whole picture, and the number
+/// of intervals that it leaves out.
 fn push_link(page: &mut Page, shown: &Shown<'_>, count: usize) {
     let (point, connector) = (shown.point, shown.connector);
     page.push_str("<p>");

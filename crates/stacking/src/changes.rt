@@ -6,7 +6,7 @@ ghost use Rattle.profile.specs.Changes.{is_purpose, has_key_of, is_replaced_by, 
 
 use profile::{Criteria, Purpose, Row};
 
-/// Returns the number of rows that a new one doesn't replace.
+/// Returns the number of a charge point's rows that a newly installed one doesn't replace.
 pub(crate) fn staying(rows: &[Row], new: &Row) -> usize
     ensures { result ≡ length (rows_beside rows.now new.now) }
 {
@@ -14,14 +14,14 @@ pub(crate) fn staying(rows: &[Row], new: &Row) -> usize
     rows.iter().filter(|row| !is_replaced_by(new, row)).count()
 }
 
-/// Whether a row matches each given criterion.
+/// Whether any row of a charge point matches each given criterion of a ClearChargingProfile.
 pub(crate) fn has_match(rows: &[Row], criteria: &Criteria) -> bool
     ensures { result ≡ list_any (matches criteria.now) rows.now }
 {
     rows.iter().any(|row| matches(criteria, row))
 }
 
-/// Removes the rows that a new one replaces.
+/// Removes the rows of a charge point that a newly installed one replaces.
 pub(crate) fn drop_replaced(rows: &mut Vec<Row>, new: &Row)
     ensures rows { rows.new.items ≡ rows_beside rows.old.items new.now }
     ensures bound { vec_len rows.new ≤ vec_len rows.old }
@@ -30,7 +30,7 @@ pub(crate) fn drop_replaced(rows: &mut Vec<Row>, new: &Row)
     rows.retain(|row| !is_replaced_by(new, row));
 }
 
-/// Removes the rows that match each given criterion.
+/// Removes the rows of a charge point that match each given criterion of a ClearChargingProfile.
 pub(crate) fn drop_cleared(rows: &mut Vec<Row>, criteria: &Criteria)
     ensures rows { rows.new.items ≡ cleared rows.old.items criteria.now }
     ensures bound { vec_len rows.new ≤ vec_len rows.old }
@@ -38,7 +38,7 @@ pub(crate) fn drop_cleared(rows: &mut Vec<Row>, criteria: &Criteria)
     rows.retain(|row| !matches(criteria, row));
 }
 
-/// Removes the TxProfile rows of a connector.
+/// Removes the TxProfile rows of a charge point's connector, whose transaction has ended.
 pub(crate) fn drop_transaction_profiles(rows: &mut Vec<Row>, connector: u32)
     ensures rows { rows.new.items ≡ without_transaction_profiles rows.old.items connector }
     ensures bound { vec_len rows.new ≤ vec_len rows.old }
@@ -47,13 +47,16 @@ pub(crate) fn drop_transaction_profiles(rows: &mut Vec<Row>, connector: u32)
     rows.retain(|row| !is_tx_profile_at(connector, row));
 }
 
-/// Whether a new row replaces a row.
+/// Whether a newly installed row replaces a row of its charge point: they share the
+/// chargingProfileId, or the connector, purpose and stack level.
 fn is_replaced_by(new: &Row, row: &Row) -> bool
     ensures { result ≡ is_replaced_by new.now row.now }
 {
     row.profile.id == new.profile.id || has_key_of(new, row)
 }
 
+/// Whether a row has the connector, purpose and stack level of a newly installed one, which then
+/// replaces it.
 fn has_key_of(new: &Row, row: &Row) -> bool
     ensures { result ≡ has_key_of new.now row.now }
 {
@@ -62,14 +65,14 @@ fn has_key_of(new: &Row, row: &Row) -> bool
         && row.profile.stack_level == new.profile.stack_level
 }
 
-/// Whether two purposes are equal.
+/// Whether two purposes of charging profiles are equal.
 pub(crate) fn is_purpose(purpose: Purpose, other: Purpose) -> bool
     ensures { result ≡ is_purpose purpose other }
 {
     purpose == other
 }
 
-/// Whether a row matches each given criterion.
+/// Whether a row of a charge point matches each given criterion of a ClearChargingProfile.
 fn matches(criteria: &Criteria, row: &Row) -> bool
     ensures { result ≡ matches criteria.now row.now }
 {
@@ -85,6 +88,8 @@ fn matches(criteria: &Criteria, row: &Row) -> bool
             .is_none_or(|level| row.profile.stack_level == level)
 }
 
+/// Whether a row is a TxProfile at this connector, to be removed when the connector's transaction
+/// ends.
 fn is_tx_profile_at(connector: u32, row: &Row) -> bool
     ensures { result ≡ is_tx_profile_at connector row.now }
 {

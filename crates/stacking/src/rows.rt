@@ -186,6 +186,7 @@ impl Rows {
     }
 }
 
+/// Copies the rows of a charge point, its installed charging profiles.
 fn copy_of_rows(alloc: Global, rows: &[Row]) -> Result<Vec<Row>, AllocError>
     ensures { IfOk result (λ copy. copy.items ≡ rows.now) }
 {
@@ -196,6 +197,7 @@ fn copy_of_rows(alloc: Global, rows: &[Row]) -> Result<Vec<Row>, AllocError>
     Ok(copies)
 }
 
+/// Whether two charge points have equal rows, their installed charging profiles, in the same order.
 fn same_rows(rows: &[Row], others: &[Row]) -> bool
     ensures { IsTrue result ↔ (rows.now ≡ others.now) }
 {

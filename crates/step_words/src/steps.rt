@@ -31,17 +31,21 @@ pub fn step_of(alloc: Global, line: &str) -> Result<Step, UnreadWords> {
     }
 }
 
+/// Parses the step that installs a charging profile at a point, from words such as
+/// `id=1 kind=Relative`.
 fn install(alloc: Global, point: PointId, words: &str) -> Result<Step, UnreadWords> {
     let row = row_of(alloc, words)?;
     Ok(Step::Install { point, row })
 }
 
+/// Parses the step that clears a point's charging profiles by criteria, from words such as `id=1`.
 fn clear(point: PointId, words: &str) -> Result<Step, UnreadWords> {
     let criteria = criteria_of(words)?;
     Ok(Step::Clear { point, criteria })
 }
 
-/// Makes a start of words: its idTag, its connector, and its second.
+/// Parses the step that starts a transaction at a point, from its words: an idTag, a connector, and
+/// a second.
 fn start(alloc: Global, point: PointId, mut words: Words<'_>) -> Result<Step, UnreadWords> {
     let tag = words.word();
     let connector = words.number().unwrap_or(0);
@@ -53,8 +57,8 @@ fn start(alloc: Global, point: PointId, mut words: Words<'_>) -> Result<Step, Un
     })
 }
 
-/// Makes a remote start of words: its idTag, its connector, and those of its profile, if there are
-/// any.
+/// Parses the step of a remote start at a point, from its words: an idTag, a connector, and those
+/// of a profile, if any.
 fn remote_start(alloc: Global, point: PointId, mut words: Words<'_>) -> Result<Step, UnreadWords> {
     let tag = words.word();
     let connector = words.number().unwrap_or(0);
@@ -68,6 +72,8 @@ fn remote_start(alloc: Global, point: PointId, mut words: Words<'_>) -> Result<S
     })
 }
 
+/// Parses the charging profile of a remote start from its words, or returns `None` if there are
+/// none.
 fn profile_of(alloc: Global, words: &str) -> Result<Option<Profile>, UnreadWords> {
     if words.is_empty() {
         return Ok(None);
@@ -75,7 +81,8 @@ fn profile_of(alloc: Global, words: &str) -> Result<Option<Profile>, UnreadWords
     Ok(Some(row_of(alloc, words)?.profile))
 }
 
-/// Makes a request of words: its connector, its start, its duration, and the version that was seen.
+/// Parses the step that requests a point's composite schedule, from its words: a connector, a
+/// start, a duration, and the version that was seen.
 fn take(point: PointId, mut words: Words<'_>) -> Result<Step, UnreadWords> {
     let connector = words.number().unwrap_or(0);
     let start = instant_at(words.long().unwrap_or(0))?;
@@ -89,7 +96,8 @@ fn take(point: PointId, mut words: Words<'_>) -> Result<Step, UnreadWords> {
     }))
 }
 
-/// Makes a step whose words are numbers.
+/// Makes a step of the central system whose words are numbers, such as `CP1 stop 1` or
+/// `- compile 1`.
 fn numbered_step(point: PointId, name: &str, mut words: Words<'_>) -> Result<Step, UnreadWords> {
     let first = words.long().unwrap_or(0);
     let second = words.long().unwrap_or(0);
@@ -110,7 +118,8 @@ fn numbered_step(point: PointId, name: &str, mut words: Words<'_>) -> Result<Ste
     }
 }
 
-/// Makes a step of a link, or one that names only a point.
+/// Makes a step over a charge point's link, such as `CP1 send 2`, or one that names only a point,
+/// such as `CP1 attach`.
 fn link_step(point: PointId, name: &str, link: u64, call: u64) -> Result<Step, UnreadWords> {
     match name {
         "status" => Ok(Step::Status(point)),
@@ -123,6 +132,7 @@ fn link_step(point: PointId, name: &str, link: u64, call: u64) -> Result<Step, U
     }
 }
 
+/// Makes the step by which a charge point accepts or rejects a call over a link.
 fn confirm(point: PointId, link: u64, call: u64, accepted: bool) -> Step {
     Step::Confirm {
         point,
@@ -149,6 +159,8 @@ pub fn judging(alloc: Global, job: &AuditJob, line: &str) -> Result<Step, Unread
     })
 }
 
+/// Parses a charge point's reply to an audit from the words of a line `judge`, `refuse` or
+/// `garble`.
 fn said_by_point(alloc: Global, name: &str, words: Words<'_>) -> Result<Said, UnreadWords> {
     match name {
         "judge" => schedule(alloc, words),
@@ -157,7 +169,8 @@ fn said_by_point(alloc: Global, name: &str, words: Words<'_>) -> Result<Said, Un
     }
 }
 
-/// Makes a schedule of one limit from midnight on, in tenths of amperes.
+/// Makes the schedule that a point reports to an audit: one limit from midnight on, in tenths of
+/// amperes.
 fn schedule(alloc: Global, mut words: Words<'_>) -> Result<Said, UnreadWords> {
     let start = instant_at(0)?;
     let mut periods = Vec::new(alloc);

@@ -45,8 +45,8 @@ struct PeriodInterval {
 }
 
 impl PeriodInterval {
-    /// Makes the interval of a schedule's period: up to the next one, or to the end of the
-    /// schedule.
+    /// Makes the interval of a composite schedule's period: up to the next one, or to the end of
+    /// the schedule.
     fn of(schedule: &Composite, start: Instant, place: usize) -> PeriodInterval
         requires inside { place < length schedule.now.periods }
         ensures { IsPeriodInterval schedule.now start place result }
@@ -59,7 +59,8 @@ impl PeriodInterval {
         }
     }
 
-    /// Whether another interval shares an instant with this one and has another limit.
+    /// Whether an interval of another schedule shares an instant with this one and has another
+    /// limit, so that the schedules don't agree.
     fn contradicts(&self, other: &PeriodInterval) -> bool
         ensures { result ≡ contradict self.now other.now }
     {
@@ -67,8 +68,8 @@ impl PeriodInterval {
     }
 }
 
-/// Returns the second at which the period at an index begins, or after the last one the end of the
-/// schedule.
+/// Returns the second at which the period at an index of a composite schedule begins, or after the
+/// last one the schedule's end.
 fn begin_of(schedule: &Composite, place: usize) -> u32
     ensures { result ≡ begin_of schedule.now place }
 {

@@ -25,7 +25,8 @@ pub(crate) trait Curve {
     /// Whether the limit can be evaluated here: not in the middle of a second.
     ghost IsReady: { Self → Type 0 };
 
-    /// Returns the limit here, in tenths, which takes one turn.
+    /// Returns the limit at the current second of the sweep of a composite schedule, in tenths,
+    /// which takes one turn.
     fn limit(&self, turns: &mut Turns) -> u32
         requires ready { IsReady self.now }
         requires within { here self.now < end self.now }
@@ -33,9 +34,9 @@ pub(crate) trait Curve {
         ensures limit { result ≡ limits self.now (here self.now) }
         ensures turn { turns.new ≡ turns.old + 1 };
 
-    /// Goes on to a later place, up to which the limit is the same as here, and returns that place,
-    /// or `None` if the limit is the same to the end. Returns `OutOfMemory` if memory runs out on
-    /// the way; then the sweep can't go on.
+    /// Moves the sweep of a composite schedule to a later place, up to which the limit is the same
+    /// as here, and returns it. Returns `None` if the limit is the same to the end, and
+    /// `OutOfMemory` if memory runs out on the way; then the sweep can't go on.
     fn go_on(&mut self) -> Result<Option<u32>, Refusal>
         requires ready { IsReady self.old }
         requires within { here self.old < end self.old }

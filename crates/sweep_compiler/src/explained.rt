@@ -51,8 +51,8 @@ pub fn explain(
     }
 }
 
-/// Returns the intervals of a curve, found at its first second and then from place to place: one
-/// turn for each.
+/// Explains the limits of a requested schedule along its curve, in intervals of one reason each. It
+/// takes one turn at the first second and at each place.
 fn explain_along(
     alloc: Global,
     curve: &mut LimitCurve<'_>,

@@ -36,7 +36,8 @@ pub(crate) struct Gathering<'a> {
 }
 
 impl<'a> Gathering<'a> {
-    /// Returns the limit of a connector at the start of a request.
+    /// Returns the limit of a connector at the start of a request for a composite schedule, from
+    /// where a sweep begins.
     pub(crate) fn curve(&self, connector: u32) -> Result<LimitCurve<'a>, Refusal>
         requires has_connector { connector ≤ length self.now.view.ceilings.now }
         requires short { self.now.last < self.now.asked + 2 ^ 32 }
@@ -59,8 +60,8 @@ impl<'a> Gathering<'a> {
         })
     }
 
-    /// Returns the bound of the whole point, followed by the bound of each connector that the
-    /// request covers.
+    /// Returns the bound of the whole charge point, followed by that of each connector that a
+    /// request for a composite schedule covers.
     fn bounds(&self, connector: u32) -> Result<Vec<Bounded<'a>>, Refusal>
         requires has_connector { connector ≤ length self.now.view.ceilings.now }
         ensures bounds { IfOk result (λ bounds. AreAtStart (point_state self.now.view) connector
@@ -72,7 +73,8 @@ impl<'a> Gathering<'a> {
         Ok(bounds)
     }
 
-    /// Returns the bound of each connector that the request covers.
+    /// Returns the bound of each connector that a request for a composite schedule covers: the
+    /// given one, or for 0 all active ones.
     fn looked(&self, connector: u32) -> Result<Vec<Bounded<'a>>, Refusal>
         requires has_connector { connector ≤ length self.now.view.ceilings.now }
         ensures looked { IfOk result (λ looked. AreConnectorsAtStart (point_state self.now.view)
@@ -88,7 +90,8 @@ impl<'a> Gathering<'a> {
         Ok(looked)
     }
 
-    /// Returns the bound of each connector with an active transaction.
+    /// Returns the bound of each connector with an active transaction, for a composite schedule of
+    /// the whole charge point.
     fn active(&self) -> Result<Vec<Bounded<'a>>, Refusal>
         ensures looked { IfOk result (λ looked. AreConnectorsAtStart (point_state self.now.view)
             self.now.asked self.now.last (active_connectors (point_state self.now.view))
@@ -102,7 +105,8 @@ impl<'a> Gathering<'a> {
         Ok(looked)
     }
 
-    /// Adds the connector after the first `before`, if it has an active transaction.
+    /// Adds the bound of the connector after the first `before`, if it has an active transaction,
+    /// for the whole charge point's composite schedule.
     fn add_active(&self, looked: &mut Vec<Bounded<'a>>, before: usize) -> Result<(), Refusal>
         requires has_connector { before < length self.now.view.ceilings.now }
         ensures added { IfOk result (λ _. IsWithConnector
@@ -118,7 +122,8 @@ impl<'a> Gathering<'a> {
         Ok(())
     }
 
-    /// Returns the bound of the whole point.
+    /// Returns the bound of the whole charge point at a request's start: its ceiling, and its
+    /// ChargePointMaxProfile rows.
     fn point(&self) -> Result<Bounded<'a>, Refusal>
         ensures bound { IfOk result (λ bound.
             IsPointAtStart (point_state self.now.view) self.now.asked self.now.last bound) }
@@ -128,7 +133,8 @@ impl<'a> Gathering<'a> {
         Bounded::new(self.alloc, 0, runs, self.view.ceiling)
     }
 
-    /// Returns the bound of a connector.
+    /// Returns the bound of a connector at a request's start: its ceiling, and the TxProfile and
+    /// TxDefaultProfile rows that apply to it.
     fn connector(&self, connector: u32) -> Result<Bounded<'a>, Refusal>
         requires above { 0 < connector }
         requires has_connector { connector ≤ length self.now.view.ceilings.now }
@@ -143,7 +149,8 @@ impl<'a> Gathering<'a> {
         Bounded::new(self.alloc, connector, runs, ceiling)
     }
 
-    /// Returns the rows of a purpose that count for a connector, by falling stack level.
+    /// Returns the rows of a purpose that count for a connector in a composite schedule, by falling
+    /// stack level, each at its start.
     fn runs_of(&self, purpose: Purpose, connector: u32) -> Result<Vec<Run<'a>>, AllocError>
         ensures { IfOk result (λ runs. AreRunsOf purpose (point_state self.now.view) connector
             self.now.asked self.now.last runs.items) }
@@ -157,7 +164,8 @@ impl<'a> Gathering<'a> {
         Ok(runs)
     }
 
-    /// Adds the rows that an iterator yields.
+    /// Adds the rows that an iterator yields to those that count for a connector in a composite
+    /// schedule.
     fn add(
         &self,
         runs: &mut Vec<Run<'a>>,
@@ -174,7 +182,8 @@ impl<'a> Gathering<'a> {
         Ok(())
     }
 
-    /// Returns a row that counts for a connector, at the start.
+    /// Returns a charge point's row that counts for a connector, as it is at the start of a
+    /// composite schedule.
     fn run(&self, row: &'a Row, connector: usize) -> Run<'a>
         ensures { result ≡ running_from (point_state self.now.view) connector
             self.now.asked self.now.last row.now }
@@ -184,7 +193,8 @@ impl<'a> Gathering<'a> {
     }
 }
 
-/// Returns the sum of the limits of the connectors, which follow the first bound.
+/// Returns the sum of the connectors' limits at a request's start. Their bounds follow the first
+/// one, which is the whole charge point's.
 fn shared(bounds: &[Bounded<'_>]) -> u64
     requires small { AllByRecursion (λ (bound : RunningBound). bound.ceiling < 2 ^ 32) bounds.now }
     requires few { length bounds.now ≤ 2 ^ 32 }
@@ -197,7 +207,8 @@ fn shared(bounds: &[Bounded<'_>]) -> u64
     sum
 }
 
-/// Returns the next place of each row of some bounds.
+/// Makes the queue for the sweep of a composite schedule: the next place of each row of some
+/// bounds.
 fn queue_of(alloc: Global, bounds: &[Bounded<'_>]) -> Result<Queue, AllocError>
     ensures { IfOk result (λ queue. AreWaiting bounds.now (length bounds.now) 0 queue) }
 {
@@ -208,7 +219,7 @@ fn queue_of(alloc: Global, bounds: &[Bounded<'_>]) -> Result<Queue, AllocError>
     Ok(queue)
 }
 
-/// Adds the next place of each row of a bound to those of the bounds before it.
+/// Adds the next place of each row of a bound to the queue for the sweep of a composite schedule.
 fn add_rows(queue: &mut Queue, bounds: &[Bounded<'_>], bound: usize) -> Result<(), AllocError>
     requires has_bound { bound < length bounds.now }
     requires before { AreWaiting bounds.now bound 0 queue.old }
@@ -220,7 +231,7 @@ fn add_rows(queue: &mut Queue, bounds: &[Bounded<'_>], bound: usize) -> Result<(
     Ok(())
 }
 
-/// Adds the next place of a row to those of the rows and bounds before it.
+/// Adds the next place of a row, if it has one, to the queue for the sweep of a composite schedule.
 fn add_row(
     queue: &mut Queue,
     bounds: &[Bounded<'_>],

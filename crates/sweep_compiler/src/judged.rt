@@ -97,7 +97,7 @@ impl Judged {
     }
 }
 
-/// Returns the verdict on a point's reply.
+/// Returns the verdict on a charge point's reply to the GetCompositeSchedule of an audit.
 fn verdict_of(alloc: Global, job: &AuditJob, said: Said) -> Result<Verdict, AllocError>
     ensures verdict { IfOk result (λ verdict. IsVerdict job.now said verdict) }
     ensures short { OnErr result (MayNeedMemory job.now said) }
@@ -120,8 +120,8 @@ fn verdict_of(alloc: Global, job: &AuditJob, said: Said) -> Result<Verdict, Allo
     }
 }
 
-/// Returns the schedule that a point reports over a number of seconds, if it is one in the
-/// requested unit.
+/// Returns the schedule that a charge point reports in an audit over a number of seconds, if it is
+/// one in the requested unit.
 fn comparable(job: &AuditJob, duration: u32, unit: Unit, periods: SaidPeriods) -> Option<Composite>
     ensures said { IfSome result
         (λ schedule. schedule ≡ record { duration = duration; periods = periods }) }
@@ -137,7 +137,8 @@ fn comparable(job: &AuditJob, duration: u32, unit: Unit, periods: SaidPeriods) -
     }
 }
 
-/// Returns the verdict on a schedule from a start on, in the requested unit.
+/// Returns an audit's verdict on the schedule that a charge point reports from a start on, by
+/// comparison with the exact one.
 fn compared(
     alloc: Global,
     job: &AuditJob,

@@ -41,7 +41,8 @@ impl<'a> Model for Run<'a> {
 }
 
 impl<'a> Run<'a> {
-    /// Makes a row, counted from a base, at an instant, with its places up to a last one.
+    /// Makes a row (a charging profile) of a sweep, counted from a base, at an instant, with its
+    /// places up to a last one.
     pub(crate) fn new(row: &'a Row, base: Instant, start: Instant, last: Instant) -> Run<'a>
         ensures { result ≡ record { row = row.now; base = base; since = start; last = last } }
     {
@@ -58,8 +59,8 @@ impl<'a> Run<'a> {
         }
     }
 
-    /// Returns the rank of its row: a TxProfile comes before any TxDefaultProfile, and of one
-    /// purpose the higher stack level first (chapter 3.13).
+    /// Returns the rank of the row's charging profile: a TxProfile comes before any
+    /// TxDefaultProfile, and of one purpose the higher stack level first (chapter 3.13).
     pub(crate) fn rank(&self) -> u32
         ensures { result ≡ rank_running self.now }
     {
@@ -70,14 +71,15 @@ impl<'a> Run<'a> {
         }
     }
 
-    /// Returns the limit that it has had since the last of its places that was passed.
+    /// Returns the limit that the row's charging profile has had since the last of its places that
+    /// the sweep passed.
     pub(crate) fn rate(&self) -> Option<u32>
         ensures { result ≡ rate_running self.now }
     {
         self.rate
     }
 
-    /// Returns its profile with that limit, if it has one.
+    /// Returns the row's charging profile with its limit at the sweep's instant, if it has one.
     pub(crate) fn profile_limit(&self) -> Option<ProfileLimit>
         ensures { result ≡ option_map profile_limit_of (row_running self.now) }
     {
@@ -85,7 +87,8 @@ impl<'a> Run<'a> {
         Some(ProfileLimit::of(self.row, limit))
     }
 
-    /// Returns the limit from its next place on, or its present limit if there is no next place.
+    /// Returns the limit of the row's charging profile from its next place on, or its present limit
+    /// if there is no next place.
     pub(crate) fn next_rate(&self) -> Option<u32>
         ensures { result ≡ rate_running (passed self.now) }
     {
@@ -95,14 +98,14 @@ impl<'a> Run<'a> {
         }
     }
 
-    /// Returns the instant of its next place.
+    /// Returns the instant of the row's next place in the sweep, at which its limit can change.
     pub(crate) fn due(&self) -> Option<Instant>
         ensures { result ≡ due self.now }
     {
         Some(self.next?.instant)
     }
 
-    /// Passes its next place, if there is one.
+    /// Moves the row past its next place in the sweep, if there is one.
     pub(crate) fn pass(&mut self)
         ensures { self.new ≡ passed self.old }
     {

@@ -41,6 +41,7 @@ impl Turns {
         self.count
     }
 
+    /// Counts one evaluation of a limit in the sweep of a composite schedule.
     fn count_one(&mut self)
         requires room { self.old + 1 < 2 ^ 64 }
         ensures { self.new ≡ self.old + 1 }

@@ -44,6 +44,8 @@ mmpppf|3|kf|a/b/c|a/b/
 mmppppx|4|kx|a/|a/
 mmmm|0|kk|a/b/c/|a/b/c/";
 
+/// Checks what the append-only log keeps, and a crash leaves of it, if calls of its file fail as in
+/// `FAULTS`.
 #[test]
 fn each_fault_leaves_what_was_acknowledged(rt: HostRuntime) {
     for row in FAULTS.lines() {
@@ -51,6 +53,8 @@ fn each_fault_leaves_what_was_acknowledged(rt: HostRuntime) {
     }
 }
 
+/// Checks that a crash leaves a first part of the append-only log, and that a log opened afterwards
+/// has its whole lines.
 #[test]
 fn a_crash_leaves_a_first_part_and_opening_its_whole_lines(rt: HostRuntime) {
     for row in CRASHES.lines() {
@@ -58,7 +62,8 @@ fn a_crash_leaves_a_first_part_and_opening_its_whole_lines(rt: HostRuntime) {
     }
 }
 
-/// Plays a row: adds each text, and tries once to write and sync it.
+/// Plays a row on an append-only log: adds each text, tries once to write and sync it, lets the
+/// file crash, and opens it again.
 fn play(rt: &impl Abort, alloc: Global, texts: &[&str], row: &str) {
     let (letters, rest) = row.split_once('|').expect(rt, row);
     let (behind, wanted) = rest.split_once('|').expect(rt, row);
@@ -76,7 +81,8 @@ fn play(rt: &impl Abort, alloc: Global, texts: &[&str], row: &str) {
     assert!(rt; found.as_str() == wanted, "{row}: {found}");
 }
 
-/// Opens a log in a file with this text. The file's later calls have the outcomes of these letters.
+/// Opens an append-only log in a file in memory with this text. The file's later calls have the
+/// outcomes of these letters.
 fn log_in(rt: &impl Abort, alloc: Global, text: &str, letters: &str) -> Log<MemoryFile> {
     let bytes = text.as_bytes().to_vec(alloc).expect(rt, "error");
     let answers = answers_of(alloc, letters).expect(rt, "error");
@@ -85,7 +91,8 @@ fn log_in(rt: &impl Abort, alloc: Global, text: &str, letters: &str) -> Log<Memo
     Log::open(alloc, file, end).ok().expect(rt, "it is opened")
 }
 
-/// Returns the answers of the letters, the last one first, and then that of the cut.
+/// Returns the outcomes of calls on a log's file by their letters, the last one first. Then comes
+/// that of the cut at opening.
 fn answers_of(alloc: Global, letters: &str) -> Result<Vec<FileAnswer>, AllocError> {
     let mut answers = Vec::new(alloc);
     for letter in letters.as_bytes().iter().rev() {
@@ -100,6 +107,8 @@ fn answers_of(alloc: Global, letters: &str) -> Result<Vec<FileAnswer>, AllocErro
     Ok(answers)
 }
 
+/// Tries once to write and sync what was added to an append-only log, and returns the letter of the
+/// outcome.
 fn trial(log: &mut Log<MemoryFile>) -> &'static str {
     match log.write_and_sync() {
         Ok(()) => "k",
@@ -109,7 +118,8 @@ fn trial(log: &mut Log<MemoryFile>) -> &'static str {
     }
 }
 
-/// Returns the bytes that a crash leaves of a log, with `behind` bytes after those on disk.
+/// Returns the text that a crash leaves of an append-only log's file, with `behind` bytes after
+/// those on disk.
 fn text_left(rt: &impl Abort, alloc: Global, log: &Log<MemoryFile>, behind: usize) -> String {
     let left = log.file().crash(alloc, behind).expect(rt, "error");
     String::from_utf8(left).ok().expect(rt, "ASCII")

@@ -18,7 +18,8 @@ use std::process::Abort;
 use std::sync::Arc;
 use sweep_compiler::{AuditJob, Judged, Verdict};
 
-/// Parses a period such as `30:80`: its start and its limit.
+/// Parses a period of the schedule that an audited charge point reports, such as `30:80`: its start
+/// and its limit.
 fn period_of(rt: &impl Abort, word: &str) -> CompositePeriod {
     let (start, limit) = word.split_once(':').expect(rt, word);
     CompositePeriod {
@@ -27,7 +28,8 @@ fn period_of(rt: &impl Abort, word: &str) -> CompositePeriod {
     }
 }
 
-/// Parses the periods of `0:160 30:80`, or of `each=4096`.
+/// Parses the periods of the schedule that an audited charge point reports: of `0:160 30:80`, or of
+/// `each=4096`.
 fn periods_of(rt: &impl Abort, alloc: Global, words: &str) -> SaidPeriods {
     let mut periods = Vec::new(alloc);
     if let Some(count) = words.strip_prefix("each=") {
@@ -43,11 +45,14 @@ fn periods_of(rt: &impl Abort, alloc: Global, words: &str) -> SaidPeriods {
     SaidPeriods::new(periods)
 }
 
+/// Parses the charging rate unit, `A` or `W`, of an audit or of the schedule that the point
+/// reports.
 fn unit_of(rt: &impl Abort, word: &str) -> Unit {
     Unit::named(word).expect(rt, word)
 }
 
-/// Parses the reply of a point.
+/// Parses the reply of a charge point to an audit: a rejection, a reply that can't be read, or a
+/// schedule.
 fn said_of(rt: &impl Abort, alloc: Global, words: &str) -> Said {
     let mut words = Words::of(words);
     match words.word() {
@@ -62,7 +67,8 @@ fn said_of(rt: &impl Abort, alloc: Global, words: &str) -> Said {
     }
 }
 
-/// Makes the audit of words, of a connector that the book has.
+/// Makes the audit of words such as `1 60 A`: a connector, which the point's book has, a number of
+/// seconds, and a unit.
 fn job_of(rt: &impl Abort, book: &Arc<PointBook>, words: &mut Words<'_>) -> AuditJob {
     let connector = words.number().expect(rt, "a connector");
     let duration = words.number().expect(rt, "a duration");
@@ -76,7 +82,8 @@ fn job_of(rt: &impl Abort, book: &Arc<PointBook>, words: &mut Words<'_>) -> Audi
     )
 }
 
-/// Checks the verdict of a line, and that memory sufficed.
+/// Checks the verdict of a line on a charge point's reply to an audit, and that memory sufficed for
+/// it.
 fn expect(rt: &impl Abort, alloc: Global, book: &Arc<PointBook>, line: &str) {
     let (asked, wanted) = line.split_once(" = ").expect(rt, line);
     let mut words = Words::of(asked);
@@ -88,6 +95,8 @@ fn expect(rt: &impl Abort, alloc: Global, book: &Arc<PointBook>, line: &str) {
     holds(rt, judged.audit().same(&kept), line);
 }
 
+/// Returns the name of the verdict on a point's reply to an audit, as the lines of this test have
+/// it.
 fn name_of(verdict: Verdict) -> &'static str {
     match verdict {
         Verdict::Agrees => "Agrees",
@@ -97,6 +106,7 @@ fn name_of(verdict: Verdict) -> &'static str {
     }
 }
 
+/// Checks the verdicts of lines on replies to audits of a charge point whose book has these rows.
 fn expect_all(rt: &impl Abort, alloc: Global, rows: &str, lines: &str) {
     let book = Arc::new(alloc, play(rt, alloc, rows)).expect(rt, "error");
     for line in lines.lines() {
@@ -166,13 +176,15 @@ const LONG: &str = "\
 1 1769473 A schedule 0 432 A 0:60 = Unsettled
 1 1769473 A schedule 0 433 A 0:60 = Unsettled";
 
+/// Checks the verdicts on a charge point's replies to audits against those found by hand.
 #[test]
 fn judges_what_is_said(rt: HostRuntime) {
     expect_all(&rt, rt.alloc(), ROWS, COMPARED);
     expect_all(&rt, rt.alloc(), MOST_PERIODS, LONG);
 }
 
-/// Makes a book of 16 A for half a minute from the start of the request, and then 8 A.
+/// Makes a point's book with a Relative profile: 16 A for half a minute from the start of an
+/// audit's request, and then 8 A.
 fn relative(rt: &impl Abort, alloc: Global) -> Arc<PointBook> {
     let ceilings = Vec::from_slice(alloc, &[320]).expect(rt, "error");
     let mut book = PointBook::try_new(alloc, 630, ceilings).expect(rt, "error");
@@ -184,7 +196,8 @@ fn relative(rt: &impl Abort, alloc: Global) -> Arc<PointBook> {
     }
 }
 
-/// Judges an audit again if memory ran out the first time.
+/// Checks that a point's reply to an audit is Unsettled if memory runs out, and has its verdict
+/// when it is judged again.
 #[test]
 fn an_audit_is_judged_again_where_memory_was_refused(rt: HostRuntime) {
     let alloc = rt.alloc();

@@ -32,7 +32,8 @@ struct Line<'a> {
     words: Words<'a>,
 }
 
-/// Plays lines on a book, which the first line makes.
+/// Plays the lines of a script on a point's book of charging profiles, which the first line makes,
+/// and returns the book.
 pub(crate) fn play(rt: &impl Abort, alloc: Global, lines: &str) -> PointBook {
     let mut book = PointBook::try_new(alloc, 0, Vec::new(alloc)).expect(rt, "error");
     for line in lines.lines() {
@@ -41,6 +42,7 @@ pub(crate) fn play(rt: &impl Abort, alloc: Global, lines: &str) -> PointBook {
     book
 }
 
+/// Plays a line of a script on a point's book, and checks that its result is the one after ` =`.
 fn play_line(rt: &impl Abort, alloc: Global, book: &mut PointBook, whole: &str) {
     let (said, wanted) = whole.split_once(" =").unwrap_or((whole, ""));
     let mut words = Words::of(said);
@@ -54,7 +56,7 @@ fn play_line(rt: &impl Abort, alloc: Global, book: &mut PointBook, whole: &str) 
     same_text(rt, found.as_str(), wanted.trim_start(), whole);
 }
 
-/// Returns the result of a line.
+/// Plays a line of a script on a point's book, by the line's first word, and returns the result.
 fn outcome(rt: &impl Abort, book: &mut PointBook, verb: &str, line: Line<'_>) -> String {
     match verb {
         "point" => begin_anew(rt, book, line),
@@ -65,7 +67,8 @@ fn outcome(rt: &impl Abort, book: &mut PointBook, verb: &str, line: Line<'_>) ->
     }
 }
 
-/// Returns the result of a request.
+/// Returns the result of a script's line that requests a schedule, or an explanation of one, from a
+/// point's book.
 fn answer(rt: &impl Abort, book: &PointBook, verb: &str, mut line: Line<'_>) -> String {
     let ask = ask_of(rt, book, &mut line);
     match verb {
@@ -78,6 +81,8 @@ fn answer(rt: &impl Abort, book: &PointBook, verb: &str, mut line: Line<'_>) -> 
     String::new(line.alloc)
 }
 
+/// Replaces the book by the new one of a script's line: a point with a ceiling, and connectors with
+/// one each.
 fn begin_anew(rt: &impl Abort, book: &mut PointBook, mut line: Line<'_>) -> String {
     let ceiling = line.words.number().expect(rt, line.whole);
     let connectors = line.words.number().expect(rt, line.whole);
@@ -90,8 +95,8 @@ fn begin_anew(rt: &impl Abort, book: &mut PointBook, mut line: Line<'_>) -> Stri
     String::new(line.alloc)
 }
 
-/// Installs a row, and returns the refusal, if there is one: then the row is returned to the caller
-/// too.
+/// Installs a charging profile in a point's book, and returns the refusal's name, or an empty text.
+/// A refused row comes back to the caller.
 fn refusal_of(rt: &impl Abort, book: &mut PointBook, row: Row) -> &'static str {
     let id = row.profile.id;
     assert!(rt; row.connector <= book.connectors());
@@ -104,6 +109,8 @@ fn refusal_of(rt: &impl Abort, book: &mut PointBook, row: Row) -> &'static str {
     }
 }
 
+/// Installs the charging profile of a script's line in a point's book, and returns the refusal's
+/// name, or an empty text. A refused one changes nothing.
 fn install(rt: &impl Abort, book: &mut PointBook, line: Line<'_>) -> String {
     let row = row_of(line.alloc, line.words.rest()).expect(rt, line.whole);
     let before = book.copy().expect(rt, line.whole);
@@ -112,7 +119,8 @@ fn install(rt: &impl Abort, book: &mut PointBook, line: Line<'_>) -> String {
     String::from_str(line.alloc, refusal).expect(rt, line.whole)
 }
 
-/// Parses the profile of the remaining words, if there are any.
+/// Parses the profile with which the transaction of a script's line begins from the remaining
+/// words, if there are any.
 fn own_profile(rt: &impl Abort, line: Line<'_>) -> Option<Profile> {
     if line.words.rest().is_empty() {
         return None;
@@ -120,6 +128,7 @@ fn own_profile(rt: &impl Abort, line: Line<'_>) -> Option<Profile> {
     Some(profile_of(line.alloc, line.words.rest()).expect(rt, line.whole))
 }
 
+/// Begins the transaction of a script's line in a point's book, with a profile if the line has one.
 fn start(rt: &impl Abort, book: &mut PointBook, mut line: Line<'_>) -> String {
     let connector = line.words.number().expect(rt, line.whole);
     let tag = line.words.word();
@@ -130,6 +139,8 @@ fn start(rt: &impl Abort, book: &mut PointBook, mut line: Line<'_>) -> String {
     String::new(line.alloc)
 }
 
+/// Begins a transaction at a connector of a point's book, and checks that it has the given number
+/// there.
 fn begin_at(
     rt: &impl Abort,
     book: &mut PointBook,
@@ -145,7 +156,8 @@ fn begin_at(
     holds(rt, number == Some(next), "its number");
 }
 
-/// Makes the request of words, for a connector that the book has.
+/// Makes the request for a composite schedule in a script's line, for a connector that the point's
+/// book has.
 fn ask_of(rt: &impl Abort, book: &PointBook, line: &mut Line<'_>) -> Ask
     ensures { result.connector ≤ length book.now.ceilings }
 {
@@ -157,6 +169,8 @@ fn ask_of(rt: &impl Abort, book: &PointBook, line: &mut Line<'_>) -> Ask
     ask
 }
 
+/// Checks that this compiler and the plain one, which goes second by second, give a request the
+/// same periods.
 fn expect_alike(rt: &impl Abort, book: &PointBook, ask: &Ask, line: Line<'_>) {
     assert!(rt; ask.connector <= book.connectors());
     let plain = compile_plain(line.alloc, &book.view(), ask).expect(rt, line.whole);
@@ -164,6 +178,8 @@ fn expect_alike(rt: &impl Abort, book: &PointBook, ask: &Ask, line: Line<'_>) {
     holds(rt, schedule.periods() == plain.periods(), line.whole);
 }
 
+/// Compiles a request's schedule, and returns its number of periods, or its refusal, and the number
+/// of evaluations of the limit.
 fn counts(rt: &impl Abort, book: &PointBook, ask: &Ask, line: Line<'_>) -> String {
     assert!(rt; ask.connector <= book.connectors());
     let mut turns = Turns::new();
@@ -174,6 +190,8 @@ fn counts(rt: &impl Abort, book: &PointBook, ask: &Ask, line: Line<'_>) -> Strin
     said.expect(rt, line.whole)
 }
 
+/// Explains the limits of a request, and returns the number of intervals and the number of
+/// evaluations of the limit.
 fn explained(rt: &impl Abort, book: &PointBook, ask: &Ask, line: Line<'_>) -> String {
     assert!(rt; ask.connector <= book.connectors());
     let mut turns = Turns::new();
@@ -182,6 +200,8 @@ fn explained(rt: &impl Abort, book: &PointBook, ask: &Ask, line: Line<'_>) -> St
     format!(in line.alloc; "{intervals} {}", turns.count()).expect(rt, line.whole)
 }
 
+/// Checks that each interval of a request's explanation has the right reason at its first second
+/// and at its last.
 fn expect_reasons(rt: &impl Abort, book: &PointBook, ask: &Ask, line: Line<'_>) {
     assert!(rt; ask.connector <= book.connectors());
     let explanation = explain(line.alloc, book, ask, &mut Turns::new()).expect(rt, line.whole);
@@ -197,7 +217,8 @@ fn expect_reasons(rt: &impl Abort, book: &PointBook, ask: &Ask, line: Line<'_>) 
     }
 }
 
-/// Checks that an interval has the reason of `reason_at` at one of its seconds.
+/// Checks that an interval of an explanation has, at one of its seconds, the reason that
+/// `reason_at` gives for the limit.
 fn expect_reason(
     rt: &impl Abort,
     book: &PointBook,

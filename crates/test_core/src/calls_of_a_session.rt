@@ -24,11 +24,14 @@ struct Desk<C: Ledger, A: Ledger> {
     pass: Pass<C, A>,
 }
 
+/// Returns the identity of CP1, the charge point at which this test makes a session's calls on a
+/// book.
 fn point(rt: &impl Abort, alloc: Global) -> PointId {
     PointId::copied(alloc, "CP1").expect(rt, "error")
 }
 
-/// Installs a profile, and clears it once.
+/// Checks the calls of a session on a book that install a charging profile and clear it. The second
+/// clear removes none.
 fn profiles<C: Ledger, A: Ledger>(rt: &impl Abort, desk: &mut Desk<C, A>) {
     let row = row_of(desk.alloc, "connector=1 periods=0:100").expect(rt, "error");
     let (id, pass) = (point(rt, desk.alloc), &mut desk.pass);
@@ -46,7 +49,8 @@ fn profiles<C: Ledger, A: Ledger>(rt: &impl Abort, desk: &mut Desk<C, A>) {
     same(rt, desk.book.version(), 2, "version");
 }
 
-/// Begins a transaction, retransmits its start, and ends it once.
+/// Checks the calls of a session on a book by which a transaction begins, its start is sent again,
+/// and it ends once.
 fn transactions<C: Ledger, A: Ledger>(rt: &impl Abort, desk: &mut Desk<C, A>) {
     for _ in 0..2u8 {
         let begin = begin_of(desk.alloc, "ann", 0, 0).expect(rt, "error");
@@ -62,7 +66,8 @@ fn transactions<C: Ledger, A: Ledger>(rt: &impl Abort, desk: &mut Desk<C, A>) {
     same(rt, desk.book.version(), 4, "version");
 }
 
-/// Makes an audit, which is call 3, after call 0, the install and the clear.
+/// Checks the calls of a session on a book by which a point is audited, the verdict kept, and the
+/// status read. The audit is call 3.
 fn audits<C: Ledger, A: Ledger>(rt: &impl Abort, desk: &mut Desk<C, A>) {
     let call = desk
         .book
@@ -89,7 +94,8 @@ fn audits<C: Ledger, A: Ledger>(rt: &impl Abort, desk: &mut Desk<C, A>) {
     same(rt, status.outbox as u64, 4, "calls");
 }
 
-/// Requests a start, sends call 0 and confirms it.
+/// Checks the calls of a session on a book that request a remote start, attach a link, and send and
+/// confirm call 0.
 fn links<C: Ledger, A: Ledger>(rt: &impl Abort, desk: &mut Desk<C, A>) {
     let begin = begin_of(desk.alloc, "bob", 0, 0).expect(rt, "error");
     let id = point(rt, desk.alloc);
@@ -110,7 +116,8 @@ fn links<C: Ledger, A: Ledger>(rt: &impl Abort, desk: &mut Desk<C, A>) {
     );
 }
 
-/// Takes a request, answers it and collects the answer.
+/// Checks the calls of a session on a book by which a composite schedule is requested, and its
+/// answer posted and collected.
 fn requests<C: Ledger, A: Ledger>(rt: &impl Abort, desk: &mut Desk<C, A>) {
     let midnight = instant_at(0).expect(rt, "error");
     let id = point(rt, desk.alloc);
@@ -138,6 +145,8 @@ fn requests<C: Ledger, A: Ledger>(rt: &impl Abort, desk: &mut Desk<C, A>) {
     );
 }
 
+/// Makes each call of a session on a new book, and checks the changes and answers that the book and
+/// the pass count.
 fn each_call<C: Ledger, A: Ledger>(rt: &impl Abort, alloc: Global, changes: Blank, answers: Blank)
     requires changes { (changes.name ≡ C.name) × (changes.parts ≡ C.parts) × (changes.parts ≡ 1) }
     requires answers { (answers.name ≡ A.name) × (answers.parts ≡ A.parts) × (answers.parts ≡ 1) }
@@ -161,10 +170,13 @@ fn each_call<C: Ledger, A: Ledger>(rt: &impl Abort, alloc: Global, changes: Blan
     holds(rt, desk.pass.totals() == all, "the pass's totals");
 }
 
+/// Makes each call of a session on a book whose ledgers of changes and answers are of this test
+/// alone.
 fn each_call_of_a_book(rt: &impl Abort, alloc: Global) {
     each_call::<Brand, Brand>(rt, alloc, Blank::new(1), Blank::new(1));
 }
 
+/// Checks that each call of a session on a book succeeds if memory suffices.
 #[test]
 fn each_call_is_made(rt: HostRuntime) {
     each_call_of_a_book(&rt, rt.alloc());

@@ -13,6 +13,7 @@ use std::process::Abort;
 use step_words::said_of;
 use test_books::{LONGEST_TAG, site_text};
 
+/// Checks that a charge point's identity of this many characters is copied whole.
 fn expect_copy(rt: &impl Abort, alloc: Global, length: u32) {
     let mut text = String::new(alloc);
     for _ in 0..length {
@@ -22,7 +23,8 @@ fn expect_copy(rt: &impl Abort, alloc: Global, length: u32) {
     same_text(rt, copy.as_str(), text.as_str(), "an identity");
 }
 
-/// An identity has at most 48 characters, but in a step it may have more.
+/// Checks that a charge point's identity is copied whole. It has at most 48 characters, but in a
+/// step it may have more.
 #[test]
 fn identities_are_copied(rt: HostRuntime) {
     for length in [0, 1, 40, 41, 48, 49, 1_000u32] {
@@ -30,7 +32,8 @@ fn identities_are_copied(rt: HostRuntime) {
     }
 }
 
-/// Checks that the last outcome is a link with the number of outcomes.
+/// Checks that the last step of a run attached a link of CP1 whose number is the count of the run's
+/// outcomes.
 fn is_last_link(rt: &impl Abort, outcomes: &[Outcome]) {
     let said = match outcomes.last() {
         Some(Outcome::Done(reply)) => said_of(reply),
@@ -39,6 +42,8 @@ fn is_last_link(rt: &impl Abort, outcomes: &[Outcome]) {
     same_said(rt, said, ("Attached", Some(outcomes.len() as u64)), "a run");
 }
 
+/// Checks that the machine of the central system makes 1,000 steps in one run, each with its
+/// outcome.
 #[test]
 fn a_run_has_1000_steps(rt: HostRuntime) {
     let mut steps = Vec::new(rt.alloc());
@@ -54,7 +59,8 @@ fn a_run_has_1000_steps(rt: HostRuntime) {
     is_last_link(&rt, outcomes.as_slice());
 }
 
-/// Installs profiles of 200 periods with the ids from 0 on.
+/// Installs charging profiles of 200 periods at CP1, with the ids from 0 on, each of which adds a
+/// call to its outbox.
 fn install_all(rt: &impl Abort, alloc: Global, machine: &mut Machine, count: u32) {
     for id in 0..count {
         let words = format!(in alloc; "CP1 install id={id} connector=1 turns=60").expect(
@@ -65,7 +71,8 @@ fn install_all(rt: &impl Abort, alloc: Global, machine: &mut Machine, count: u32
     }
 }
 
-/// Checks that the next call sets the profile of an id, and confirms it.
+/// Checks that the next call sent to CP1 sets the charging profile of an id, and confirms that
+/// call.
 fn confirm_next(rt: &impl Abort, alloc: Global, machine: &mut Machine, id: u32, call: u64) {
     let sent = match machine.make(&step(rt, alloc, "CP1 send 1")) {
         Ok(Reply::Sent(sent)) => sent,
@@ -85,7 +92,8 @@ fn confirm_next(rt: &impl Abort, alloc: Global, machine: &mut Machine, id: u32, 
     same_said(rt, said, ("Confirmed", None), "a confirmation");
 }
 
-/// Fills an outbox with 256 calls, and confirms them, from call `first` on.
+/// Fills CP1's outbox with 256 calls, checks that one more is refused, and confirms them in order,
+/// from call `first` on.
 fn confirm_all(rt: &impl Abort, alloc: Global, machine: &mut Machine, first: u64) {
     install_all(rt, alloc, machine, 256);
     run(rt, alloc, machine, "CP1 clear = OutboxFull");
@@ -99,8 +107,8 @@ CP1 attach = Attached 1
 CP1 send 1 = Sent 0
 CP1 confirm 1 0 = Confirmed";
 
-/// Calls have three digits up to 999, and then four. They are sent in the order in which they were
-/// added.
+/// Checks that a charge point's calls are sent and confirmed in the order in which they were added.
+/// Their numbers have up to three digits, and from 1,000 on four.
 #[test]
 fn a_point_confirms_1280_calls(rt: HostRuntime) {
     let mut machine = opening(&rt, rt.alloc());
@@ -115,18 +123,21 @@ fn a_point_confirms_1280_calls(rt: HostRuntime) {
 /// An identity of the greatest length, of the last of the most points.
 const LAST_POINT: &str = "000000000000000000000000000000000000000000000999";
 
-/// Makes a step of words at the last point.
+/// Makes a step of words at `LAST_POINT` of the largest site, and returns the name of its outcome.
 fn make(rt: &impl Abort, alloc: Global, machine: &mut Machine, words: &str) -> &'static str {
     let line = format!(in alloc; "{LAST_POINT} {words}").expect(rt, "error");
     comes_to(machine, &step(rt, alloc, line.as_str())).0
 }
 
+/// Starts a transaction with the longest idTag at a connector of the largest site's last point.
 fn start(rt: &impl Abort, alloc: Global, machine: &mut Machine, connector: u32) {
     let words = format!(in alloc; "start {LONGEST_TAG} {connector} 0").expect(rt, "error");
     let said = make(rt, alloc, machine, words.as_str());
     same_text(rt, said, "Started", "a start");
 }
 
+/// Installs a charging profile of 200 periods at the largest site's last point. Its id gives the
+/// connector and the stack level.
 fn install_level(rt: &impl Abort, alloc: Global, machine: &mut Machine, id: u32) {
     let (connector, level) = (id / 100, id % 100);
     let words = format!(in alloc; "install id={id} connector={connector} level={level} turns=60");
@@ -134,8 +145,8 @@ fn install_level(rt: &impl Abort, alloc: Global, machine: &mut Machine, id: u32)
     same_text(rt, said, "Accepted", "an install");
 }
 
-/// Checks that the answer for a connector of the last point over 200 minutes has 200 periods, of
-/// which the first three have these limits.
+/// Checks that a connector's composite schedule over 200 minutes at the last point has 200 periods,
+/// the first three with these limits.
 fn expect_minutes(
     rt: &impl Abort,
     alloc: Global,
@@ -160,7 +171,8 @@ fn expect_minutes(
     }
 }
 
-/// Checks that a schedule has 200 periods, of which the first three have these limits.
+/// Checks that a composite schedule of the largest site has 200 periods, of which the first three
+/// have these limits.
 fn expect_periods(rt: &impl Abort, schedule: &Composite, limits: [u32; 3]) {
     same(rt, schedule.periods().len() as u64, 200, "periods");
     for (period, limit) in schedule.periods().iter().zip(limits) {

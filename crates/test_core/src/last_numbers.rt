@@ -43,6 +43,8 @@ const FIRST: Numbers = Numbers {
     link: 0,
 };
 
+/// Checks the outcomes of a test's lines on a machine whose last versions, requests, transactions
+/// and links had these numbers.
 fn run_at(rt: &impl Abort, alloc: Global, numbers: Numbers, lines: &str)
     requires { AreNumbers numbers }
 {
@@ -50,6 +52,8 @@ fn run_at(rt: &impl Abort, alloc: Global, numbers: Numbers, lines: &str)
     run(rt, alloc, &mut machine, lines);
 }
 
+/// Checks that the central system refuses a step that needs a version, a request, a transaction or
+/// a link after the last number.
 #[test]
 fn numbers_end(rt: HostRuntime) {
     let last_version = Numbers {

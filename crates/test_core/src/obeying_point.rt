@@ -11,7 +11,8 @@ pub(crate) struct RandomNumbers {
 }
 
 impl RandomNumbers {
-    /// Returns a number below `limit`; 0 if there is none.
+    /// Returns a pseudorandom number below `limit`, or 0 if there is none, from which a test's
+    /// steps are drawn.
     pub(crate) fn below(&mut self, limit: u8) -> u8 {
         let product = self.state.wrapping_mul(1_664_525);
         self.state = product.wrapping_add(1_013_904_223);
@@ -29,7 +30,8 @@ pub(crate) struct Keys {
 }
 
 impl Keys {
-    /// Makes the keys of a default of the whole point.
+    /// Returns the keys of the TxDefaultProfile that the obeying charge point of a test has before
+    /// its first call.
     pub(crate) fn of_before() -> Keys {
         Keys {
             id: 1,
@@ -39,6 +41,8 @@ impl Keys {
         }
     }
 
+    /// Returns the fields that identify a charging profile at a connector, for the obeying charge
+    /// point of a test.
     fn of(connector: u32, profile: &Profile) -> Keys {
         Keys {
             id: profile.id,
@@ -48,7 +52,8 @@ impl Keys {
         }
     }
 
-    /// Whether a point removes the row of these keys when it clears by criteria (chapter 5.5).
+    /// Whether a charge point removes the profile of these keys when it clears by criteria (OCPP
+    /// 1.6, 5.5).
     fn is_cleared(self, criteria: &Criteria) -> bool {
         criteria.id.unwrap_or(self.id) == self.id
             && criteria.connector.unwrap_or(self.connector) == self.connector
@@ -56,7 +61,8 @@ impl Keys {
             && criteria.stack_level.unwrap_or(self.level) == self.level
     }
 
-    /// Whether a row of new keys replaces the row of these (chapter 5.16).
+    /// Whether a charge point replaces the profile of these keys when it gets a profile of new ones
+    /// (OCPP 1.6, 5.16).
     fn is_replaced(self, new: Keys) -> bool {
         self.id == new.id
             || self.connector == new.connector
@@ -65,7 +71,8 @@ impl Keys {
     }
 }
 
-/// Makes a point obey a call. Only rows that outlast transactions are kept here.
+/// Changes a charge point's profiles as a call of the central system says. TxProfiles aren't kept
+/// here, since they end with their transactions.
 pub(crate) fn obey(rows: &mut Vec<Keys>, body: &CallBody) -> Result<(), AllocError> {
     match body {
         CallBody::Clear(criteria) => {
@@ -81,7 +88,8 @@ pub(crate) fn obey(rows: &mut Vec<Keys>, body: &CallBody) -> Result<(), AllocErr
     }
 }
 
-/// Returns the rows of a store that outlast transactions.
+/// Returns the keys of the central system's profiles for a point that outlast transactions, to
+/// compare with those of the obeying point.
 pub(crate) fn lasting(alloc: Global, rows: &[Row]) -> Result<Vec<Keys>, AllocError> {
     let mut kept = Vec::new(alloc);
     for row in rows {
@@ -90,6 +98,8 @@ pub(crate) fn lasting(alloc: Global, rows: &[Row]) -> Result<Vec<Keys>, AllocErr
     Ok(kept)
 }
 
+/// Appends the keys of a charging profile to those of a point, unless it is a TxProfile, which ends
+/// with its transaction.
 fn push_lasting(rows: &mut Vec<Keys>, new: Keys) -> Result<(), AllocError> {
     if new.purpose != Purpose::TxProfile {
         rows.push(new)?;

@@ -91,7 +91,8 @@ CP1 audit 1 60 = Audited 2";
 
 // ---- prepared steps, before memory is refused
 
-/// Makes the verdict on an equal audit of another machine.
+/// Prepares a line's step that judges an audit, from an equal audit at another machine that makes
+/// the steps of `lines`.
 fn verdict(rt: &impl Abort, alloc: Global, lines: &str, words: &str) -> Step {
     let mut machine = opening(rt, alloc);
     run(rt, alloc, &mut machine, lines);
@@ -110,6 +111,8 @@ fn verdict(rt: &impl Abort, alloc: Global, lines: &str, words: &str) -> Step {
     judge
 }
 
+/// Prepares the step of a line for a test that refuses memory: parses it, or makes the verdict on
+/// an audit.
 fn prepared_step(rt: &impl Abort, alloc: Global, line: &str) -> Step {
     let (words, _) = parts_of(rt, line);
     if words.starts_with("CP1 judge 2") {
@@ -118,6 +121,8 @@ fn prepared_step(rt: &impl Abort, alloc: Global, line: &str) -> Step {
     step(rt, alloc, words)
 }
 
+/// Prepares the steps of all lines for a test that refuses memory to the central system's machine
+/// and book.
 fn prepared_steps(rt: &impl Abort, alloc: Global, lines: &str) -> Vec<Step> {
     let mut steps = Vec::new(alloc);
     for line in lines.lines() {
@@ -129,7 +134,8 @@ fn prepared_steps(rt: &impl Abort, alloc: Global, lines: &str) -> Vec<Step> {
 
 // ---- steps made again
 
-/// Returns the values of a machine that a refused step leaves unchanged.
+/// Returns the version, the open requests, and CP1's calls and link in a machine, which a refused
+/// step leaves unchanged.
 fn read_machine(machine: &Machine) -> (u64, usize, usize, Option<u64>) {
     let calls = machine.outbox_len("CP1");
     (
@@ -140,13 +146,15 @@ fn read_machine(machine: &Machine) -> (u64, usize, usize, Option<u64>) {
     )
 }
 
-/// Returns the values that a refused call leaves unchanged, apart from the book's state.
+/// Returns the number of a book's stored events and the counts of the book and its pass, which a
+/// refused call leaves unchanged.
 fn read_book<C: Ledger, A: Ledger>(sides: &Sides<C, A>) -> (usize, Totals, (Totals, u64)) {
     let pass = (sides.pass.totals(), sides.pass.seen());
     (sides.book.stored(), sides.book.totals(), pass)
 }
 
-/// Makes a step on the machine, again if memory was refused to it, and returns its outcome.
+/// Makes a step of the central system on the machine, and returns its outcome. If memory was
+/// refused to it, it changed nothing and is made again.
 fn on_machine<C: Ledger, A: Ledger>(rt: &impl Abort, sides: &mut Sides<C, A>, step: &Step) -> Said {
     let before = read_machine(&sides.machine);
     match sides.on_machine(step) {
@@ -162,8 +170,8 @@ fn on_machine<C: Ledger, A: Ledger>(rt: &impl Abort, sides: &mut Sides<C, A>, st
     }
 }
 
-/// Makes a call on the book, again with the returned step if memory was refused to it, and returns
-/// its outcome.
+/// Makes a session's call on the book, and returns its outcome. If memory was refused to it, it
+/// changed nothing and is made again.
 fn on_book<C: Ledger, A: Ledger>(rt: &impl Abort, sides: &mut Sides<C, A>, step: Step) -> Said {
     let state = read_machine(sides.book.present());
     let before = read_book(sides);
@@ -187,8 +195,9 @@ fn on_book<C: Ledger, A: Ledger>(rt: &impl Abort, sides: &mut Sides<C, A>, step:
     }
 }
 
-/// Checks the outcome of a line's step. A Compile whose memory was refused has that as its outcome.
-fn told(rt: &impl Abort, said: Said, line: &str) {
+/// Checks the outcome of a line's step in a test of refused memory. A request whose Compile was
+/// refused memory is answered by OutOfMemory.
+fn check_outcome(rt: &impl Abort, said: Said, line: &str) {
     let (_, wanted) = parts_of(rt, line);
     match said {
         ("OutOfMemory", Some(1)) => holds(rt, wanted.0 == "limit", line),
@@ -196,17 +205,20 @@ fn told(rt: &impl Abort, said: Said, line: &str) {
     }
 }
 
+/// Makes a line's step on the machine and on the book while memory may be refused, and checks both
+/// outcomes.
 fn play_step<C: Ledger, A: Ledger>(
     rt: &impl Abort,
     sides: &mut Sides<C, A>,
     step: Step,
     line: &str,
 ) {
-    told(rt, on_machine(rt, sides, &step), line);
-    told(rt, on_book(rt, sides, step), line);
+    check_outcome(rt, on_machine(rt, sides, &step), line);
+    check_outcome(rt, on_book(rt, sides, step), line);
 }
 
-/// Plays lines, and checks that each request has its answer at the end.
+/// Makes the steps of lines on the machine and the book while memory may be refused. Checks that in
+/// the end each request has its answer.
 fn play_lines<C: Ledger, A: Ledger>(rt: &impl Abort, sides: &mut Sides<C, A>, lines: &str) {
     let steps = prepared_steps(rt, sides.alloc, lines);
     for (step, line) in steps.into_iter().zip(lines.lines()) {
@@ -225,6 +237,7 @@ enum Story {
     Fold(&'static str, &'static str),
 }
 
+/// Plays a story of a test of refused memory on a new machine and a new book.
 fn tell_at<C: Ledger, A: Ledger>(
     rt: &impl Abort,
     alloc: Global,
@@ -243,25 +256,35 @@ fn tell_at<C: Ledger, A: Ledger>(
     }
 }
 
+/// Plays a story of a test of refused memory on a book whose ledgers of changes and answers are of
+/// this test alone.
 fn tell(rt: &impl Abort, alloc: Global, story: Story) {
     tell_at::<Brand, Brand>(rt, alloc, Blank::new(1), Blank::new(1), story);
 }
 
+/// Checks that a transaction and its TxProfile give the expected limits until it ends, whichever
+/// allocation is refused.
 #[test]
 fn a_transaction(rt: HostRuntime) {
     tell(&rt, rt.alloc(), Story::Lines(OF_A_TRANSACTION));
 }
 
+/// Checks that a request held while its profile is cleared is answered as expected, whichever
+/// allocation is refused.
 #[test]
 fn a_held_request(rt: HostRuntime) {
     tell(&rt, rt.alloc(), Story::Lines(OF_A_HELD_REQUEST));
 }
 
+/// Checks that an audit of a charge point is sent, confirmed and judged as expected, whichever
+/// allocation is refused.
 #[test]
 fn an_audit(rt: HostRuntime) {
     tell(&rt, rt.alloc(), Story::Lines(OF_AN_AUDIT));
 }
 
+/// Checks that a transaction begins with the profile of its remote start, whichever allocation is
+/// refused.
 #[test]
 fn a_remote_start(rt: HostRuntime) {
     tell(&rt, rt.alloc(), Story::Lines(OF_A_REMOTE_START));
@@ -269,7 +292,8 @@ fn a_remote_start(rt: HostRuntime) {
 
 // ---- folds
 
-/// Makes the call of a line on the book, to prepare a test.
+/// Makes the call of a line on the book, to prepare a test of a fold under refused memory, and
+/// checks its outcome.
 fn call<C: Ledger, A: Ledger>(rt: &impl Abort, sides: &mut Sides<C, A>, line: &str) {
     let (words, wanted) = parts_of(rt, line);
     match sides.on_book(step(rt, sides.alloc, words)) {
@@ -278,6 +302,7 @@ fn call<C: Ledger, A: Ledger>(rt: &impl Abort, sides: &mut Sides<C, A>, line: &s
     }
 }
 
+/// Attaches a link of CP2 on the book, which adds one event to those that a later step folds.
 fn attach<C: Ledger, A: Ledger>(rt: &impl Abort, sides: &mut Sides<C, A>) {
     let attach = step(rt, sides.alloc, "CP2 attach");
     if let Err(refused) = sides.on_book(attach) {
@@ -285,7 +310,8 @@ fn attach<C: Ledger, A: Ledger>(rt: &impl Abort, sides: &mut Sides<C, A>) {
     }
 }
 
-/// Makes the step of a line, which folds 3,900 events, and then a Take.
+/// Makes the step of a line on the book, which folds its 3,900 stored events, and then a Take,
+/// while memory may be refused.
 fn fold<C: Ledger, A: Ledger>(rt: &impl Abort, sides: &mut Sides<C, A>, before: &str, line: &str) {
     for line in before.lines() {
         call(rt, sides, line);
@@ -299,21 +325,23 @@ fn fold<C: Ledger, A: Ledger>(rt: &impl Abort, sides: &mut Sides<C, A>, before: 
     for _ in sides.book.stored()..3_900 {
         attach(rt, sides);
     }
-    told(rt, on_book(rt, sides, folding), line);
+    check_outcome(rt, on_book(rt, sides, folding), line);
     same(rt, sides.book.stored() as u64, 1, "after the fold");
     let taken = on_book(rt, sides, next);
     same_said(rt, taken, ("Taken", Some(1)), "a take");
     same(rt, sides.book.stored() as u64, 2, "after the take");
 }
 
-/// Whichever allocation of the last two calls is refused, of which the first folds, the test
-/// passes.
+/// Checks that an install that folds the book's events is made, whichever allocation of it or of
+/// the Take after it is refused.
 #[test]
 fn an_install_folds(rt: HostRuntime) {
     let story = Story::Fold("", "CP1 install periods=0:100 = Accepted");
     tell(&rt, rt.alloc(), story);
 }
 
+/// Checks that the start of a transaction that folds the book's events is made, whichever
+/// allocation is refused.
 #[test]
 fn a_start_folds(rt: HostRuntime) {
     tell(
@@ -323,6 +351,8 @@ fn a_start_folds(rt: HostRuntime) {
     );
 }
 
+/// Checks that an audit of a charge point that folds the book's events is made, whichever
+/// allocation is refused.
 #[test]
 fn an_audit_folds(rt: HostRuntime) {
     tell(
@@ -332,6 +362,8 @@ fn an_audit_folds(rt: HostRuntime) {
     );
 }
 
+/// Checks that a verdict on an audit that folds the book's events is kept, whichever allocation is
+/// refused.
 #[test]
 fn a_verdict_folds(rt: HostRuntime) {
     let audit = "CP1 audit 1 60 = Audited 1";
@@ -350,8 +382,8 @@ CP1 take 1 0 60 = Taken 2
 CP1 take 1 0 60 = Taken 3
 CP1 take 1 0 60 = Taken 4";
 
-/// Runs steps, and returns their outcomes. If memory is refused to the run, none of them was made,
-/// and all are returned and run again.
+/// Runs steps on a machine of the central system, and returns their outcomes. If memory is refused
+/// to the run, none was made, and all are run again.
 fn run_again(rt: &impl Abort, machine: &mut Machine, steps: Vec<Step>) -> Vec<Outcome> {
     let count = steps.len();
     match machine.run(steps) {
@@ -369,8 +401,8 @@ fn run_again(rt: &impl Abort, machine: &mut Machine, steps: Vec<Step>) -> Vec<Ou
     }
 }
 
-/// Returns the outcome of one of four Takes. If memory was refused to it, the other three are made,
-/// and it is made now.
+/// Returns the outcome of one of a run's four Takes, which request schedules. If memory was refused
+/// to it, the other three are made, and it is made now.
 fn take_said(rt: &impl Abort, machine: &mut Machine, outcome: Outcome) -> Said {
     match outcome {
         Outcome::Done(reply) => said_of(&reply),
@@ -384,8 +416,8 @@ fn take_said(rt: &impl Abort, machine: &mut Machine, outcome: Outcome) -> Said {
     }
 }
 
-/// If memory is refused to a run, none of its steps was made; if it is refused to one of them, the
-/// others are made.
+/// Checks a machine's run while memory is refused. If it is refused to the run, none of its steps
+/// was made; if to one of them, the others are made.
 #[test]
 fn a_run_goes_on(rt: HostRuntime) {
     let mut machine = opening(&rt, rt.alloc());
@@ -435,8 +467,8 @@ fn a_step_without_an_event_wants_none(rt: HostRuntime) {
     holds(&rt, is_taken, taken.0);
 }
 
-/// Checks the outcome of a Compile, given whether an allocation before it succeeded. From the first
-/// refused allocation on, all are refused. So if the one before it failed, the answer is
+/// Checks the answer to a request that was compiled with all allocations refused from one on: its
+/// limit, or OutOfMemory. `spare` is an allocation before it: if that failed, the answer is
 /// OutOfMemory.
 fn answered(rt: &impl Abort, spare: &Option<PointId>, said: Said) {
     let is_short = said == ("OutOfMemory", Some(1));
@@ -444,7 +476,8 @@ fn answered(rt: &impl Abort, spare: &Option<PointId>, said: Said) {
     holds(rt, is_short || is_schedule, said.0);
 }
 
-/// `tests/program.py` refuses all allocations from each one on.
+/// Checks that a request is compiled and answered, maybe by OutOfMemory, while `tests/program.py`
+/// refuses all allocations from each one on.
 #[test]
 fn a_compiling_without_memory(rt: HostRuntime) {
     let mut machine = opening(&rt, rt.alloc());

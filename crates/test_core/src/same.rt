@@ -3,15 +3,20 @@
 
 use std::process::Abort;
 
+/// Checks that a test of `site_core` or `version_store` found the wanted number. A failure names
+/// the case.
 pub(crate) fn same(rt: &impl Abort, found: u64, wanted: u64, case: &str) {
     assert!(rt; found == wanted, "{case}: {found}, wanted {wanted}");
 }
 
+/// Checks that a test of `site_core` or `version_store` found the wanted text. A failure names the
+/// case.
 pub(crate) fn same_text(rt: &impl Abort, found: &str, wanted: &str, case: &str) {
     assert!(rt; found == wanted, "{case}: {found}, wanted {wanted}");
 }
 
-/// Compares the outcome of a step: its name, and its number if it has one.
+/// Checks that a step of the central system had the wanted outcome: its name, and its number if it
+/// has one.
 pub(crate) fn same_said(
     rt: &impl Abort,
     found: (&str, Option<u64>),
@@ -22,6 +27,7 @@ pub(crate) fn same_said(
     holds(rt, found.1 == wanted.1, case);
 }
 
+/// Checks a fact in a test of `site_core` or `version_store`. A failure names the case.
 pub(crate) fn holds(rt: &impl Abort, fact: bool, case: &str) {
     assert!(rt; fact, "{case}");
 }

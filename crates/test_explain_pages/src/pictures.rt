@@ -7,7 +7,7 @@ use profile::Purpose;
 use std::alloc::Global;
 use std::process::Abort;
 
-/// The rows of 100 profiles of 200 periods each day.
+/// Returns the lines of 100 profiles of 200 periods each day, for a test of `explain`'s picture.
 fn hundred_rows(rt: &impl Abort, alloc: Global) -> String {
     let mut lines = String::new(alloc);
     for level in 0..100 {
@@ -20,7 +20,8 @@ fn hundred_rows(rt: &impl Abort, alloc: Global) -> String {
     lines
 }
 
-/// Checks that in a week no line of 100 profiles has more than 2,000 steps, so none is cut.
+/// Checks that in a week no line of 100 profiles in `explain`'s picture has more than 2,000 steps,
+/// so none is cut.
 #[test]
 fn a_hundred_profiles(rt: HostRuntime) {
     let alloc = rt.alloc();
@@ -34,8 +35,8 @@ fn a_hundred_profiles(rt: HostRuntime) {
     expect(&rt, picture.as_str(), ">Tue 2025-01-07</text>\n>V3</text>");
 }
 
-/// Checks that pictures and pages of a request whose every second is an interval say where they
-/// end.
+/// Checks that pictures and pages of `explain` for a request whose every second is an interval say
+/// where they end.
 #[test]
 fn too_many_intervals(rt: HostRuntime) {
     let alloc = rt.alloc();

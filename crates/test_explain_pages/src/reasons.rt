@@ -39,6 +39,8 @@ const UNCOUNTED: &str = "\
 1 none | id=1 kind=Recurring recurrency=Daily start=0 duration=0; id=2 level=1 kind=Recurring recurrency=Weekly start=0 periods=90000:160 | PastDuration BeforeFirstPeriod
 1 none | id=1 level=1 start=0 from=7200; id=2 start=0 duration=3600 | NotLeast NotLeast";
 
+/// Checks that each profile that never sets the limit has the reason found by hand in `explain`'s
+/// JSON.
 #[test]
 fn each_row_has_its_reason(rt: HostRuntime) {
     for line in UNCOUNTED.lines() {
@@ -46,6 +48,8 @@ fn each_row_has_its_reason(rt: HostRuntime) {
     }
 }
 
+/// Checks the reasons why the profiles of a line of `UNCOUNTED` never set the limit, against those
+/// in the line.
 fn expect_reasons(rt: &impl Abort, alloc: Global, line: &str) {
     let (asked, rest) = line.split_once(" | ").expect(rt, line);
     let (rows, reasons) = rest.split_once(" | ").expect(rt, line);
@@ -57,7 +61,7 @@ fn expect_reasons(rt: &impl Abort, alloc: Global, line: &str) {
     same(rt, names.as_str(), reasons);
 }
 
-/// The JSON of rows that set no limit.
+/// Returns `explain`'s JSON of a request in which the profiles of the rows set no limit.
 fn uncounted(
     rt: &impl Abort,
     alloc: Global,
@@ -78,7 +82,7 @@ fn uncounted(
     write_json(alloc, &explained).expect(rt, rows)
 }
 
-/// The names of the reasons in JSON, separated by blanks.
+/// Returns the names of the reasons in `explain`'s JSON, separated by blanks.
 fn names_of(rt: &impl Abort, alloc: Global, json: &str) -> String {
     let mut names = String::new(alloc);
     for piece in json.split("\"reason\":\"").skip(1) {
@@ -107,7 +111,8 @@ const REASONS: [NotCountedReason; 13] = [
     NotCountedReason::NoActiveConnector,
 ];
 
-/// Checks that each reason has a sentence of its own, which is in the table, the JSON and the page.
+/// Checks that each reason why a profile never sets the limit has a sentence of its own, which is
+/// in `explain`'s table, JSON and page.
 #[test]
 fn each_reason_has_its_sentence(rt: HostRuntime) {
     let mut seen = String::from_str(rt.alloc(), sentence(NotCountedReason::NotLeast)).expect(
@@ -122,7 +127,8 @@ fn each_reason_has_its_sentence(rt: HostRuntime) {
     }
 }
 
-/// The same for a point whose name has characters that JSON and pages escape.
+/// Checks that a reason's sentence is in `explain`'s table, JSON and page, for a point whose name
+/// has characters that JSON and pages escape.
 fn expect_everywhere(rt: &impl Abort, alloc: Global, reason: NotCountedReason) {
     let never = profile(3, Purpose::TxProfile, 2);
     let named = profile(2, Purpose::TxProfile, 2);

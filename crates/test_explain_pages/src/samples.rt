@@ -16,8 +16,8 @@ pub(crate) struct Point {
     starts: [Option<Instant>; 2],
 }
 
-/// A point with the rows of lines, and with a transaction since midnight at `none` of the
-/// connectors, the `first`, the `second` or `both`.
+/// Returns a charge point with the rows of lines, for tests of `explain`'s pages. It has a
+/// transaction since midnight at `none` of the connectors, the `first`, the `second` or `both`.
 pub(crate) fn point_with(rt: &impl Abort, alloc: Global, lines: &str, active: &str) -> Point {
     let midnight = instant_at(0).expect(rt, "error");
     Point {
@@ -26,6 +26,7 @@ pub(crate) fn point_with(rt: &impl Abort, alloc: Global, lines: &str, active: &s
     }
 }
 
+/// Returns the installed profiles that the lines of a test of `explain`'s pages describe.
 fn rows_of(rt: &impl Abort, alloc: Global, lines: &str) -> Vec<Row> {
     let mut rows = Vec::new(alloc);
     for line in lines.lines() {
@@ -35,6 +36,8 @@ fn rows_of(rt: &impl Abort, alloc: Global, lines: &str) -> Vec<Row> {
     rows
 }
 
+/// Returns the starts of the transactions at the two connectors of a test's charge point: at
+/// `none`, the `first`, the `second` or `both`.
 fn starts_of(start: Instant, active: &str) -> [Option<Instant>; 2] {
     match active {
         "first" => [Some(start), None],
@@ -45,7 +48,8 @@ fn starts_of(start: Instant, active: &str) -> [Option<Instant>; 2] {
 }
 
 impl Point {
-    /// Returns the point's profiles, ceilings and transactions.
+    /// Returns the profiles, ceilings and transactions of the charge point in tests of `explain`'s
+    /// pages.
     pub(crate) fn view(&self) -> View<'_> {
         View {
             ceiling: 630,
@@ -56,8 +60,8 @@ impl Point {
     }
 }
 
-/// Returns an explained request for a connector of a point, for a number of seconds from midnight
-/// on.
+/// Returns an explained request made by hand for a connector of a point, for tests of `explain`'s
+/// pages. It lasts a number of seconds from midnight on.
 pub(crate) fn explain<'a>(
     rt: &impl Abort,
     view: View<'a>,
@@ -76,7 +80,7 @@ pub(crate) fn explain<'a>(
     }
 }
 
-/// A profile at connector 0.
+/// Returns the values that identify a profile at connector 0, for tests of `explain`'s pages.
 pub(crate) fn profile(id: i32, purpose: Purpose, stack_level: u32) -> PrevailingProfile {
     PrevailingProfile {
         id,
@@ -86,7 +90,7 @@ pub(crate) fn profile(id: i32, purpose: Purpose, stack_level: u32) -> Prevailing
     }
 }
 
-/// An interval without shares.
+/// Returns an interval of an explained schedule without shares, for tests of `explain`'s pages.
 pub(crate) fn interval(
     alloc: Global,
     (start, end): (u32, u32),
@@ -104,14 +108,14 @@ pub(crate) fn interval(
     }
 }
 
-/// Checks that a text contains each line of another one.
+/// Checks that a page of `explain` contains each line of a wanted text.
 pub(crate) fn expect(rt: &impl Abort, text: &str, wanted: &str) {
     for line in wanted.lines() {
         assert!(rt; text.contains(line), "{line}");
     }
 }
 
-/// Checks that two texts are equal.
+/// Checks that a text of `explain` equals the wanted one.
 pub(crate) fn same(rt: &impl Abort, found: &str, wanted: &str) {
     assert!(rt; found == wanted, "{found}, wanted {wanted}");
 }

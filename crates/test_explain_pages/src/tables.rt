@@ -79,6 +79,8 @@ Profiles that never set the limit in this time:
   TxProfile 7, stack level 2, at connector 0: It is a TxProfile, and the connector has no active transaction.
 ";
 
+/// Checks that `explain`'s table equals tables made by hand, without a terminal's width and at
+/// three widths.
 #[test]
 fn tables_fit_the_terminal(rt: HostRuntime) {
     let alloc = rt.alloc();

@@ -54,22 +54,26 @@ struct Desk<C: Ledger, A: Ledger> {
 }
 
 impl<C: Ledger, A: Ledger> Desk<C, A> {
-    /// Returns a pseudorandom number below a limit (Knuth's MMIX generator).
+    /// Returns a pseudorandom number below a limit, from which a random day of a site is made
+    /// (Knuth's MMIX generator).
     fn below(&mut self, limit: u64) -> u64 {
         let product = self.random.wrapping_mul(6_364_136_223_846_793_005);
         self.random = product.wrapping_add(1_442_695_040_888_963_407);
         (self.random >> 33) % limit.max(1)
     }
 
+    /// Returns the moment that a random day has come to, which each line of its journal begins
+    /// with.
     fn moment(&self, rt: &impl Abort) -> Instant {
         instant_at(self.seconds).expect(rt, "no instant")
     }
 
+    /// Copies a charge point's identity for a call on the book of a random day.
     fn id(&self, rt: &impl Abort, point: &str) -> PointId {
         PointId::copied(self.alloc, point).expect(rt, "error")
     }
 
-    /// Notes a line, whose step drew this number.
+    /// Appends a line to the journal of a random day, whose step drew this number.
     fn note(&mut self, rt: &impl Abort, point: &str, noted: Noted<'_>, number: u64) {
         let line = Line {
             moment: self.moment(rt),
@@ -83,7 +87,8 @@ impl<C: Ledger, A: Ledger> Desk<C, A> {
 
     // ---- messages
 
-    /// Handles a message that requests a change.
+    /// Handles a message of an operator or a charge point that requests a change of the book on a
+    /// random day.
     fn message(&mut self, rt: &impl Abort, sender: Side, point: &str, frame: &str) {
         let text = SentText::new(self.moment(rt), sender, point, frame);
         match asked_of(self.alloc, &mut self.memory, &text).ok() {
@@ -92,7 +97,8 @@ impl<C: Ledger, A: Ledger> Desk<C, A> {
         }
     }
 
-    /// Makes a change, and notes it if it changed something.
+    /// Makes the step of a message on the book of a random day, and notes it in the journal if it
+    /// changed something.
     fn change(&mut self, rt: &impl Abort, text: &SentText<'_>, step: Step) {
         let noted = noted_by(&step, text.sender(), text.frame()).expect(rt, "a change");
         let Ok(reply) = self.book.make_step(&mut self.pass, step) else {
@@ -103,7 +109,7 @@ impl<C: Ledger, A: Ledger> Desk<C, A> {
         }
     }
 
-    /// Handles a point's reply to a call.
+    /// Handles a charge point's reply to a call of the central system on a random day.
     fn reply(&mut self, rt: &impl Abort, point: &str, frame: &str) {
         let text = SentText::new(self.moment(rt), Side::Point, point, frame);
         match asked_of(self.alloc, &mut self.memory, &text).ok() {
@@ -112,7 +118,8 @@ impl<C: Ledger, A: Ledger> Desk<C, A> {
         }
     }
 
-    /// Confirms a call over the link that the point has.
+    /// Confirms a call over the link that the point has, notes the reply in the journal, and judges
+    /// it if the call was an audit.
     fn confirm(&mut self, rt: &impl Abort, text: &SentText<'_>, call: u64, accepted: bool) {
         let job = self.book.audit_job(text.point(), call).ok();
         let job = job.expect(rt, "error");
@@ -128,7 +135,8 @@ impl<C: Ledger, A: Ledger> Desk<C, A> {
         }
     }
 
-    /// Judges the reply to an audit. Sometimes the point starts a transaction before that.
+    /// Judges a point's reply to an audit, and notes the verdict in the journal. Sometimes the
+    /// point starts a transaction before that.
     fn judge(&mut self, rt: &impl Abort, text: &SentText<'_>, call: u64, job: AuditJob) {
         let said = said_of(self.alloc, &mut self.memory, text).expect(rt, "error");
         let judged = Judged::make(self.alloc, job, said);
@@ -143,7 +151,8 @@ impl<C: Ledger, A: Ledger> Desk<C, A> {
         }
     }
 
-    /// Returns the number for a mark in a message.
+    /// Returns the number for a mark in a message of a random day: a random one, a transaction, or
+    /// the call in flight.
     fn number_of(&mut self, point: &str, mark: char) -> u64 {
         match mark {
             '%' => self.below(3),
@@ -155,7 +164,8 @@ impl<C: Ledger, A: Ledger> Desk<C, A> {
         }
     }
 
-    /// Returns the transaction of the point at connector 1, or 1.
+    /// Returns the number of the transaction at a point's connector 1, or 1 if there is none, for a
+    /// StopTransaction.
     fn running(&self, point: &str) -> u64 {
         let Some(book) = self.book.present().book_of(point) else {
             return 1;
@@ -166,7 +176,7 @@ impl<C: Ledger, A: Ledger> Desk<C, A> {
         }
     }
 
-    /// Appends a character of a message, or the text for a mark.
+    /// Appends a character of a random day's OCPP-J message, or the text for a mark such as `%`.
     fn push_filled(&mut self, rt: &impl Abort, text: &mut String, point: &str, mark: char) {
         match mark {
             '%' | '@' | '&' => {
@@ -178,7 +188,7 @@ impl<C: Ledger, A: Ledger> Desk<C, A> {
         }
     }
 
-    /// Returns a message of this form, with its marks filled in.
+    /// Returns the OCPP-J message of this form at a charge point, with marks such as `%` filled in.
     fn frame_of(&mut self, rt: &impl Abort, point: &str, form: &str) -> String {
         let mut frame = String::new(self.alloc);
         for mark in form.chars() {
@@ -187,12 +197,15 @@ impl<C: Ledger, A: Ledger> Desk<C, A> {
         frame
     }
 
+    /// Handles a random StartTransaction of a charge point, which the journal of the random day
+    /// notes.
     fn start(&mut self, rt: &impl Abort, point: &str) {
         let frame = self.frame_of(rt, point, START);
         self.message(rt, Side::Point, point, frame.as_str());
     }
 
-    /// Sends the message of this row at a point.
+    /// Handles a message of a random day at a charge point, made from a row of `MESSAGES`: an
+    /// operator's, the point's, or its reply.
     fn say(&mut self, rt: &impl Abort, point: &str, row: u64) {
         let row = MESSAGES.lines().nth(row as usize).expect(rt, "no row");
         let (sender, form) = row.split_once(' ').expect(rt, row);
@@ -206,7 +219,8 @@ impl<C: Ledger, A: Ledger> Desk<C, A> {
 
     // ---- events
 
-    /// Makes a random event at a point.
+    /// Makes a random event of the day at a charge point: a message, a new or lost link, or a call
+    /// that is sent.
     fn happen(&mut self, rt: &impl Abort) {
         self.seconds = self.seconds.saturating_add(self.below(20));
         let place = self.below(2) as usize;
@@ -219,7 +233,8 @@ impl<C: Ledger, A: Ledger> Desk<C, A> {
         }
     }
 
-    /// Gives the point a link, or ends the one that it has.
+    /// Gives the charge point a link, or ends the one that it has, and notes that in the journal of
+    /// the random day.
     fn link(&mut self, rt: &impl Abort, point: &str) {
         let id = self.id(rt, point);
         match self.book.link_of(point) {
@@ -235,6 +250,8 @@ impl<C: Ledger, A: Ledger> Desk<C, A> {
         }
     }
 
+    /// Sends the charge point the call that is next, if one waits for its link, and notes that in
+    /// the journal.
     fn send(&mut self, rt: &impl Abort, point: &str) {
         let Some(link) = self.book.link_to_send(point) else {
             return;
@@ -248,6 +265,7 @@ impl<C: Ledger, A: Ledger> Desk<C, A> {
 
 // ---- days
 
+/// Makes a book of the test's site with an empty journal, for a random day of this seed.
 fn desk_of<C: Ledger, A: Ledger>(
     rt: &impl Abort,
     alloc: Global,
@@ -282,7 +300,7 @@ struct Day {
     state: Machine,
 }
 
-/// Makes a day of 1,500 events.
+/// Makes a random day of 1,500 events at a site, and returns its journal and the state after it.
 fn day_of<C: Ledger, A: Ledger>(
     rt: &impl Abort,
     alloc: Global,
@@ -304,7 +322,8 @@ fn day_of<C: Ledger, A: Ledger>(
     }
 }
 
-/// Restores a day from its journal, and checks that this leads to its state.
+/// Restores a book from the journal of a random day, and checks that it has the state after that
+/// day.
 fn restored<C: Ledger, A: Ledger>(
     rt: &impl Abort,
     alloc: Global,
@@ -329,7 +348,8 @@ fn restored<C: Ledger, A: Ledger>(
     }
 }
 
-/// Checks that a point is the same in two states.
+/// Checks that a charge point is the same in the restored state and in the state after the random
+/// day.
 fn same_point(rt: &impl Abort, alloc: Global, found: &Machine, wanted: &Machine, point: &str) {
     let (seen, told) = (
         told_of(rt, alloc, found, point),
@@ -341,8 +361,8 @@ fn same_point(rt: &impl Abort, alloc: Global, found: &Machine, wanted: &Machine,
     holds(rt, found.same(wanted), "what the point has");
 }
 
-/// Returns the version and the state of a point: its calls, its link, its pending remote starts,
-/// and its audit.
+/// Returns the version and the state of a point after a random day: its calls, its link, its
+/// pending remote starts, and its audit.
 fn told_of(rt: &impl Abort, alloc: Global, state: &Machine, point: &str) -> String {
     let outbox = state.outbox_of(point).expect(rt, point);
     let (first, next) = (outbox.first_number(), outbox.next_number());
@@ -357,7 +377,7 @@ fn told_of(rt: &impl Abort, alloc: Global, state: &Machine, point: &str) -> Stri
     ).expect(rt, "error")
 }
 
-/// Makes and restores a day, with two books of this test alone.
+/// Makes a random day and restores it from its journal, with two books of this test alone.
 fn day_at_random(rt: &impl Abort, alloc: Global, seed: u64) {
     let (changes, answers) = (Blank::new(1), Blank::new(1));
     let day = day_of::<Brand, Brand>(rt, alloc, changes, answers, seed);
@@ -365,6 +385,7 @@ fn day_at_random(rt: &impl Abort, alloc: Global, seed: u64) {
     restored::<Brand, Brand>(rt, alloc, changes, answers, &day);
 }
 
+/// Checks for six random days of a site that the journal restores the state after the day.
 #[test]
 fn days_are_restored_as_they_were(rt: HostRuntime) {
     for seed in 0..6u64 {

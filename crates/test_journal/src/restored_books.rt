@@ -19,7 +19,8 @@ const LINES: usize = 20;
 
 // ---- the outcome of a journal
 
-/// Restores a journal. Returns its number of lines, or its fault.
+/// Restores a book from a journal, and returns the journal's number of lines or its fault as a
+/// text.
 fn said_of<C: Ledger, A: Ledger>(
     rt: &impl Abort,
     alloc: Global,
@@ -34,7 +35,7 @@ fn said_of<C: Ledger, A: Ledger>(
     said.expect(rt, "error")
 }
 
-/// Returns the state of CP1 in the form of `STATES`.
+/// Returns the state of CP1 in the form of `STATES`, after a book is restored from a journal.
 fn state_of<C: Ledger, A: Ledger>(rt: &impl Abort, alloc: Global, book: &Book<C, A>) -> String {
     let (version, waiting) = (book.version(), book.outbox_len("CP1"));
     let link = book.link_of("CP1").unwrap_or(0);
@@ -42,7 +43,8 @@ fn state_of<C: Ledger, A: Ledger>(rt: &impl Abort, alloc: Global, book: &Book<C,
     format!(in alloc; "{version} {waiting} {link} {sending}").expect(rt, "error")
 }
 
-/// Returns the number of changes that the book and the pass count, and the outcome of CP1's audit.
+/// Returns the number of changes that a restored book and its pass count, and the outcome of CP1's
+/// audit.
 fn counts_of<C: Ledger, A: Ledger>(
     rt: &impl Abort,
     alloc: Global,
@@ -55,7 +57,8 @@ fn counts_of<C: Ledger, A: Ledger>(
     format!(in alloc; "{all} {own} {}", status.audit.name()).expect(rt, "error")
 }
 
-/// Returns the noted lines after all links are lost, at a minute past midnight.
+/// Ends all links of a restored book, at a minute past midnight, and returns the lines that the
+/// journal gets for that.
 fn losses_of<C: Ledger, A: Ledger>(
     rt: &impl Abort,
     alloc: Global,
@@ -69,8 +72,8 @@ fn losses_of<C: Ledger, A: Ledger>(
     text
 }
 
-/// Returns the outcome of a journal in a new book: the result of the restore, the state, the noted
-/// lines after all links are then lost, and the state and the counts after that.
+/// Restores a new book from a journal, and returns the result and the state. Then all links are
+/// lost, and the noted lines, the state and the counts follow.
 fn play<C: Ledger, A: Ledger>(
     rt: &impl Abort,
     alloc: Global,
@@ -94,14 +97,15 @@ fn play<C: Ledger, A: Ledger>(
     format!(in alloc; "{said}\n{state}\n{losses}{after} {counts}").expect(rt, "error")
 }
 
-/// Returns the same for a book of this test alone.
+/// Returns the outcome of a journal, as `play` does, for a restored book of this test alone.
 fn told(rt: &impl Abort, alloc: Global, journal: &str) -> String {
     let (changes, answers) = (Blank::new(1), Blank::new(1));
     play::<Brand, Brand>(rt, alloc, changes, answers, journal.as_bytes())
 }
 
-/// Checks that the outcome of a journal is the wanted text, or begins with it.
-fn is_told(rt: &impl Abort, alloc: Global, journal: &str, wanted: &str) {
+/// Checks that the outcome of restoring a book from a journal is the wanted text, or begins with
+/// it.
+fn expect_outcome(rt: &impl Abort, alloc: Global, journal: &str, wanted: &str) {
     let told = told(rt, alloc, journal);
     let begins = told.as_str().get(..wanted.len()).unwrap_or(told.as_str());
     same_text(rt, begins, wanted, journal);
@@ -109,7 +113,8 @@ fn is_told(rt: &impl Abort, alloc: Global, journal: &str, wanted: &str) {
 
 // ---- journals
 
-/// Returns the first lines of the journal, with `line` in place of the line of one number.
+/// Returns the first lines of the journal written by hand, with `line` in place of the line of one
+/// number.
 fn journal_of(rt: &impl Abort, alloc: Global, lines: usize, changed: usize, line: &str) -> String {
     let mut journal = String::new(alloc);
     for (index, own) in JOURNAL.lines().enumerate().take(lines) {
@@ -120,7 +125,8 @@ fn journal_of(rt: &impl Abort, alloc: Global, lines: usize, changed: usize, line
     journal
 }
 
-/// Returns the outcome of the first lines of the journal, without the counts.
+/// Returns the outcome that restoring the first lines of the journal is to have, without the
+/// counts.
 fn wanted_behind(rt: &impl Abort, alloc: Global, lines: usize) -> String {
     let state = STATES.split(',').nth(lines).expect(rt, "no state");
     let (version, rest) = state.split_once(' ').expect(rt, state);
@@ -135,15 +141,18 @@ fn wanted_behind(rt: &impl Abort, alloc: Global, lines: usize) -> String {
     )
 }
 
-/// Checks that the first `lines` lines are restored if the next one is torn.
+/// Checks that a book is restored from the first `lines` lines of the journal if the next one is
+/// torn.
 fn cut_after(rt: &impl Abort, alloc: Global, lines: usize) {
     let mut journal = journal_of(rt, alloc, lines, 0, "");
     let torn = "2025-01-01T00:00:20Z lost CP1";
     journal.push_str(torn).expect(rt, "error");
     let wanted = wanted_behind(rt, alloc, lines);
-    is_told(rt, alloc, journal.as_str(), wanted.as_str());
+    expect_outcome(rt, alloc, journal.as_str(), wanted.as_str());
 }
 
+/// Checks that a book is restored from the journal cut after each line, as by a crash, with the
+/// next line torn.
 #[test]
 fn a_journal_is_restored_after_each_line(rt: HostRuntime) {
     for lines in 0..LINES {
@@ -163,13 +172,15 @@ const LOST: &str = "2025-01-01T00:01:00Z lost CP1 2
 2025-01-01T00:01:00Z lost CP2 3
 ";
 
+/// Checks the book that is restored from the whole journal, also if its links are lost or a verdict
+/// was short of memory.
 #[test]
 fn a_whole_journal_is_restored(rt: HostRuntime) {
     let alloc = rt.alloc();
-    is_told(&rt, alloc, JOURNAL, WHOLE);
+    expect_outcome(&rt, alloc, JOURNAL, WHOLE);
     let mut journal = journal_of(&rt, alloc, LINES, 0, "");
     journal.push_str(LOST).expect(&rt, "error");
-    is_told(
+    expect_outcome(
         &rt,
         alloc,
         journal.as_str(),
@@ -191,15 +202,17 @@ fn a_whole_journal_is_restored(rt: HostRuntime) {
     );
 }
 
-/// Checks that the first line that doesn't fit is named in a journal with a changed line.
+/// Checks that the restore of a journal with one changed line names the first line that doesn't
+/// fit.
 fn changed(rt: &impl Abort, alloc: Global, row: &str) {
     let (number, row) = row.split_once('|').expect(rt, row);
     let (line, wanted) = row.split_once('|').expect(rt, row);
     let number = number.parse::<usize>().expect(rt, number);
     let journal = journal_of(rt, alloc, LINES, number, line);
-    is_told(rt, alloc, journal.as_str(), wanted);
+    expect_outcome(rt, alloc, journal.as_str(), wanted);
 }
 
+/// Checks for each change of `CHANGED` that the restore of the journal names a line and its fault.
 #[test]
 fn a_changed_line_is_named(rt: HostRuntime) {
     for row in CHANGED.lines() {
@@ -207,7 +220,8 @@ fn a_changed_line_is_named(rt: HostRuntime) {
     }
 }
 
-/// Checks that a reply with line breaks is on one line, and confirms its call as before.
+/// Checks that a reply with line breaks is on one line of the journal, and confirms its call as
+/// before.
 #[test]
 fn a_message_with_line_breaks_is_restored(rt: HostRuntime) {
     let alloc = rt.alloc();
@@ -223,10 +237,10 @@ fn a_message_with_line_breaks_is_restored(rt: HostRuntime) {
     push_line(&mut journal, &line).expect(&rt, "error");
     let end = "\n2025-01-01T00:00:02Z reply CP1 1 [3,\t\t\"0\",{\t\"status\":\t\"Unknown\"}]\t\n";
     holds(&rt, journal.as_str().ends_with(end), journal.as_str());
-    is_told(&rt, alloc, journal.as_str(), "4 lines\n0 0 1 0\n");
+    expect_outcome(&rt, alloc, journal.as_str(), "4 lines\n0 0 1 0\n");
 }
 
-/// Appends lines by which CP1 gets a link and loses it.
+/// Appends lines of the journal by which CP1 gets a link and loses it.
 fn push_links(rt: &impl Abort, alloc: Global, journal: &mut String, link: u64) {
     let lines = format!(in alloc;
         "2025-01-01T00:00:00Z attached CP1 {link}\n2025-01-01T00:00:00Z lost CP1 {link}\n"
@@ -246,7 +260,7 @@ fn a_long_journal_is_restored(rt: HostRuntime) {
     journal
         .push_str("2025-01-01T00:00:00Z attached CP1 2001\n")
         .expect(&rt, "error");
-    is_told(
+    expect_outcome(
         &rt,
         rt.alloc(),
         journal.as_str(),

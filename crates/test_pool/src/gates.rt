@@ -23,6 +23,8 @@ pub(crate) struct HoldingGate {
 }
 
 impl HoldingGate {
+    /// Makes a closed gate before the workers that compile requests. `held` has an `h` for each
+    /// request that it holds up.
     pub(crate) fn new(held: &'static str) -> HoldingGate {
         HoldingGate {
             held,
@@ -33,12 +35,13 @@ impl HoldingGate {
         }
     }
 
-    /// Lets all through.
+    /// Opens the gate, which lets the workers of all requests through.
     pub(crate) fn open(&self) {
         self.opened.store(1, Ordering::SeqCst);
     }
 
-    /// Yields up to this many turns, or until the gate is opened. Returns whether it is.
+    /// Yields a thread up to this many turns, or until the gate before the workers is opened.
+    /// Returns whether it is.
     fn is_opened_within(&self, turns: u64) -> bool {
         for _turn in 0..turns {
             if self.opened.load(Ordering::SeqCst) != 0 {
@@ -49,8 +52,9 @@ impl HoldingGate {
         false
     }
 
-    /// Does the action of a word, or returns a count: how often a worker came to the gate, how many
-    /// requests a worker began to compile, and whether one went on before the gate was opened.
+    /// Opens the gate or pauses, as a session's word says, or returns what it counts. It counts how
+    /// often a worker came to the gate, the requests that workers began, and whether one went on
+    /// before it was opened.
     pub(crate) fn done(&self, word: &str) -> Result<u64, Refusal> {
         match word {
             "open" => self.open(),

@@ -11,6 +11,8 @@ use std::sync::Wait;
 use std::sync::ledger::Blank;
 use std::thread::Threads;
 
+/// Plays a story of sessions and workers on a book whose ledgers of changes and answers are of this
+/// test alone.
 fn played<R: Abort + Threads + Wait + Sync>(rt: &R, alloc: Global, story: &Story) {
     play::<Brand, Brand, R>(rt, alloc, Blank::new(3), Blank::new(3), story);
 }
@@ -46,6 +48,8 @@ answers = 2",
     ..NOTHING
 };
 
+/// Checks that a worker answers a later request while another one is held up, and that an install
+/// between them changes neither answer.
 #[test]
 fn a_later_request_overtakes_one_that_is_held_up(rt: HostRuntime) {
     played(&rt, rt.alloc(), &OVERTAKEN);
@@ -66,6 +70,8 @@ answer 3 = 3",
     ..NOTHING
 };
 
+/// Checks that one worker answers requests in turn, each with the profile that was installed before
+/// it.
 #[test]
 fn one_worker_answers_in_turn(rt: HostRuntime) {
     played(&rt, rt.alloc(), &IN_TURN);
@@ -84,11 +90,14 @@ const MANY: Story = Story {
     ..NOTHING
 };
 
+/// Checks that eight workers answer 64 requests, each with the limit that its point had when it was
+/// requested.
 #[test]
 fn eight_workers_answer_64_requests(rt: HostRuntime) {
     played(&rt, rt.alloc(), &MANY);
 }
 
+/// Checks that all workers of the pool end once no session can send them a job.
 #[test]
 fn workers_end_with_the_jobs(rt: HostRuntime) {
     let after = "entered = 0\nkept = 0\nran-out = 0";
@@ -121,6 +130,8 @@ answer 8 = Stopped",
     ..NOTHING
 };
 
+/// Checks that each request that waits when the central system is stopped is answered, by its
+/// schedule or by Stopped.
 #[test]
 fn whoever_waits_at_the_end_is_answered(rt: HostRuntime) {
     played(&rt, rt.alloc(), &STOPPED);
@@ -137,6 +148,8 @@ const BOTH_WAIT: Story = Story {
     ..NOTHING
 };
 
+/// Checks that stopping the central system wakes two sessions that wait for answers while a worker
+/// is held up.
 #[test]
 fn stopping_wakes_all_who_wait(rt: HostRuntime) {
     played(&rt, rt.alloc(), &BOTH_WAIT);
@@ -151,6 +164,8 @@ const COUNTED: Story = Story {
     ..NOTHING
 };
 
+/// Checks that each session counts its own changes and answers, and all sessions together those of
+/// the book.
 #[test]
 fn two_sessions_count_what_all_was(rt: HostRuntime) {
     played(&rt, rt.alloc(), &COUNTED);
@@ -177,6 +192,7 @@ begun = 4",
     ..NOTHING
 };
 
+/// Checks that short jobs are compiled and answered while a long one is held up.
 #[test]
 fn short_jobs_pass_a_long_one(rt: HostRuntime) {
     played(&rt, rt.alloc(), &PASSED);
@@ -198,6 +214,7 @@ begun = 2",
     ..PASSED
 };
 
+/// Checks that no worker begins to compile a request that its session has abandoned.
 #[test]
 fn a_request_that_is_given_up_is_not_begun(rt: HostRuntime) {
     played(&rt, rt.alloc(), &GIVEN_UP);
@@ -241,6 +258,8 @@ turns 6 2 2073599 = 9601",
     ..NOTHING
 };
 
+/// Checks which requests for a schedule are short jobs for the workers, and the evaluations of the
+/// limit that one takes.
 #[test]
 fn short_jobs_are_no_more_work_than_is_counted(rt: HostRuntime) {
     played(&rt, rt.alloc(), &WORK);

@@ -95,6 +95,8 @@ pub(crate) fn play<C: Ledger, A: Ledger, R: Abort + Wait + Clock>(
     found
 }
 
+/// Serves the session of a story's line over a WebSocket in memory, and appends how it ended and
+/// what its client read.
 fn play_line<C: Ledger, A: Ledger, R: Abort + Wait + Clock>(
     desk: &Desk<'_, C, A, R>,
     line: &str,
@@ -129,6 +131,8 @@ fn play_line<C: Ledger, A: Ledger, R: Abort + Wait + Clock>(
     pass
 }
 
+/// Serves a session of a point or of an operator over a WebSocket in memory, and returns how it
+/// ended.
 fn serve<C: Ledger, A: Ledger, R: Abort + Wait + Clock>(
     desk: &Desk<'_, C, A, R>,
     who: &str,
@@ -150,8 +154,8 @@ fn serve<C: Ledger, A: Ledger, R: Abort + Wait + Clock>(
     }
 }
 
-/// Serves messages over a stream that is polled, until none comes or the session ends. Returns how
-/// the session ended, if it did.
+/// Serves an operator's session over a stream that is polled, until no message comes or the session
+/// ends. Returns how it ended, if it did.
 fn watch<C: Ledger, A: Ledger, R: Abort + Wait + Clock>(
     desk: &Desk<'_, C, A, R>,
     socket: WebSocket<Stream<'_>, NoMask>,
@@ -171,7 +175,8 @@ fn watch<C: Ledger, A: Ledger, R: Abort + Wait + Clock>(
     rt.panic("it goes on")
 }
 
-/// Sends the job of a request.
+/// Takes a request of another session for a schedule, and sends its job, which fills the queue of
+/// the workers.
 fn send_other<C: Ledger, A: Ledger, R: Abort + Wait>(
     desk: &Desk<'_, C, A, R>,
     pass: Pass<C, A>,
@@ -188,8 +193,8 @@ fn send_other<C: Ledger, A: Ledger, R: Abort + Wait>(
     pass
 }
 
-/// Appends the counts of the book. Checks that its point has no link, and that the pass counts all
-/// of the book.
+/// Appends the counts of the book after a session of a story. Checks that its point has no link,
+/// and that the pass counts all of the book.
 fn put_book<C: Ledger, A: Ledger, R: Abort + Wait>(
     desk: &Desk<'_, C, A, R>,
     jobs: &Sender<Job>,
@@ -212,6 +217,8 @@ fn put_book<C: Ledger, A: Ledger, R: Abort + Wait>(
     .expect(desk.rt, "error");
 }
 
+/// Returns the name of the way in which a session ended, or `open`, as the results of a story have
+/// it.
 fn name_of_end(ended: Option<Ended>) -> &'static str {
     match ended {
         None => "open",

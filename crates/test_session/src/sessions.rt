@@ -9,7 +9,7 @@ use std::rt::Clock;
 use std::sync::Wait;
 use std::sync::ledger::Blank;
 
-/// Returns the results of a story.
+/// Plays a story of sessions on a book of this test alone, and returns the results.
 fn played<R: Abort + Wait + Clock>(rt: &R, alloc: Global, story: &str, enough: &str) -> String {
     let tale = Tale { story, enough };
     play::<Brand, Brand, R>(rt, alloc, Blank::new(1), Blank::new(1), &tale)
@@ -26,6 +26,8 @@ operator 100 450 install no-frame ask close = closed accepted schedule close/1 1
 point 100 450 no-frame heartbeat close = closed clear moment close/0 0 1 0 0;
 timeless 100 450 heartbeat close = broken/0 0 1 0 0;";
 
+/// Checks how the sessions of each story of `STORIES` end, what their clients read, and the counts
+/// of the book.
 #[test]
 fn each_story_comes_to_its_end(rt: HostRuntime) {
     for row in STORIES.lines() {
@@ -62,8 +64,8 @@ broken moment clear/0 0 1 0 0;closed moment clear moment close/0 0 1 0 0;
 broken moment clear moment/0 0 1 0 0;closed moment clear moment close/0 0 1 0 0;
 closed moment clear moment close/0 0 1 0 0;closed moment clear moment close/0 0 1 0 0;";
 
-/// Plays a story with each number below `most` for `#`. Checks that the results are these rows, in
-/// this order, and that no row is missing.
+/// Plays a story of sessions with each number below `most` for `#`. Checks that the results are
+/// these rows, in this order, and that no row is missing.
 fn come_to(rt: &(impl Abort + Wait + Clock), alloc: Global, story: &str, most: u32, rows: &str) {
     let (mut row, mut left) = rows.split_once('\n').expect(rt, rows);
     for number in 0..most {
@@ -80,6 +82,8 @@ fn come_to(rt: &(impl Abort + Wait + Clock), alloc: Global, story: &str, most: u
     assert!(rt; left.is_empty(), "not come to: {left}");
 }
 
+/// Checks the sessions of an operator and of a point whose socket fails at each call in turn, and
+/// the next session of each.
 #[test]
 fn a_socket_may_fail_at_each_call(rt: HostRuntime) {
     let story = "operator # 450 install ask close; operator 100 450 install ask close";
@@ -88,7 +92,8 @@ fn a_socket_may_fail_at_each_call(rt: HostRuntime) {
     come_to(&rt, rt.alloc(), story, 12, CALLS_OF_POINT);
 }
 
-/// The bytes of all messages are fewer than 450.
+/// Checks the sessions of an operator and of a point whose client's bytes end at each place in
+/// turn. All messages have fewer than 450 bytes.
 #[test]
 fn bytes_may_end_anywhere(rt: HostRuntime) {
     let story = "operator 100 # install ask close; operator 100 450 install ask close";
@@ -135,6 +140,8 @@ fn may_be_refused(
     assert!(rt; next.starts_with(told), "{found}");
 }
 
+/// Checks how an operator's session ends if any one of its allocations is refused, and that the
+/// next session is served.
 #[test]
 fn an_operators_session_is_refused_memory(rt: HostRuntime) {
     let story = "operator 100 450 install ask close; operator 100 450 install ask close";
@@ -142,6 +149,8 @@ fn an_operators_session_is_refused_memory(rt: HostRuntime) {
     may_be_refused(&rt, rt.alloc(), story, whole, SHORT_OPERATOR);
 }
 
+/// Checks how a charge point's session ends if any one of its allocations is refused, and that the
+/// next session is served.
 #[test]
 fn a_points_session_is_refused_memory(rt: HostRuntime) {
     let story = "point 100 450 heartbeat close; point 100 450 heartbeat close";

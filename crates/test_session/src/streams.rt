@@ -17,6 +17,7 @@ pub(crate) struct Stream<'a> {
 }
 
 impl Stream<'_> {
+    /// Counts a call of a session's stream in memory, and fails if no call is left.
     fn call(&mut self) -> io::Result<()> {
         if self.calls == 0 {
             return Err(io::Error::from(ErrorKind::BrokenPipe));

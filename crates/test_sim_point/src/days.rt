@@ -36,23 +36,27 @@ const DAYS: [&str; 10] = [
     PERIODS,
 ];
 
+/// Returns the instant a number of seconds after midnight, on the day of a simulated charge point.
 pub(crate) fn instant_at(rt: &impl Abort, seconds: u64) -> Instant {
     let second = MIDNIGHT.saturating_add(seconds);
     Instant::try_new(second).expect(rt, "past the calendar")
 }
 
+/// Parses a number in a line of a simulated charge point's day, such as a connector.
 fn number(rt: &impl Abort, word: &str) -> u32 {
     word.parse::<u32>().expect(rt, word)
 }
 
-/// Three words with a blank between them; the second may be empty.
+/// Splits the words of a line of a simulated point's day into three, with a blank between them. The
+/// second may be empty.
 fn three<'a>(rt: &impl Abort, words: &'a str) -> (&'a str, &'a str, &'a str) {
     let (first, rest) = words.split_once(' ').expect(rt, words);
     let (second, third) = rest.split_once(' ').expect(rt, words);
     (first, second, third)
 }
 
-/// A step: `start CONNECTOR TAG METER`, `stop CONNECTOR` or `heartbeat`. The tag has no blank.
+/// Parses a step of a simulated charge point: `start CONNECTOR TAG METER`, `stop CONNECTOR` or
+/// `heartbeat`. The tag has no blank.
 fn step_of(rt: &impl Abort, alloc: Global, line: &str) -> SimStep {
     let (step, words) = line.split_once(' ').unwrap_or((line, ""));
     match step {
@@ -73,7 +77,8 @@ fn step_of(rt: &impl Abort, alloc: Global, line: &str) -> SimStep {
     }
 }
 
-/// A point of 32.0 A with two connectors of 16.0 A, and its steps, a line each.
+/// Makes a simulated charge point of 32.0 A with two connectors of 16.0 A, and its steps, a line
+/// each.
 pub(crate) fn point_with(rt: &impl Abort, alloc: Global, lines: &str) -> SimPoint {
     let mut steps = Vec::new(alloc);
     for line in lines.lines() {
@@ -86,8 +91,8 @@ pub(crate) fn point_with(rt: &impl Abort, alloc: Global, lines: &str) -> SimPoin
     SimPoint::try_new(alloc, Unit::A, 320, connectors, steps).expect(rt, "error")
 }
 
-/// A SetChargingProfile of a TxDefaultProfile whose periods of a second each begin where those of the
-/// level below may end, of 1 A and 2 A in turn.
+/// Returns the SetChargingProfile of a TxDefaultProfile for a simulated point. Its periods of a
+/// second each begin where those of the level below may end, of 1 A and 2 A in turn.
 fn default_text(
     rt: &impl Abort,
     alloc: Global,
@@ -121,17 +126,20 @@ struct Day {
 }
 
 impl Day {
-    /// Returns the answer to a message.
+    /// Returns the simulated point's answer to a message of the central system, if it has one.
     fn answered(&mut self, rt: &impl Abort, text: &str) -> Option<String> {
         self.point.on_text(self.now, text).expect(rt, "error")
     }
 
-    /// Returns the answer to the install of a default.
-    fn default(&mut self, rt: &impl Abort, words: &str) -> Option<String> {
+    /// Installs a TxDefaultProfile at the simulated point, by words such as `1 0 200`, and returns
+    /// the point's answer.
+    fn install_default(&mut self, rt: &impl Abort, words: &str) -> Option<String> {
         let (connector, level, periods) = three(rt, words);
         self.install(rt, connector, number(rt, level), periods)
     }
 
+    /// Returns the simulated point's answer to the SetChargingProfile of a TxDefaultProfile at a
+    /// connector and a stack level.
     fn install(
         &mut self,
         rt: &impl Abort,
@@ -144,7 +152,8 @@ impl Day {
         self.answered(rt, text.as_str())
     }
 
-    /// Installs defaults at a connector, each of which is accepted.
+    /// Installs TxDefaultProfiles at a connector of the simulated point, one at each stack level
+    /// from 0 on. Each is accepted.
     fn fill(&mut self, rt: &impl Abort, words: &str) {
         let (connector, levels, periods) = three(rt, words);
         for level in 0..number(rt, levels) {
@@ -154,7 +163,8 @@ impl Day {
         }
     }
 
-    /// Returns the result of a line's word and the rest of it.
+    /// Plays the first half of a line of a simulated point's day, and returns the point's call or
+    /// answer, if there is one.
     fn found(&mut self, rt: &impl Abort, what: &str) -> Option<String> {
         let (word, text) = what.split_once(' ').unwrap_or((what, ""));
         match word {
@@ -163,7 +173,7 @@ impl Day {
                 None
             }
             "call" => self.point.next_call(self.now).expect(rt, "error"),
-            "default" => self.default(rt, text),
+            "default" => self.install_default(rt, text),
             "fill" => {
                 self.fill(rt, text);
                 None
@@ -172,6 +182,8 @@ impl Day {
         }
     }
 
+    /// Plays a line of a simulated point's day, and checks that the point's call or answer is the
+    /// wanted one.
     fn line(&mut self, rt: &impl Abort, line: &str) {
         let (what, wanted) = line.split_once(" | ").expect(rt, line);
         let found = self.found(rt, what);
@@ -183,6 +195,7 @@ impl Day {
     }
 }
 
+/// Plays the written day of a simulated charge point, and checks each of its calls and answers.
 fn plays(rt: &impl Abort, alloc: Global, day: &str) {
     let (steps, lines) = day.split_once("\n\n").expect(rt, day);
     let mut played = Day {
@@ -195,6 +208,7 @@ fn plays(rt: &impl Abort, alloc: Global, day: &str) {
     }
 }
 
+/// Checks the calls and the answers of a simulated charge point on each of the written days.
 #[test]
 fn days_are_as_written(rt: HostRuntime) {
     for day in DAYS {

@@ -3,10 +3,13 @@
 
 use std::process::Abort;
 
+/// Checks that a test of the simulated charge point found the wanted text. A failure names the
+/// case.
 pub(crate) fn same_text(rt: &impl Abort, found: &str, wanted: &str, case: &str) {
     assert!(rt; found == wanted, "{case}: {found}, wanted {wanted}");
 }
 
+/// Checks a fact in a test of the simulated charge point. A failure names the case.
 pub(crate) fn holds(rt: &impl Abort, fact: bool, case: &str) {
     assert!(rt; fact, "{case}");
 }

@@ -40,7 +40,9 @@ struct Failing<S> {
 }
 
 impl<S> Failing<S> {
-    fn passes(&mut self) -> io::Result<()> {
+    /// Counts a read, write or flush of a simulated point's device, and fails at the one of the
+    /// number `at`.
+    fn count_call(&mut self) -> io::Result<()> {
         let fails = self.calls == self.at;
         self.calls = self.calls.saturating_add(1);
         if fails {
@@ -52,19 +54,19 @@ impl<S> Failing<S> {
 
 impl<S: Read> Read for Failing<S> {
     fn read(&mut self, buf: &mut [u8]) -> io::Result<usize> {
-        self.passes()?;
+        self.count_call()?;
         self.inner.read(buf)
     }
 }
 
 impl<S: Write> Write for Failing<S> {
     fn write(&mut self, buf: &[u8]) -> io::Result<usize> {
-        self.passes()?;
+        self.count_call()?;
         self.inner.write(buf)
     }
 
     fn flush(&mut self) -> io::Result<()> {
-        self.passes()?;
+        self.count_call()?;
         self.inner.flush()
     }
 }
@@ -83,12 +85,14 @@ const POINT: &str = r#"[2,"0","Heartbeat",{}]
 [2,"2","StopTransaction",{"transactionId":7,"timestamp":"2025-01-01T00:00:00Z","meterStop":3}]
 [3,"b",{"status":"Accepted","connectorId":1,"scheduleStart":"2025-01-01T00:00:00Z","chargingSchedule":{"duration":60,"chargingRateUnit":"A","chargingSchedulePeriod":[{"startPeriod":0,"limit":16.0}]}}]"#;
 
+/// Makes a simulated charge point whose steps are a heartbeat, and the start and the stop of a
+/// transaction.
 fn simulated(rt: &impl Abort, alloc: Global) -> SimPoint {
     point_with(rt, alloc, "heartbeat\nstart 1 a 3\nstop 1")
 }
 
-/// Returns the bytes of these messages as a server sends them, after a binary message, and then of
-/// its close.
+/// Returns the bytes of the central system's WebSocket that sends a binary message, then these
+/// texts, and then its close if `closes`.
 fn sent_by_central(rt: &impl Abort, alloc: Global, texts: &str, closes: bool) -> Vec<u8> {
     let stream = Duplex {
         reader: [].as_slice(),
@@ -107,7 +111,7 @@ fn sent_by_central(rt: &impl Abort, alloc: Global, texts: &str, closes: bool) ->
     socket.into_inner().writer
 }
 
-/// Checks that a message is this text.
+/// Checks that a WebSocket message of the simulated point is this text.
 fn is_text(rt: &impl Abort, message: &Message, wanted: &str) {
     match message {
         Message::Text(text) => same_text(rt, text.as_str(), wanted, "a text"),
@@ -115,7 +119,7 @@ fn is_text(rt: &impl Abort, message: &Message, wanted: &str) {
     }
 }
 
-/// Checks that the point sent these messages, and then its close.
+/// Checks that the simulated point sent these texts over its WebSocket, and then its close.
 fn are_texts(rt: &impl Abort, alloc: Global, bytes: &[u8], texts: &str) {
     let stream = Duplex {
         reader: bytes,
@@ -129,7 +133,8 @@ fn are_texts(rt: &impl Abort, alloc: Global, bytes: &[u8], texts: &str) {
     holds(rt, last.is_close(), "a close");
 }
 
-/// Checks that a point that receives these messages and a close sends those and a close.
+/// Checks that a simulated point that receives the texts `central` and a close over its WebSocket
+/// sends the texts `wanted` and a close.
 fn sends<R: Abort + Wait>(rt: &R, alloc: Global, point: SimPoint, central: &str, wanted: &str) {
     let bytes = sent_by_central(rt, alloc, central, true);
     let mut output = Vec::new(alloc);
@@ -153,6 +158,8 @@ const STARTED: &str = r#"[2,"0","Heartbeat",{}]
 [3,"a",{"status":"Accepted"}]
 [2,"1","StartTransaction",{"connectorId":1,"idTag":"b","meterStart":0,"timestamp":"2025-01-01T00:00:00Z"}]"#;
 
+/// Checks what a simulated charge point sends over a WebSocket, with steps of its own and after a
+/// remote start.
 #[test]
 fn days_at_a_socket(rt: HostRuntime) {
     let alloc = rt.alloc();
@@ -161,7 +168,8 @@ fn days_at_a_socket(rt: HostRuntime) {
     sends(&rt, alloc, one_step, REMOTE_START, STARTED);
 }
 
-/// Returns how a point ends after these bytes, with a device that fails at the call of this number.
+/// Returns how a simulated point ends after these bytes of the central system, with a device that
+/// fails at the call of this number.
 fn end_at<R: Abort + Wait>(rt: &R, alloc: Global, bytes: &[u8], at: usize, clock: &Fixed) -> Ended {
     let mut output = Vec::new(alloc);
     let inner = Duplex {
@@ -177,6 +185,8 @@ fn end_at<R: Abort + Wait>(rt: &R, alloc: Global, bytes: &[u8], at: usize, clock
     run_client(rt, alloc, socket, simulated(rt, alloc), clock)
 }
 
+/// Checks that a simulated point ends, whichever call of its WebSocket's device fails, and that
+/// each one may fail.
 #[test]
 fn a_device_that_fails_ends_it(rt: HostRuntime) {
     let bytes = sent_by_central(&rt, rt.alloc(), CENTRAL, true);
@@ -193,12 +203,15 @@ fn a_device_that_fails_ends_it(rt: HostRuntime) {
     holds(&rt, failed >= 10, "each call before the close may fail");
 }
 
-/// Checks how the point ends after these bytes with this clock, if no call fails.
+/// Checks how the simulated point ends after these bytes of the central system with this clock, if
+/// no call fails.
 fn ends(rt: &(impl Abort + Wait), alloc: Global, bytes: &[u8], clock: &Fixed, wanted: Ended) {
     let ended = end_at(rt, alloc, bytes, 100, clock);
     holds(rt, ended == wanted, "how it ends");
 }
 
+/// Checks how a simulated point ends if its connection ends without a close, its clock can't be
+/// read, or the central system closes first.
 #[test]
 fn a_connection_without_a_close_is_broken(rt: HostRuntime) {
     let alloc = rt.alloc();

@@ -17,6 +17,8 @@ const KEY: [u8; 20] = [
 const LINE: &str =
     "point CP9 a0a1a2a3a4a5a6a7a8a9aaabacadaeaf 9fbb2d4a692385e5084ab23e4a2f404873d1bd52b6487c3f1f2cc92bb14545d8";
 
+/// Checks the line of the key file and the hex digits that are written for a charge point's new
+/// key.
 #[test]
 fn a_new_key_is_written(rt: HostRuntime) {
     let text = write_key(rt.alloc(), Role::Point, "CP9", &SALT, &KEY).expect(&rt, "error");

@@ -20,19 +20,19 @@ const MIDNIGHT: u64 = 1_735_689_600;
 /// A point's reply with characters that are special in JSON, in HTML and in a label.
 const REASON: &str = "no <room> & \"none\" \\ 'either'\n";
 
-/// Returns the instant a number of seconds after midnight.
+/// Returns the instant a number of seconds after midnight, for tests of the status port.
 pub(crate) fn at(rt: &impl Abort, seconds: u64) -> Instant {
     Instant::try_new(MIDNIGHT + (seconds & 0xffff)).expect(rt, "an instant")
 }
 
-/// Returns the site without profiles and transactions.
+/// Returns a small site without profiles and transactions, for tests of the status port.
 pub(crate) fn machine(rt: &impl Abort, alloc: Global) -> Machine {
     let site = read_site(alloc, SITE.as_bytes()).ok().expect(rt, "a site");
     Machine::new(alloc, site).expect(rt, "error")
 }
 
-/// Returns the observations of the points: the first booted, was sent call 0, and rejected it;
-/// there are none of the second.
+/// Returns the observations of a small site's points, for tests of the status port. The first
+/// booted, was sent call 0, and rejected it; there are none of the second.
 pub(crate) fn news(rt: &impl Abort, alloc: Global) -> Vec<PointActivity> {
     let mut points = Vec::new(alloc);
     points.push(first_news(rt, alloc)).expect(rt, "error");
@@ -40,6 +40,8 @@ pub(crate) fn news(rt: &impl Abort, alloc: Global) -> Vec<PointActivity> {
     points
 }
 
+/// Returns the observations of the first point, for tests of the status port: it booted, was sent
+/// call 0, and rejected it.
 fn first_news(rt: &impl Abort, alloc: Global) -> PointActivity {
     let mut news = PointActivity::new();
     news.see(Observation::Connected {
@@ -61,12 +63,13 @@ fn first_news(rt: &impl Abort, alloc: Global) -> PointActivity {
     news
 }
 
-/// A call to the first point waits since a moment; for the second no moment is known.
+/// Returns since when a call to each point waits, for tests of the status port. For the second no
+/// moment is known.
 pub(crate) fn waits(rt: &impl Abort) -> [Option<Instant>; 2] {
     [Some(at(rt, 5)), None]
 }
 
-/// Returns the report on the site 60 seconds after midnight.
+/// Returns the report on a small site 60 seconds after midnight, for tests of the status port.
 pub(crate) fn report<'a>(
     rt: &impl Abort,
     machine: &'a Machine,

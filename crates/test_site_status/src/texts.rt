@@ -49,11 +49,13 @@ const PARTS: &str = r#"<html lang="en">
 : no &lt;room&gt; &amp; &quot;none&quot; \ &#39;either&#39;
 <h2>CP2</h2>"#;
 
+/// Checks the status port's JSON of a small site against a text written by hand.
 fn state(rt: &impl Abort, alloc: Global, report: &SiteReport<'_>) {
     let text = state_json(alloc, report).expect(rt, "error");
     same_text(rt, text.as_str(), STATE, "the state");
 }
 
+/// Checks that the status port's metrics of a small site have the lines written by hand.
 fn figures(rt: &impl Abort, alloc: Global, report: &SiteReport<'_>) {
     let text = metrics_text(alloc, report).expect(rt, "error");
     for sample in SAMPLES.lines() {
@@ -63,10 +65,12 @@ fn figures(rt: &impl Abort, alloc: Global, report: &SiteReport<'_>) {
     holds(rt, none, "none is in flight");
 }
 
+/// Checks that the status port's metrics have a line.
 fn has_line(rt: &impl Abort, text: &str, wanted: &str) {
     holds(rt, text.lines().any(|line| line == wanted), wanted);
 }
 
+/// Checks that the status page of a small site has the parts written by hand.
 fn page(rt: &impl Abort, alloc: Global, report: &SiteReport<'_>) {
     let page = site_page(alloc, report, 1).expect(rt, "error");
     let page = page.expect(rt, "a page");
@@ -75,6 +79,7 @@ fn page(rt: &impl Abort, alloc: Global, report: &SiteReport<'_>) {
     }
 }
 
+/// Checks the status port's JSON, metrics and page of a small site against texts written by hand.
 #[test]
 fn what_is_told_of_a_site(rt: HostRuntime) {
     let alloc = rt.alloc();
@@ -86,14 +91,16 @@ fn what_is_told_of_a_site(rt: HostRuntime) {
     page(&rt, alloc, &report);
 }
 
-fn told(rt: &impl Abort, alloc: Global, health: Health, body: &str) {
+/// Checks the body of the status port's answer with the health of a site.
+fn check_health_answer(rt: &impl Abort, alloc: Global, health: Health, body: &str) {
     let answer = health_answer(alloc, health).expect(rt, "error");
     same_text(rt, answer.body.as_str(), body, "its body");
 }
 
-/// The words that programs read; a client of the status port sees only two of them.
+/// Checks the words for a site's health that programs read from the status port. A client sees only
+/// two of them.
 #[test]
 fn words_of_health(rt: HostRuntime) {
-    told(&rt, rt.alloc(), Health::Restoring, "restoring\n");
-    told(&rt, rt.alloc(), Health::JournalBroken, "journal broken\n");
+    check_health_answer(&rt, rt.alloc(), Health::Restoring, "restoring\n");
+    check_health_answer(&rt, rt.alloc(), Health::JournalBroken, "journal broken\n");
 }

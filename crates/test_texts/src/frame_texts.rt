@@ -7,6 +7,7 @@ use ocppj_frame::{
 };
 use std::process::Abort;
 
+/// Reads a text as an OCPP-J frame, and returns the outcome: `Other`, `Dropped`, or something else.
 fn outcome(memory: &mut ReadingMemory, text: &str) -> &'static str {
     match read_frame(memory, text) {
         Ok(Frame::Other) => "Other",
@@ -15,12 +16,15 @@ fn outcome(memory: &mut ReadingMemory, text: &str) -> &'static str {
     }
 }
 
+/// Appends a piece a number of times to the text of a long OCPP-J frame.
 fn push_times(rt: &impl Abort, out: &mut String, piece: &str, times: u32) {
     for _ in 0..times {
         out.push_str(piece).expect(rt, "error");
     }
 }
 
+/// Checks that an OCPP-J frame of 1,048,576 bytes is read and a longer one dropped, and where line
+/// breaks may be.
 #[test]
 fn frames_have_at_most_1048576_bytes(rt: HostRuntime) {
     let mut memory = ReadingMemory::new(rt.alloc());
@@ -40,8 +44,8 @@ fn frames_have_at_most_1048576_bytes(rt: HostRuntime) {
     holds(&rt, is_read, "a byte more as a tree");
 }
 
-/// Returns the number of entries in the list of a call, and its last field; `None` if memory ran
-/// out.
+/// Reads an OCPP-J CALL, and returns the length of its field `list` and its field `last`; `None` if
+/// memory ran out.
 fn parts(memory: &mut ReadingMemory, text: &str) -> Option<(usize, Field<i32>)> {
     match read_frame(memory, text) {
         Ok(Frame::Call { payload, .. }) => {
@@ -57,8 +61,9 @@ fn parts(memory: &mut ReadingMemory, text: &str) -> Option<(usize, Field<i32>)> 
     }
 }
 
-/// Checks that after a failed allocation, whichever it is, the next attempt reads the text into the
-/// same memory. `tests/program.py` lets twenty fail in a row; otherwise the first attempt reads it.
+/// Checks that after a failed allocation, whichever it is, the next attempt reads an OCPP-J CALL
+/// into the same memory. `tests/program.py` lets twenty fail in a row; otherwise the first attempt
+/// reads it.
 #[test]
 fn a_text_is_read_again_where_memory_was_refused(rt: HostRuntime) {
     let head = "[2,\"again\",\"DataTransfer\",{\"list\":[";
@@ -92,6 +97,8 @@ const LAST_FIELDS: [(&str, &str, i32); 12] = [
     ("{\"12\":10}", "12", 10),
 ];
 
+/// Checks that of several fields of one name in a JSON object the last counts, also if its name has
+/// escapes.
 #[test]
 fn the_last_field_of_a_name_counts(rt: HostRuntime) {
     let mut memory = ReadingMemory::new(rt.alloc());

@@ -111,7 +111,8 @@ pub fn hold_of(
     }
 }
 
-/// Returns whether a message is a CALL of GetCompositeSchedule.
+/// Returns whether a message is a CALL of GetCompositeSchedule, the only one that a script's `hold`
+/// line may have.
 fn asks_schedule(frame: &Frame<'_>) -> bool
     ensures { result ≡ asks_schedule (Ok (message_in frame.now)) }
 {
@@ -121,6 +122,8 @@ fn asks_schedule(frame: &Frame<'_>) -> bool
     }
 }
 
+/// Returns whether an action is GetCompositeSchedule, the only one that a script's `hold` line may
+/// have.
 fn is_schedule_kind(kind: Option<ActionKind>) -> bool
     ensures { result ≡ is_schedule_kind kind }
 {
@@ -181,7 +184,8 @@ fn asked_of_reply(
     }
 }
 
-/// Returns the confirmation of the point's call of this number, or nothing without a number.
+/// Returns the confirmation of the point's call of this number, which its reply names, or nothing
+/// without a number.
 fn asked_confirm(
     alloc: Global,
     point: &str,
@@ -204,7 +208,7 @@ fn asked_confirm(
     }
 }
 
-/// Returns the number of the call whose decimal text an id is.
+/// Returns the number of the call to a point whose decimal text is the id of a point's reply.
 fn call_numbered(id: &str) -> Option<u64>
     ensures { result ≡ call_numbered id.now }
 {
@@ -212,7 +216,7 @@ fn call_numbered(id: &str) -> Option<u64>
     if id == "0" { Some(0) } else { number_of(id) }
 }
 
-/// Returns the request of the CALL of this id, whose action requests `wanted`.
+/// Returns the request of the CALL of this id, by the step or the answer that its action leads to.
 fn asked_with(id: MessageId, kind: ActionKind, wanted: Wanted) -> Asked
     ensures { result ≡ asked_with id kind wanted }
 {
@@ -222,7 +226,7 @@ fn asked_with(id: MessageId, kind: ActionKind, wanted: Wanted) -> Asked
     }
 }
 
-/// Reads the fields of an action, and returns the step that it requests or its answer.
+/// Reads the fields of a CALL's action, and returns the step that it requests or its answer.
 fn wanted_by_fields(
     alloc: Global,
     text: &SentText<'_>,
@@ -239,7 +243,7 @@ fn wanted_by_fields(
     }
 }
 
-/// Returns the step that an action requests, or its answer.
+/// Returns the step of the central system that a CALL's action requests, or its answer.
 fn wanted_by(alloc: Global, text: &SentText<'_>, action: Action) -> Result<Wanted, AllocError>
     ensures { IfOk result (λ wanted. wanted ≡ wanted_by text.now action) }
 {
@@ -280,7 +284,7 @@ fn wanted_by(alloc: Global, text: &SentText<'_>, action: Action) -> Result<Wante
     Ok(Wanted::Response(response))
 }
 
-/// Returns the request for a schedule with these fields.
+/// Returns the step that takes an operator's GetCompositeSchedule request with these fields.
 fn step_of_ask(
     alloc: Global,
     text: &SentText<'_>,
@@ -299,7 +303,8 @@ fn step_of_ask(
     }))
 }
 
-/// Returns the audit with these fields.
+/// Returns the step that an operator's AuditPoint with these fields requests: an audit of the
+/// point.
 fn step_of_audit(
     alloc: Global,
     text: &SentText<'_>,
@@ -315,7 +320,8 @@ fn step_of_audit(
     })
 }
 
-/// Returns the start with these fields.
+/// Returns the step that a point's StartTransaction with these fields requests: a transaction
+/// begins.
 fn step_of_start(
     alloc: Global,
     text: &SentText<'_>,
@@ -335,7 +341,8 @@ fn step_of_start(
     })
 }
 
-/// Returns the install of the profile with these fields, or the rejection if they make none.
+/// Returns the step that an operator's SetChargingProfile requests, the install of its profile, or
+/// the rejection if its fields make none.
 fn wanted_by_parts(
     alloc: Global,
     text: &SentText<'_>,
@@ -360,7 +367,8 @@ fn wanted_by_parts(
     }
 }
 
-/// Returns the remote start with these fields, or the rejection if its profile's fields make none.
+/// Returns the step that an operator's RemoteStartTransaction requests, or the rejection if its
+/// profile's fields make none.
 fn wanted_by_remote_start(
     alloc: Global,
     text: &SentText<'_>,

@@ -35,7 +35,8 @@ pub fn clock_shifts(
     Ok(shifts)
 }
 
-/// Appends the offset after each change, from after `start` up to `end`.
+/// Appends the offset of a time zone's clock from UTC after each change, from after `start` up to
+/// `end`.
 fn push_changes(
     shifts: &mut Vec<ClockShift>,
     zone: &Tzif,
@@ -65,7 +66,7 @@ fn push_changes(
     Err(ZoneFault::NoZone)
 }
 
-/// Converts seconds since 1970 to a timestamp.
+/// Converts seconds since 1970 to a timestamp, to look up a time zone's offset from UTC.
 fn timestamp(moment: u64) -> Result<Timestamp, ZoneFault> {
     match Timestamp::from_nanosecond(i128::from(moment) * 1_000_000_000) {
         Ok(timestamp) => Ok(timestamp),
@@ -73,7 +74,7 @@ fn timestamp(moment: u64) -> Result<Timestamp, ZoneFault> {
     }
 }
 
-/// Converts a timestamp to seconds since 1970.
+/// Converts the timestamp of a time zone's clock change to seconds since 1970.
 fn second(timestamp: Timestamp) -> Result<u64, ZoneFault> {
     match u64::try_from(timestamp.floor_second()) {
         Ok(second) => Ok(second),

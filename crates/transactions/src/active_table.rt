@@ -98,6 +98,8 @@ impl ActiveTable {
         Some(before as u32 + 1)
     }
 
+    /// Stores a connector's transaction, or that it has none, in the table of a charge point's
+    /// active transactions.
     fn put(&mut self, place: usize, slot: Option<Transaction>)
         requires { place < length self.old }
         ensures { self.new ≡ slice_set self.old place slot }
@@ -150,6 +152,7 @@ impl ActiveTable {
     }
 }
 
+/// Returns the timestamp of the active transaction in a connector's slot, if it has one.
 fn start_of(slot: &Option<Transaction>) -> Option<Instant>
     ensures { result ≡ start_of slot.now }
 {
@@ -159,6 +162,8 @@ fn start_of(slot: &Option<Transaction>) -> Option<Instant>
     }
 }
 
+/// Returns the active transaction at a connector of a charge point; connector 0 and connectors
+/// without a slot have none.
 fn active_at(slots: &[Option<Transaction>], connector: u32) -> Option<&Transaction>
     ensures { option_copied result ≡ active_at slots.now connector }
 {
@@ -171,7 +176,8 @@ fn active_at(slots: &[Option<Transaction>], connector: u32) -> Option<&Transacti
     }
 }
 
-/// Returns the effect of a start at a connector.
+/// Returns the effect of a StartTransaction at a connector: a new transaction, or the number of the
+/// active one, if it is retransmitted.
 fn what_began(slots: &[Option<Transaction>], connector: u32, begin: &Begin) -> Began
     ensures { result ≡ began slots.now connector begin.now }
 {
@@ -182,6 +188,7 @@ fn what_began(slots: &[Option<Transaction>], connector: u32, begin: &Begin) -> B
     }
 }
 
+/// Makes the slots of a charge point's connectors in the table of active transactions, all empty.
 fn empty_slots<T: Drop>(alloc: Global, count: usize) -> Result<Vec<Option<T>>, AllocError>
     ensures { IfOk result (λ slots. slots.items ≡ replicate count None) }
 {
@@ -192,6 +199,7 @@ fn empty_slots<T: Drop>(alloc: Global, count: usize) -> Result<Vec<Option<T>>, A
     Ok(slots)
 }
 
+/// Returns the index of the connector's slot whose active transaction has this number.
 fn place_of(slots: &[Option<Transaction>], id: i32) -> Option<usize>
     ensures { result ≡ position (has_id id) slots.now }
 {
@@ -200,6 +208,7 @@ fn place_of(slots: &[Option<Transaction>], id: i32) -> Option<usize>
         .position(|slot| slot.as_ref().is_some_and(|active| active.id == id))
 }
 
+/// Copies the slots of a charge point's active transactions, one for each connector.
 fn copy_of_slots(
     alloc: Global,
     slots: &[Option<Transaction>],
@@ -213,6 +222,7 @@ fn copy_of_slots(
     Ok(copies)
 }
 
+/// Copies the active transaction in a connector's slot, if it has one.
 fn copy_of_slot(
     alloc: Global,
     slot: &Option<Transaction>,
@@ -225,6 +235,7 @@ fn copy_of_slot(
     }
 }
 
+/// Whether two tables of active transactions have equal transactions at each connector.
 fn same_slots(slots: &[Option<Transaction>], others: &[Option<Transaction>]) -> bool
     ensures { IsTrue result ↔ (slots.now ≡ others.now) }
 {
@@ -239,6 +250,7 @@ fn same_slots(slots: &[Option<Transaction>], others: &[Option<Transaction>]) -> 
     true
 }
 
+/// Whether the slots of two connectors have equal active transactions, or both none.
 fn same_slot(slot: &Option<Transaction>, other: &Option<Transaction>) -> bool
     ensures { IsTrue result ↔ (slot.now ≡ other.now) }
 {

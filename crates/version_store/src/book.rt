@@ -106,7 +106,8 @@ impl<C: Ledger, A: Ledger, N: ListName> Book<C, A, N> {
         Book::make_from(alloc, changes, answers, site, sessions, recorder)
     }
 
-    /// Makes the book of a site at its opening, with the recorder of its states.
+    /// Makes the book of a site's central system at its opening, with a pass for each session and
+    /// the recorder of its states.
     fn make_from(
         alloc: Global,
         changes: Blank,

@@ -32,13 +32,15 @@ impl Model for EventRoom {
 }
 
 impl EventRoom {
+    /// Allocates the memory for the events of the central system's stored history.
     pub(crate) fn new(alloc: Global) -> Result<EventRoom, AllocError> {
         Ok(EventRoom {
             events: Vec::with_capacity(alloc, ROOM)?,
         })
     }
 
-    /// Takes the memory that was given back, or allocates it.
+    /// Takes the memory of events that an earlier fold of the stored history gave back, or
+    /// allocates it.
     pub(crate) fn take(
         given: &mut Option<EventRoom>,
         alloc: Global,
@@ -49,6 +51,7 @@ impl EventRoom {
         }
     }
 
+    /// Returns the memory as an empty list for the events of the stored history.
     pub(crate) fn into_events(self) -> Vec<StoredEvent>
         ensures events { result.items ≡ [] }
         ensures room { room ≤ vec_capacity result }
@@ -78,6 +81,8 @@ impl Model for Folded {
 }
 
 impl Folded {
+    /// Keeps the old base and the events of a folded history, to be dropped without the lock of the
+    /// book.
     pub(crate) fn new(base: Machine, events: Vec<StoredEvent>) -> Folded
         requires { room ≤ vec_capacity events }
     {

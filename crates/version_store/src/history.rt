@@ -164,7 +164,8 @@ impl History {
         }
     }
 
-    /// Gathers the calls to each point, so that the new base shares them.
+    /// Gathers the calls to each charge point before a fold of the stored history, so that the new
+    /// base shares them.
     // Calls that were gathered once are shared, so that later folds don't copy them again.
     fn gather_calls(&mut self)
         ensures { self.new ≡ self.old }
@@ -172,7 +173,8 @@ impl History {
         self.present.gather_calls();
     }
 
-    /// Makes a step and adds its event, for which there is room.
+    /// Makes a step of the central system and adds its event to the stored history, which has room
+    /// for it.
     fn make_without_fold(&mut self, step: Step) -> Result<Reply, Refused>
         requires can_fold { may_fold step ≡ true }
         requires few { length self.old.events < fold_from }
@@ -200,7 +202,8 @@ impl History {
         Ok(reply)
     }
 
-    /// Makes a step that isn't an event.
+    /// Makes a step of the central system that isn't an event, so that it adds none to the stored
+    /// history.
     fn make_non_event(&mut self, step: Step) -> Reply
         requires can_fold { may_fold step ≡ true }
         requires no_event { outlook self.old.present step ≡ Ok false }
@@ -216,7 +219,8 @@ impl History {
         }
     }
 
-    /// Folds the history, makes a step, and adds its event.
+    /// Folds the stored history, so that its base is the present state, makes a step, and adds its
+    /// event.
     fn make_folded(&mut self, step: Step) -> Result<Reply, Refused>
         requires can_fold { may_fold step ≡ true }
         requires added { outlook self.old.present step ≡ Ok true }
@@ -315,6 +319,8 @@ impl History {
     }
 }
 
+/// Returns the refusal `OutOfMemory` of a step for which the stored history can't be folded, with
+/// the step.
 fn without_memory(step: Step) -> Refused
     ensures refusal { result.refusal ≡ Refusal.OutOfMemory }
     ensures step { result.step ≡ step }

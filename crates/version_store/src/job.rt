@@ -32,6 +32,8 @@ impl Model for Job {
 }
 
 impl Job {
+    /// Makes the job to compile a taken request for a composite schedule: its number, its point's
+    /// book and its `Ask`.
     pub(crate) fn new(number: u64, book: SharedBook, ask: Ask) -> Job
         requires { ask.connector ≤ length book.ceilings }
         ensures number { result.number ≡ number }

@@ -8,7 +8,8 @@ use site_core::{
     verdicts_stay_right,
 };
 
-/// The laws of the machine that the proofs of the stored history use.
+/// Brings the laws of the central system's machine into a proof of the stored history that calls
+/// it. Does nothing at run time.
 pub(crate) fn machine_laws()
     ensures { Laws }
 {

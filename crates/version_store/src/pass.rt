@@ -33,7 +33,7 @@ impl<C: Ledger, A: Ledger> Model for Pass<C, A> {
 }
 
 impl<C: Ledger, A: Ledger> Pass<C, A> {
-    /// Makes the pass of a session that has made no call yet.
+    /// Makes the pass of a session of the central system that has made no call yet.
     pub(crate) fn new(changed: Share<C>, answered: Share<A>) -> Pass<C, A>
         requires parts { (changed.parts ≡ 1) × (answered.parts ≡ 1) }
         requires amounts { (changed.amount ≡ 0) × (answered.amount ≡ 0) }
@@ -47,7 +47,8 @@ impl<C: Ledger, A: Ledger> Pass<C, A> {
         }
     }
 
-    /// Returns its parts of the book's changes and answers, each with its count.
+    /// Returns the parts of the book's changes and answers that a session's pass has, each with its
+    /// count.
     pub(crate) fn into_shares(self) -> (Share<C>, Share<A>)
         ensures parts { (result.0.parts ≡ 1) × (result.1.parts ≡ 1) }
         ensures changes { result.0.amount ≡ self.totals.changes }
@@ -71,7 +72,8 @@ impl<C: Ledger, A: Ledger> Pass<C, A> {
     }
 }
 
-/// Makes passes for this many sessions, which together have all the parts.
+/// Makes the passes of this many sessions of the central system's book, which together have all its
+/// parts.
 pub(crate) fn passes_of<C: Ledger, A: Ledger>(
     alloc: Global,
     mut changed: Share<C>,

@@ -80,7 +80,8 @@ impl<N: ListName> Model for RecordedStates<N> {
 }
 
 impl<N: ListName> StateRecorder<N> {
-    /// Makes a recorder that records nothing.
+    /// Makes a recorder of the central system's states that records nothing, for a book without a
+    /// ghost list.
     pub(crate) fn nothing() -> StateRecorder<N>
         requires { N.is_recorded ≡ false }
     {
@@ -90,7 +91,8 @@ impl<N: ListName> StateRecorder<N> {
         }
     }
 
-    /// Makes a recorder with the state of a site at its opening.
+    /// Makes a recorder of the central system's states, for which a journal accounts, with that of
+    /// a site at its opening.
     pub(crate) fn new(unnamed: Unnamed, site: &Site) -> StateRecorder<N>
         requires name { unnamed.name ≡ N.name }
         requires recorded { N.is_recorded ≡ true }
@@ -104,7 +106,8 @@ impl<N: ListName> StateRecorder<N> {
         }
     }
 
-    /// Records the state that a change led to.
+    /// Records the state of the central system that a change led to, for which its journal must
+    /// account.
     pub(crate) fn record(&mut self, present: &Machine)
         ensures { IsAt N.is_recorded self.new present.now }
     {
@@ -115,7 +118,8 @@ impl<N: ListName> StateRecorder<N> {
         }
     }
 
-    /// Returns the states that were recorded by now.
+    /// Returns the states of the central system that were recorded by now, for which its journal
+    /// must account.
     pub(crate) fn recorded(&self) -> RecordedStates<N>
         ensures { result ≡ self.now }
     {

@@ -12,7 +12,8 @@ use crate::recorded_states::StateRecorder;
 use ghost_list::ListName;
 use site_core::{Refused, Reply, Step};
 
-/// Makes a step that brings no answer, and records the state after it, if it is a change.
+/// Makes a step of the central system that brings no answer. Records the state after a change, for
+/// which the journal must account.
 pub(crate) fn make_recorded<N: ListName>(
     history: &mut History,
     recorder: &mut StateRecorder<N>,
@@ -40,6 +41,8 @@ pub(crate) fn make_recorded<N: ListName>(
     Ok(reply)
 }
 
+/// Whether a step takes, compiles or answers a request for a composite schedule, for which a
+/// journal needn't account.
 fn is_of_request(step: &Step) -> bool
     ensures { result ≡ is_of_request step.now }
 {

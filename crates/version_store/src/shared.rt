@@ -95,7 +95,7 @@ impl<C: Ledger, A: Ledger, N: ListName> Shared<C, A, N> {
         Ok((shared, passes))
     }
 
-    /// Makes a book with this many passes, for threads to share.
+    /// Makes a book of the central system with this many passes, for threads to share.
     fn of_book(
         alloc: Global,
         book: Book<C, A, N>,
@@ -151,8 +151,8 @@ impl<C: Ledger, A: Ledger, N: ListName> Shared<C, A, N> {
         book
     }
 
-    /// Locks the book. Drops the remains of a fold while it is unlocked, so that no thread waits
-    /// for that.
+    /// Locks the central system's book for a thread. Drops the remains of a fold of its history
+    /// while it is unlocked, so that no thread waits for that.
     fn lock_after_dropping_fold<R: Wait>(&self, rt: &R) -> MutexGuard<'_, Book<C, A, N>> {
         let mut book = self.book.lock(rt);
         let Some(folded) = book.take_folded() else {
@@ -178,7 +178,8 @@ impl<C: Ledger, A: Ledger, N: ListName> Shared<C, A, N> {
         self.place_of(number).notify_all();
     }
 
-    /// Returns the condition variable for the request of a number.
+    /// Returns the condition variable of the threads that wait for the answer to the request for a
+    /// composite schedule of this number.
     fn place_of(&self, number: u64) -> &Condvar {
         &self.places[(number % PLACES) as usize]
     }
@@ -218,6 +219,8 @@ impl<C: Ledger, A: Ledger, N: ListName> Shared<C, A, N> {
     }
 }
 
+/// Makes the condition variables of the threads that wait for answers to requests for composite
+/// schedules.
 fn new_places(alloc: Global) -> Result<Vec<Condvar>, AllocError>
     ensures { IfOk result (λ places. length places.items ≡ 64) }
 {

@@ -26,7 +26,7 @@ impl Model for StoredEvent {
 }
 
 impl StoredEvent {
-    /// Makes the event of a step that brings no answer.
+    /// Makes the event of the stored history for a step that brings no answer.
     pub(crate) fn alone(step: Step) -> StoredEvent
         ensures { result ≡ event_alone step }
     {
@@ -36,7 +36,8 @@ impl StoredEvent {
         }
     }
 
-    /// Makes the event that the request of this number was compiled with this answer.
+    /// Makes the event of the stored history that the request of this number for a composite
+    /// schedule was compiled with this answer.
     pub(crate) fn compiled(number: u64, answer: Result<Composite, Refusal>) -> StoredEvent
         ensures { result ≡ compile_event number answer }
     {

@@ -14,6 +14,7 @@ pub struct Totals {
 }
 
 impl Totals {
+    /// Returns the totals of a book or session before any change or answer.
     pub(crate) fn none() -> Totals
         ensures { result ≡ no_totals }
     {
@@ -23,7 +24,8 @@ impl Totals {
         }
     }
 
-    /// Returns the counts of one reply.
+    /// Returns the numbers of changes made and of answers handed out that one reply of the central
+    /// system counts.
     pub(crate) fn of(reply: &Reply) -> Totals
         ensures { result ≡ totals_after no_totals reply.now }
     {
@@ -35,7 +37,8 @@ impl Totals {
         Totals { changes, answers }
     }
 
-    /// Returns the totals with the counts of one more reply.
+    /// Returns the totals of changes made and answers handed out, with those of one more reply of
+    /// the central system.
     pub(crate) fn after(self, reply: &Reply) -> Totals
         requires changes { self.changes + (counted reply.now).changes < 2 ^ 64 }
         requires answers { self.answers + (counted reply.now).answers < 2 ^ 64 }

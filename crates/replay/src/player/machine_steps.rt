@@ -57,8 +57,8 @@ pub fn skim_take(
     Ok(outcome)
 }
 
-/// Returns whether no other request is kept and nothing of the answer to this one is wanted, so
-/// that the answer makes no difference.
+/// Returns whether the answer to a script's schedule request makes no difference: no other request
+/// is kept, and nothing of the answer is wanted.
 fn makes_no_difference(machine: &Machine, take: &Take, wanted: NeededResult) -> bool
     ensures { IsTrue result → MayBeSkimmed machine.now take.now }
 {
@@ -74,8 +74,8 @@ fn makes_no_difference(machine: &Machine, take: &Take, wanted: NeededResult) -> 
     is_unwanted(machine, take.point.as_str(), &ask, wanted)
 }
 
-/// Returns whether nothing of the answer to a request is wanted. Its refusal is known without it if
-/// the schedule can't exceed the limit of periods.
+/// Returns whether nothing of the answer to a script's schedule request is wanted. Its refusal is
+/// known without it if the schedule can't exceed the limit of periods.
 fn is_unwanted(machine: &Machine, point: &str, ask: &Ask, wanted: NeededResult) -> bool {
     match (wanted, machine.book_of(point)) {
         (NeededResult::State, _) => true,
@@ -86,7 +86,8 @@ fn is_unwanted(machine: &Machine, point: &str, ask: &Ask, wanted: NeededResult) 
     }
 }
 
-/// Returns the Take of only the first second that a Take requests.
+/// Returns a script's request for a schedule, a Take, cut to its first second: quick to compile
+/// when the answer isn't wanted.
 fn first_second(take: Take) -> Take
     ensures { result ≡ record take { duration = 1 } }
 {
@@ -153,7 +154,8 @@ pub fn send_first(
     }
 }
 
-/// Returns the call that a Send with this outcome sent, if it sent one.
+/// Returns the call to a point that a Send of a script's replay with this outcome sent, if it sent
+/// one.
 fn call_sent(outcome: StepOutcome) -> Option<Call>
     ensures { result ≡ call_sent outcome }
 {
@@ -219,7 +221,8 @@ pub fn keep_verdict(
     Ok(())
 }
 
-/// Makes a step, or returns its refusal.
+/// Makes a step of a script on the central system's machine, and returns its reply or its refusal.
+/// Fails if memory runs out.
 fn make_step(machine: &mut Machine, step: Step) -> Result<StepOutcome, AllocError>
     ensures { IfOk result (λ outcome. ComesOf machine.old step outcome machine.new) }
 {
@@ -233,7 +236,7 @@ fn make_step(machine: &mut Machine, step: Step) -> Result<StepOutcome, AllocErro
     }
 }
 
-/// Returns whether memory ran out while a schedule was compiled.
+/// Returns whether memory ran out while the schedule of a script's request was compiled.
 fn is_memory(outcome: &StepOutcome) -> bool
     ensures { result ≡ is_memory outcome.now }
 {

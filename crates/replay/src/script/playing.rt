@@ -111,7 +111,8 @@ impl<'a> Playing<'a> {
         Ok(Some(played))
     }
 
-    /// Moves past a line that was played with this outcome.
+    /// Moves past a line of a script that was played with this outcome, and counts its fault or
+    /// refusal.
     fn pass(&mut self, outcome: &LineOutcome, others: &'a [u8])
         requires shorter { length others.now < length self.old.rest }
         ensures rest { self.new.rest ≡ others.entry.now }
@@ -128,7 +129,7 @@ impl<'a> Playing<'a> {
         self.rest = others;
     }
 
-    /// Returns whether the next line is at most the last one that is wanted.
+    /// Returns whether the next line of a script is at most the last one that is to be played.
     fn is_up_to(&self, last_line: Option<u64>) -> bool
         ensures { result ≡ is_up_to last_line self.now.number }
     {

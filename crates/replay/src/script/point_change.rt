@@ -34,7 +34,7 @@ pub fn change_of(outcome: &StepOutcome) -> PointChange
     }
 }
 
-/// Returns the change by a step with this reply.
+/// Returns the change that a line of a script makes at its point, by the reply to its step.
 fn change_by(reply: &Reply) -> PointChange
     ensures { result ≡ change_by reply.now }
 {

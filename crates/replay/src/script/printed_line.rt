@@ -55,7 +55,7 @@ pub fn print_lines(alloc: Global, lines: &[PrintedLine]) -> Result<String, Alloc
     Ok(text)
 }
 
-/// Appends the text of a line.
+/// Appends the text of a line that a script prints.
 fn push_line(text: &mut String, line: &PrintedLine) -> Result<(), AllocError>
     ensures { OnOk result
         (string_bytes text.new ≡ string_bytes text.old ++ printed_text line.now) }
@@ -68,7 +68,8 @@ fn push_line(text: &mut String, line: &PrintedLine) -> Result<(), AllocError>
     }
 }
 
-/// Appends the line with a response to the CALL of this id.
+/// Appends the line that begins with `> `, in which a script prints the answer to the CALL of this
+/// id.
 fn push_answer(text: &mut String, id: &str, response: &Response) -> Result<(), AllocError>
     ensures { OnOk result
         (string_bytes text.new ≡ string_bytes text.old ++ response_line id.now response.now) }
@@ -79,7 +80,8 @@ fn push_answer(text: &mut String, id: &str, response: &Response) -> Result<(), A
     Ok(())
 }
 
-/// Appends the line with a call that goes out to a point.
+/// Appends the line that begins with `* `, in which a script prints a call that goes out to a
+/// point.
 fn push_sent(text: &mut String, point: &str, call: &Call) -> Result<(), AllocError>
     ensures { OnOk result
         (string_bytes text.new ≡ string_bytes text.old ++ sent_line point.now call.now) }
@@ -92,7 +94,7 @@ fn push_sent(text: &mut String, point: &str, call: &Call) -> Result<(), AllocErr
     Ok(())
 }
 
-/// Appends the line with the number of a held request.
+/// Appends the line in which a script prints the number of a request that it holds.
 fn push_held(text: &mut String, number: u64) -> Result<(), AllocError>
     ensures { OnOk result
         (string_bytes text.new ≡ string_bytes text.old ++ held_line number) }
@@ -101,7 +103,8 @@ fn push_held(text: &mut String, number: u64) -> Result<(), AllocError>
     Ok(())
 }
 
-/// Appends the line with the fault of the script's line of this number.
+/// Appends the line that begins with `! `, in which a script prints the fault of its line of this
+/// number.
 fn push_fault(text: &mut String, line: u64, fault: ScriptLineFault) -> Result<(), AllocError>
     ensures { OnOk result
         (string_bytes text.new ≡ string_bytes text.old ++ fault_line line fault) }

@@ -109,7 +109,7 @@ pub fn replay<R: Read, W: Write>(
     write_output(alloc, writer, script.as_slice(), site)
 }
 
-/// Reads the whole script.
+/// Reads the whole script of a replay, of at most 16,777,216 bytes.
 fn read_script<R: Read>(alloc: Global, reader: &mut R) -> Result<Vec<u8>, ReplayFault>
     ensures whole { IfOk result
         (λ script. IfSome (R.remaining reader.old) (λ given. script.items ≡ given)) }
@@ -124,7 +124,8 @@ fn read_script<R: Read>(alloc: Global, reader: &mut R) -> Result<Vec<u8>, Replay
     Ok(read_all(alloc, reader, MAX_SCRIPT_BYTES)?)
 }
 
-/// Writes the output of a script on a site.
+/// Plays a whole script on a site, and writes and flushes its output. Returns the number of lines
+/// with a fault.
 fn write_output<W: Write>(
     alloc: Global,
     writer: &mut W,
@@ -145,7 +146,8 @@ fn write_output<W: Write>(
     Ok(summary)
 }
 
-/// Writes the output of a script's lines.
+/// Plays the lines of a script on a site, and writes the output of each. Returns the number of
+/// lines with a fault.
 fn write_lines<W: Write>(
     alloc: Global,
     writer: &mut W,
@@ -177,7 +179,8 @@ fn write_lines<W: Write>(
     Ok(Summary { script_faults })
 }
 
-/// Writes the output of the line of this number. Returns whether the line has a fault.
+/// Plays the line of this number of a script, and writes its output. Returns whether the line has a
+/// fault.
 fn write_line<W: Write>(
     writer: &mut W,
     player: &mut Player,

@@ -40,7 +40,8 @@ impl Model for OpenAudit {
     ghost view = { λ a. record { point = a.point; call = a.call; asked = a.job } };
 }
 
-/// Returns the open audit whose call a step confirms, if it does. Nothing is changed.
+/// Returns a point's open audit, if this step of its session, for the point's reply, confirms the
+/// audit's call. Nothing is changed.
 pub(crate) fn audit_confirmed<C: Ledger, A: Ledger, N: ListName>(
     alloc: Global,
     book: &Book<C, A, N>,
@@ -63,7 +64,8 @@ pub(crate) fn audit_confirmed<C: Ledger, A: Ledger, N: ListName>(
     }
 }
 
-/// Returns the audit whose reply is to be judged, if its call was confirmed.
+/// Returns the audit of a point whose reply is to be judged, if the reply confirmed the audit's
+/// call.
 pub(crate) fn audit_to_judge(performed: &Performed, audit: Option<OpenAudit>) -> Option<OpenAudit>
     ensures { result ≡ audit_to_judge performed.now audit }
 {
@@ -119,7 +121,8 @@ pub(crate) fn judge_reply<W: World>(
     Ok(())
 }
 
-/// Returns the reply to note with its verdict: as it came or, if memory ran out, an unreadable one.
+/// Returns the point's reply for the `verdict` line of the journal: as it came or, if memory ran
+/// out, an unreadable one.
 fn reply_to_note<'s>(sent: &'s SentText<'_>, is_short: bool) -> &'s str
     ensures { result.now ≡ reply_noted is_short sent.now.frame }
 {
@@ -145,8 +148,8 @@ fn bring_verdict<C: Ledger, A: Ledger, N: ListName>(
     }
 }
 
-/// Judges a reply. Returns the verdict, and whether memory ran out for it. A reply that can't be
-/// read for lack of memory is judged as unread.
+/// Judges a point's reply to its audit. Returns the verdict, and whether memory ran out for it. A
+/// reply that can't be read for lack of memory is judged as unread.
 fn judged_by<W: World>(
     context: &Context<'_, W>,
     sent: &SentText<'_>,

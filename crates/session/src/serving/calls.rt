@@ -134,7 +134,7 @@ fn next_call<W: World>(
     }
 }
 
-/// Returns the text of a call.
+/// Returns the text of a call that a session sends to its charge point.
 fn text_of_call(alloc: Global, call: &Call) -> Result<String, AllocError>
     ensures { IfOk result (λ text. string_bytes text ≡ call_text call.now) }
 {

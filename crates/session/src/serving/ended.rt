@@ -29,8 +29,8 @@ pub enum Breach {
     Frame,
 }
 
-/// Returns the end of a session whose step can't be noted, or whose message depends on an unkept
-/// step.
+/// Returns the end of a session whose step the journal can't note, or whose next message depends on
+/// a step that the journal can't keep.
 pub(crate) fn ended_unsaved(fault: JournalFault) -> Ended {
     match fault {
         JournalFault::OutOfMemory => Ended::OutOfMemory,
@@ -50,7 +50,8 @@ pub(crate) fn ended_by(error: Error) -> Ended {
     }
 }
 
-/// Returns whether the peer broke the protocol by a frame, and not by leaving.
+/// Returns whether the peer of a session broke the WebSocket protocol by a frame, and not by
+/// leaving.
 fn is_of_peer(error: ProtocolError) -> bool {
     match error {
         ProtocolError::ResetWithoutClosingHandshake

@@ -19,8 +19,8 @@ use texts::SentText;
 use version_store::{Book, RecordedStates};
 use world::World;
 
-/// Makes the entry of a message whose step may change something, or none. A request for a schedule
-/// or a status changes nothing.
+/// Makes the journal's entry for a session's message whose step may change something, or none. A
+/// request for a schedule or a status changes nothing.
 pub(crate) fn prepare_message<W: World>(
     context: &Context<'_, W>,
     sent: &SentText<'_>,
@@ -38,7 +38,7 @@ pub(crate) fn prepare_message<W: World>(
     context.journal.prepare(sent.moment(), sent.point(), noted)
 }
 
-/// Makes the entry of a change of a point's link.
+/// Makes the journal's entry for a change of the link of a point's session: it is attached or lost.
 pub(crate) fn prepare_link<W: World>(
     context: &Context<'_, W>,
     point: &str,
@@ -53,8 +53,8 @@ pub(crate) fn prepare_link<W: World>(
     context.journal.prepare(moment, point, noted)
 }
 
-/// Notes the step of a message, if it was made and changed something. The caller has held the lock
-/// of the book since before the step.
+/// Notes the step of a session's message in the journal, if it was made and changed something. The
+/// caller has held the lock of the book since before the step.
 pub(crate) fn note_performed<W: World>(
     context: &Context<'_, W>,
     book: &Book<W::Changes, W::Answers, W::Name>,
@@ -78,8 +78,8 @@ pub(crate) fn note_performed<W: World>(
     }
 }
 
-/// Notes a step to the present state of the book. `before` is the record that ends with the state
-/// before the step.
+/// Notes a session's step to the present state of the book in the journal. `before` is the record
+/// that ends with the state before the step.
 pub(crate) fn note_made<W: World>(
     context: &Context<'_, W>,
     book: &Book<W::Changes, W::Answers, W::Name>,
@@ -94,7 +94,7 @@ pub(crate) fn note_made<W: World>(
         .note(entry, number, &before, &book.recorded());
 }
 
-/// Returns the reply of a step that was made.
+/// Returns the reply of the step of a session's message, if the step was made on the book.
 fn reply_made(performed: &Performed) -> Option<&Reply>
     ensures { IfSome result (λ reply. performed.now ≡ Performed.Outcome (Outcome.Made reply.now)) }
 {

@@ -18,12 +18,13 @@ use world::World;
 // Reading takes up to 150 times a message's size, so several at once could exhaust the memory.
 const LONGEST_BESIDE_OTHERS: usize = 4_096;
 
-/// Returns whether a message is long: no other long one is read at the same time.
+/// Returns whether a session's message is long: no other long one is read at the same time.
 pub(crate) fn is_long(frame: &str) -> bool {
     frame.len() > LONGEST_BESIDE_OTHERS
 }
 
-/// Reads a message, and returns the work for it. The memory for reading it is freed at once.
+/// Reads a session's message, and returns the work for it. The memory for reading it is freed at
+/// once.
 pub(crate) fn read_message<W: World>(
     context: &Context<'_, W>,
     core: &SessionCore,
@@ -43,7 +44,7 @@ pub(crate) fn read_message<W: World>(
     todo
 }
 
-/// Reads a message that replies to an audit, in the same way.
+/// Reads a point's reply to its audit, for the verdict. The memory for reading it is freed at once.
 pub(crate) fn read_reply<W: World>(
     context: &Context<'_, W>,
     sent: &SentText<'_>,

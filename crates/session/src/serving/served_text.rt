@@ -155,8 +155,8 @@ fn served_unmade<N: ListName>(
     }
 }
 
-/// Makes the step of a message, if it has one. Returns its outcome, and the states of the book
-/// recorded by then.
+/// Makes the step of a session's message on the book, if it has one. Returns its outcome, and the
+/// states of the book recorded by then.
 fn outcome_of<W: World, Q: Waiting>(
     context: &Context<'_, W>,
     waiting: &mut Q,
@@ -180,8 +180,9 @@ fn outcome_of<W: World, Q: Waiting>(
     }
 }
 
-/// Makes the step of a message. A request for a schedule is compiled, and its answer collected. A
-/// reply to an audit of the point is judged, once the call of the audit is confirmed.
+/// Makes the step of a session's message on the book. A request for a schedule is compiled, and its
+/// answer collected. A reply to an audit of the point is judged, once the call of the audit is
+/// confirmed.
 fn outcome_of_step<W: World, Q: Waiting>(
     context: &Context<'_, W>,
     waiting: &mut Q,
@@ -238,15 +239,16 @@ fn perform_noted<W: World>(
     Ok((performed, audit, seen))
 }
 
+/// Returns whether the step of a session's message is a Confirm: the point's reply to its call.
 fn is_confirm(step: &Step) -> bool
     ensures { result ≡ is_confirm step.now }
 {
     matches!(step, Step::Confirm { .. })
 }
 
-/// Returns the answer to a request that is kept, which a worker compiles, or the session itself.
-/// No contract of the lock says that the collected answer has the book and the `Ask` of this
-/// request, so they are compared.
+/// Returns the answer to a session's schedule request that is kept, which a worker compiles, or the
+/// session itself. No contract of the lock says that the collected answer has the book and the
+/// `Ask` of this request, so they are compared.
 fn answer_of<W: World, Q: Waiting>(
     context: &Context<'_, W>,
     waiting: &mut Q,
@@ -273,9 +275,9 @@ fn answer_of<W: World, Q: Waiting>(
     }
 }
 
-/// Has a job compiled by a worker, or compiles it, and collects the answer to its request. If too
-/// many jobs wait, or the client is gone before the answer is there, it posts an answer without a
-/// schedule, so that no worker starts the job any more.
+/// Has a session's schedule request compiled by a worker, or compiles it, and collects its answer.
+/// If too many jobs wait, or the client leaves first, it posts an answer without a schedule. Then
+/// no worker starts the job any more.
 fn compile_and_collect<W: World, Q: Waiting>(
     context: &Context<'_, W>,
     waiting: &mut Q,
@@ -304,6 +306,8 @@ fn compile_and_collect<W: World, Q: Waiting>(
     wait_answer(rt, shared, pass, number)
 }
 
+/// Returns whether two requests for a schedule are for the same connector, start and duration, so
+/// that one's answer is right for the other.
 fn is_same(one: &Ask, other: &Ask) -> bool
     ensures { IsTrue result ↔ (one.now ≡ other.now) }
 {

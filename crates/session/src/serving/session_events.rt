@@ -16,7 +16,8 @@ pub(crate) enum Subject {
     Other,
 }
 
-/// Returns the subject of a message that asks for this step.
+/// Returns the subject of a session's message for its observer: a BootNotification, a reply to a
+/// call, or another.
 pub(crate) fn subject_of(todo: &Todo, step: &Option<Step>) -> Subject {
     match step {
         Some(Step::Confirm { call, accepted, .. }) => Subject::Reply {
@@ -28,7 +29,7 @@ pub(crate) fn subject_of(todo: &Todo, step: &Option<Step>) -> Subject {
     }
 }
 
-/// Returns the event in a message whose step has its outcome.
+/// Returns the event in a session's message whose step has its outcome, for the session's observer.
 pub(crate) fn event_of(
     alloc: Global,
     frame: &str,

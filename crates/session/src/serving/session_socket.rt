@@ -18,13 +18,13 @@ pub trait SessionSocket: Waiting {
     /// Masks the frames that a client sends.
     type Keys: MaskKeys + Drop;
 
-    /// Returns the WebSocket through which messages leave.
+    /// Returns the WebSocket through which a session's messages leave.
     fn websocket(&mut self) -> &mut WebSocket<Self::Stream, Self::Keys>;
 
-    /// Waits for the next message or frame.
+    /// Waits for the next message or frame from the client of a session.
     fn next(&mut self) -> Result<Incoming, Ended>;
 
-    /// Fails if the client is known to be gone.
+    /// Fails if the client of a session is known to be gone.
     fn still_there(&self) -> Result<(), Ended>;
 }
 

@@ -13,7 +13,8 @@ use std::marker::Model;
 use tungstenite::{Error, MaskKeys, Message, WebSocket};
 use version_store::RecordedStates;
 
-/// Reads the next message.
+/// Reads the next message of a session from its WebSocket, or returns `Nothing` if the read timed
+/// out.
 pub(crate) fn read_next<S: Read + Write + Drop, K: MaskKeys + Drop>(
     socket: &mut WebSocket<S, K>,
 ) -> Result<Incoming, Ended> {
@@ -23,6 +24,8 @@ pub(crate) fn read_next<S: Read + Write + Drop, K: MaskKeys + Drop>(
     }
 }
 
+/// Returns a WebSocket message as a session serves it: a text, a binary message, or the length of a
+/// control frame.
 fn incoming_of(message: Message) -> Incoming {
     match message {
         Message::Text(text) => Incoming::Text(text),
@@ -40,6 +43,8 @@ fn nothing_or_ended(error: Error) -> Result<Incoming, Ended> {
     }
 }
 
+/// Returns whether a read from a session's WebSocket failed only because it timed out or was
+/// interrupted.
 fn is_of_waiting(kind: ErrorKind) -> bool {
     matches!(kind, ErrorKind::WouldBlock | ErrorKind::Interrupted)
 }
@@ -65,9 +70,9 @@ impl<'a, N: ListName> Model for Cleared<'a, N> {
     ghost invariant = { λ c. IsCleared N.is_recorded c.text.now c.receipt c.seen.now };
 }
 
-/// Waits until all steps are kept that a message depends on: its own, and those of others before
-/// it. The book isn't locked meanwhile. If they can't be kept, the session ends without the
-/// message.
+/// Waits until the journal has kept all steps that a session's message depends on: its own, and
+/// those of others before it. The book isn't locked meanwhile. If they can't be kept, the session
+/// ends without the message.
 pub(crate) fn clear_to_leave<'a, J: Journal<N>, N: ListName>(
     journal: &J,
     text: &'a str,
@@ -96,7 +101,8 @@ pub(crate) fn clear_to_leave<'a, J: Journal<N>, N: ListName>(
     }
 }
 
-/// Sends a message.
+/// Sends a session's answer or call over its WebSocket, once the journal has kept the steps that it
+/// depends on.
 pub(crate) fn send_text<S: Read + Write + Drop, K: MaskKeys + Drop, N: ListName>(
     alloc: Global,
     socket: &mut WebSocket<S, K>,

@@ -23,11 +23,11 @@ pub enum Sending {
 
 /// A way for a session to wait for the answer to its request.
 pub trait Waiting {
-    /// Sends a job to the workers.
+    /// Sends the job of a session's schedule request to the workers that compile schedules.
     fn send_job<R: Wait>(&mut self, rt: &R, jobs: Jobs<'_>, job: Job) -> Sending;
 
-    /// Returns the book once the request of this number has its answer or isn't kept, or `None` if
-    /// the client is gone before that.
+    /// Returns the book once a session's schedule request of this number is answered or isn't kept,
+    /// or `None` if the client leaves before.
     fn until_answered<'s, R: Wait, C: Ledger, A: Ledger, N: ListName>(
         &mut self,
         rt: &R,

@@ -67,7 +67,8 @@ impl<'s, S: Read + Write + Watched + Drop, K: MaskKeys + Drop, R> WatchedSocket<
         self.kept.is_some()
     }
 
-    /// Returns the next message: the kept one, once, or the next that is read.
+    /// Returns the next message of a session: the one kept while it waited for a schedule, once, or
+    /// the next that is read.
     fn next_in_order(&mut self) -> Result<Incoming, Ended>
         ensures in_order { IfSome self.old.kept (λ kept. result ≡ kept) }
         ensures once { self.new.kept ≡ None }
@@ -78,7 +79,8 @@ impl<'s, S: Read + Write + Watched + Drop, K: MaskKeys + Drop, R> WatchedSocket<
         self.read()
     }
 
-    /// Reads the next message, and reports its end to the stream.
+    /// Reads the next message of a session from its WebSocket, and reports the message's end to the
+    /// stream.
     fn read(&mut self) -> Result<Incoming, Ended>
         ensures { self.new.kept ≡ self.old.kept }
     {
@@ -91,7 +93,8 @@ impl<'s, S: Read + Write + Watched + Drop, K: MaskKeys + Drop, R> WatchedSocket<
         Ok(incoming)
     }
 
-    /// Polls the socket, unless a message is kept. Returns false if the client is gone.
+    /// Polls a session's WebSocket while it waits for a schedule, unless a message is kept. Returns
+    /// false if the client is gone.
     fn look(&mut self) -> bool
         ensures { IfSome self.old.kept (λ kept. self.new.kept ≡ Some kept) }
     {
@@ -103,7 +106,8 @@ impl<'s, S: Read + Write + Watched + Drop, K: MaskKeys + Drop, R> WatchedSocket<
         !matches!(self.kept, Some(Err(_)))
     }
 
-    /// Reads the first message that has come, or the end, if either has.
+    /// Reads the first message that has come while a session waits for a schedule, or the end of
+    /// its WebSocket, if either has.
     fn seen(&mut self) -> Option<Result<Incoming, Ended>> {
         if !self.socket.get_mut().begin_look() {
             return None;

@@ -14,8 +14,8 @@ use json::{Reader, Token};
 use ocpp_scalars::read_tenths;
 use std::alloc::{AllocFailed, Global};
 
-/// Reads the ceilings of a point's connectors. Returns `None` if the value isn't a list of 1 to 64
-/// ceilings.
+/// Reads the ceilings of a charge point's connectors in a site file. Returns `None` if the value
+/// isn't a list of 1 to 64 ceilings.
 pub(crate) fn read_connectors(
     alloc: Global,
     reader: &mut Reader<'_>,
@@ -43,6 +43,8 @@ pub(crate) fn read_connectors(
     }
 }
 
+/// Reads the entries of a charge point's `connectors` in a site file. Returns `None` if they aren't
+/// 1 to 64 ceilings.
 fn read_ceilings(
     alloc: Global,
     reader: &mut Reader<'_>,
@@ -62,7 +64,8 @@ fn read_ceilings(
     Ok(unless_empty(kept))
 }
 
-/// Adds the ceiling of the next entry. `None` if that isn't a ceiling, or if there are too many.
+/// Adds the ceiling of a charge point's next connector in a site file. `None` if that isn't a
+/// ceiling, or if there are too many.
 fn with_ceiling(
     kept: Option<Vec<u32>>,
     entry: Glance<'_>,
@@ -86,6 +89,8 @@ fn with_ceiling(
     Ok(Some(ceilings))
 }
 
+/// Returns the ceiling in an entry of `connectors` in a site file, in tenths, or `None` if it isn't
+/// one.
 fn ceiling_in(entry: Glance<'_>) -> Option<u32>
     ensures { result ≡ result_ok (ceiling_of (glance_tree entry.entry)) }
 {
@@ -95,6 +100,7 @@ fn ceiling_in(entry: Glance<'_>) -> Option<u32>
     }
 }
 
+/// Returns the ceilings of a charge point's connectors in a site file, or `None` if it lists none.
 fn unless_empty(kept: Option<Vec<u32>>) -> Option<Vec<u32>>
     requires { HasFewCeilings kept }
     ensures ceilings { option_map (λ ceilings. ceilings.items) result

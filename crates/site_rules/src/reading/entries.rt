@@ -24,8 +24,8 @@ pub(crate) struct FoundPoints {
     pub points: Result<Site, SiteFault>,
 }
 
-/// Reads the value of `points`: a site with these points, whose unit isn't set yet, or their first
-/// fault.
+/// Reads the value of `points` in a site file: a site with these points, whose unit isn't set yet,
+/// or their first fault.
 pub(crate) fn read_points(
     alloc: Global,
     reader: &mut Reader<'_>,
@@ -51,6 +51,7 @@ pub(crate) fn read_points(
     }
 }
 
+/// Reads the entries of `points` in a site file: a site with their points, or their first fault.
 fn read_entries(
     alloc: Global,
     reader: &mut Reader<'_>,
@@ -72,7 +73,7 @@ fn read_entries(
     Ok(unless_many(found))
 }
 
-/// Reads the next entry. Skips it if there are too many.
+/// Reads the next entry of `points` in a site file. Skips it if there are too many.
 fn with_next(
     alloc: Global,
     found: FoundPoints,
@@ -101,7 +102,8 @@ fn with_next(
     })
 }
 
-/// Adds the point of the next entry, unless the points have a fault.
+/// Adds the charge point of the next entry of `points` in a site file, unless the points have a
+/// fault.
 fn with_entry(
     alloc: Global,
     points: Result<Site, SiteFault>,
@@ -127,6 +129,7 @@ fn with_entry(
     }
 }
 
+/// Returns the charge points found in a site file, or `BadPoints` if there are none or too many.
 fn unless_many(found: FoundPoints) -> Result<Site, SiteFault>
     ensures { (all : List Tree) → AreFound found all → result ≡ few_points all }
 {

@@ -29,7 +29,8 @@ pub(crate) struct PointFields<'a> {
     pub connectors: Option<Vec<u32>>,
 }
 
-/// Reads an entry of `points`: the fields of a point, or `None` if it isn't an object.
+/// Reads an entry of `points` in a site file: the fields of a charge point, or `None` if it isn't
+/// an object.
 pub(crate) fn read_entry<'a>(
     alloc: Global,
     reader: &mut Reader<'a>,
@@ -55,6 +56,7 @@ pub(crate) fn read_entry<'a>(
     }
 }
 
+/// Reads the fields of a charge point in a site file: the last value of each one that counts.
 fn read_fields<'a>(
     alloc: Global,
     reader: &mut Reader<'a>,
@@ -77,7 +79,8 @@ fn read_fields<'a>(
     Ok(point)
 }
 
-/// Reads the value of the next member, which counts if its key is a text.
+/// Reads the value of the next member of a charge point in a site file, which counts if its key is
+/// a text.
 fn with_member<'a>(
     alloc: Global,
     point: PointFields<'a>,
@@ -100,7 +103,8 @@ fn with_member<'a>(
     }
 }
 
-/// Reads the value of the next field.
+/// Reads the value of the next field of a charge point in a site file: `id`, `ceiling`,
+/// `connectors`, or another, which is skipped.
 fn with_field<'a>(
     alloc: Global,
     point: PointFields<'a>,
@@ -151,8 +155,8 @@ fn with_field<'a>(
     })
 }
 
-/// Makes the next point of a site from its fields: its identity, which no earlier point has, and
-/// its limits.
+/// Makes the next charge point of a site from the fields in its file: its identity, which no
+/// earlier point has, and its limits.
 #[tactic(auto, unfolding(crate::specs::ByCases::Parts::point_by))]
 pub(crate) fn point_of_fields(
     alloc: Global,

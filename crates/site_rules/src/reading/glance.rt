@@ -25,7 +25,7 @@ pub(crate) enum Glance<'a> {
     Object,
 }
 
-/// Reads the next value.
+/// Reads the next value of a site file, and skips its contents.
 #[cycle(glance)]
 pub(crate) fn read_glance<'a>(
     reader: &mut Reader<'a>,
@@ -38,7 +38,7 @@ pub(crate) fn read_glance<'a>(
     glance_from(token, reader, depth)
 }
 
-/// Reads the rest of the value that begins with this token.
+/// Reads the rest of the value of a site file that begins with this token, and skips its contents.
 #[cycle(glance)]
 pub(crate) fn glance_from<'a>(
     token: Token<'a>,
@@ -73,7 +73,7 @@ pub(crate) fn glance_from<'a>(
     }
 }
 
-/// Skips the items of a list.
+/// Skips the items of a list in a site file.
 #[cycle(glance)]
 fn pass_items(reader: &mut Reader<'_>, depth: usize) -> Result<(), PartFault>
     ensures items { OnOk result ((list : Trees)
@@ -86,7 +86,7 @@ fn pass_items(reader: &mut Reader<'_>, depth: usize) -> Result<(), PartFault>
     Ok(())
 }
 
-/// Skips the members of an object.
+/// Skips the members of an object in a site file.
 #[cycle(glance)]
 fn pass_members(reader: &mut Reader<'_>, depth: usize) -> Result<(), PartFault>
     ensures members { OnOk result ((fields : Fields)
@@ -99,7 +99,8 @@ fn pass_members(reader: &mut Reader<'_>, depth: usize) -> Result<(), PartFault>
     Ok(())
 }
 
-/// Returns the text or the number that a marked string represents, or null for a malformed number.
+/// Returns the text or the number that a marked string of a site file represents, or null for a
+/// malformed number.
 fn glance_of_string(marked: &str) -> Glance<'_>
     ensures { glance_tree result ≡ unwrap_or (tree_of_string marked.now) null }
 {
@@ -113,7 +114,7 @@ fn glance_of_string(marked: &str) -> Glance<'_>
     }
 }
 
-/// Reads a field with this value as a text.
+/// Reads a field of a site file with this value as a text.
 pub(crate) fn text_in(glance: Glance<'_>) -> Field<&str>
     ensures { field_map (λ t. t.now) result
         ≡ of_kind as_text (unless_null (glance_tree glance.entry)) }
@@ -125,7 +126,7 @@ pub(crate) fn text_in(glance: Glance<'_>) -> Field<&str>
     }
 }
 
-/// Reads a field with this value as a number of tenths.
+/// Reads a field of a site file, such as a ceiling, with this value as a number of tenths.
 pub(crate) fn tenths_in(glance: Glance<'_>) -> Field<u32>
     ensures { result ≡ of_scalar as_number tenths_of (unless_null (glance_tree glance.entry)) }
 {

@@ -24,7 +24,8 @@ pub(crate) const MAX_CONNECTORS: usize = 64;
 /// The maximum length of a point's identity, in characters.
 const MAX_ID_CHARACTERS: usize = 48;
 
-/// Reads the next point of a site: its identity, which no earlier point has, and its limits.
+/// Reads the next charge point of a site from the tree of its file: its identity, which no earlier
+/// point has, and its limits.
 #[tactic(auto, unfolding(crate::specs::ByCases::SiteReading::point_of))]
 pub(crate) fn read_point(
     alloc: Global,
@@ -44,6 +45,8 @@ pub(crate) fn read_point(
     Ok((id, PointLimits { ceiling, ceilings }))
 }
 
+/// Returns the field `id` of a charge point in a site file, as `WrongValue` if it isn't a valid
+/// identity.
 pub(crate) fn id_or_wrong(field: Field<&str>) -> Field<&str>
     ensures { field_map (λ id. id.now) result ≡ id_or_wrong (field_map (λ id. id.now) field.entry) }
 {
@@ -53,6 +56,7 @@ pub(crate) fn id_or_wrong(field: Field<&str>) -> Field<&str>
     }
 }
 
+/// Whether a text in a site file can be the identity of a charge point.
 fn is_point_id(id: &str) -> bool
     ensures { result ≡ is_point_id id.now }
 {
@@ -60,12 +64,14 @@ fn is_point_id(id: &str) -> bool
     !bytes.is_empty() && bytes.len() <= MAX_ID_CHARACTERS && are_id_bytes(bytes)
 }
 
+/// Whether the identity of a charge point may consist of these bytes.
 fn are_id_bytes(bytes: &[u8]) -> bool
     ensures { result ≡ list_all is_id_byte bytes.now }
 {
     bytes.iter().all(|b| is_id_byte(*b))
 }
 
+/// Whether the identity of a charge point may contain this byte.
 fn is_id_byte(b: u8) -> bool
     ensures { result ≡ is_id_byte b }
 {
@@ -74,7 +80,8 @@ fn is_id_byte(b: u8) -> bool
     matches!(b, b'A'..=b'Z' | b'a'..=b'z' | b'0'..=b'9' | b'.' | b'_' | b'-' | b'~')
 }
 
-/// Returns the identity if no earlier point has it.
+/// Returns the identity of a charge point in a site file if no earlier point has it, or else
+/// `SameId`.
 pub(crate) fn unused_id<'a>(site: &Site, id: &'a str) -> Result<&'a str, SiteFault>
     ensures id { MatchResult result
         (λ unused. unused_id site.now id.now ≡ Ok unused.now)
@@ -87,6 +94,8 @@ pub(crate) fn unused_id<'a>(site: &Site, id: &'a str) -> Result<&'a str, SiteFau
     }
 }
 
+/// Reads the ceilings of a charge point's connectors from the tree of a site file, or returns the
+/// fault `BadConnectors`.
 #[tactic(auto, unfolding(crate::specs::ByCases::SiteReading::connectors_of))]
 fn read_connectors(alloc: Global, fields: Node<'_, '_>) -> Result<Vec<u32>, SiteFault>
     ensures ceilings { ReadsUnless is_memory (λ ceilings. ceilings.items) result
@@ -98,6 +107,7 @@ fn read_connectors(alloc: Global, fields: Node<'_, '_>) -> Result<Vec<u32>, Site
     read_ceilings(alloc, entries)
 }
 
+/// Reads the ceiling of each connector of a charge point from the tree of a site file.
 fn read_ceilings(alloc: Global, entries: Entries<'_, '_>) -> Result<Vec<u32>, SiteFault>
     ensures ceilings { ReadsUnless is_memory (λ ceilings. ceilings.items) result
         (ceilings_of (entries_in entries.entry)) }
@@ -112,6 +122,8 @@ fn read_ceilings(alloc: Global, entries: Entries<'_, '_>) -> Result<Vec<u32>, Si
     Ok(ceilings)
 }
 
+/// Reads the ceiling of a connector from the tree of a site file, in tenths, or returns the fault
+/// `BadConnectors`.
 fn read_ceiling(entry: Node<'_, '_>) -> Result<u32, SiteFault>
     ensures { result ≡ ceiling_of (tree_at entry.entry) }
 {

@@ -7,7 +7,7 @@ ghost use Rattle.site_rules.specs.ByCases.SiteReading.{or_fault, some_or, object
 use crate::fault::SiteFault;
 use ocppj_frame::{Entries, Field, Node};
 
-/// Returns the value of a field, or the fault if it has none.
+/// Returns the value of a field of a site file, or the fault if it has none.
 pub(crate) fn or_fault<T: Drop>(fault: SiteFault, field: Field<T>) -> Result<T, SiteFault>
     ensures { result ≡ or_fault fault field }
 {
@@ -17,6 +17,7 @@ pub(crate) fn or_fault<T: Drop>(fault: SiteFault, field: Field<T>) -> Result<T, 
     }
 }
 
+/// Returns a value that was read from a site file, or the fault if there is none.
 pub(crate) fn some_or<T: Drop>(fault: SiteFault, value: Option<T>) -> Result<T, SiteFault>
     ensures { result ≡ some_or fault value }
 {
@@ -26,6 +27,7 @@ pub(crate) fn some_or<T: Drop>(fault: SiteFault, value: Option<T>) -> Result<T, 
     }
 }
 
+/// Returns a part of a site file's tree if it is an object, or else the fault.
 pub(crate) fn object_or<'tree, 'memory>(
     fault: SiteFault,
     part: Node<'tree, 'memory>,
@@ -41,7 +43,8 @@ pub(crate) fn object_or<'tree, 'memory>(
     }
 }
 
-/// Returns a list of at least one entry and at most `most`, or the fault.
+/// Returns a list in a site file if it has at least one entry and at most `most`, or else the
+/// fault.
 pub(crate) fn few_or<'tree, 'memory>(
     fault: SiteFault,
     most: usize,

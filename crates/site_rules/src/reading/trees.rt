@@ -19,7 +19,8 @@ use ocppj_frame::after_mark;
 use std::alloc::{AllocError, Global};
 use std::collections::BTreeSet;
 
-/// Returns whether a marked text can be read and its value has a tree.
+/// Returns whether the marked text of a site file can be read and its value has a tree. Otherwise
+/// the file isn't JSON.
 pub(crate) fn has_tree(
     alloc: Global,
     marked: &str,
@@ -36,7 +37,8 @@ pub(crate) fn has_tree(
     }
 }
 
-/// Reads the next value, and returns whether it has a tree. `Unsure` if there is no value.
+/// Reads the next value of a site file, and returns whether it has a tree. `Unsure` if there is no
+/// value.
 #[cycle(trees)]
 fn value_has_tree(alloc: Global, reader: &mut Reader<'_>, depth: usize) -> Result<bool, PartFault>
     requires { HaveNoNumber reader.old }
@@ -71,7 +73,8 @@ fn value_has_tree(alloc: Global, reader: &mut Reader<'_>, depth: usize) -> Resul
     }
 }
 
-/// Returns whether a marked string has a tree: a text always, a number by its grammar.
+/// Returns whether a marked string of a site file has a tree: a text always, a number by its
+/// grammar.
 fn string_has_tree(marked: &str) -> bool
     ensures { result ≡ is_some (tree_of_string marked.now) }
 {
@@ -84,6 +87,7 @@ fn string_has_tree(marked: &str) -> bool
     }
 }
 
+/// Reads the items of a list in a site file, and returns whether each has a tree.
 #[cycle(trees)]
 fn items_have_trees(alloc: Global, reader: &mut Reader<'_>, depth: usize) -> Result<bool, PartFault>
     requires { HaveNoNumber reader.old }
@@ -105,7 +109,8 @@ fn items_have_trees(alloc: Global, reader: &mut Reader<'_>, depth: usize) -> Res
     Ok(have)
 }
 
-/// Reads the members of an object. Of several with one key only the last must have a tree.
+/// Reads the members of an object in a site file, and returns whether they have trees. Of several
+/// with one key only the last must have one.
 #[cycle(trees)]
 fn members_have_trees(
     alloc: Global,
@@ -132,7 +137,8 @@ fn members_have_trees(
     Ok(broken.is_empty())
 }
 
-/// Adds a key whose last member has no tree, or removes one whose last member has a tree.
+/// Records a key of an object in a site file whose last member has no tree, or drops one whose last
+/// member has a tree.
 fn update_key<'a>(broken: &mut BTreeSet<&'a str>, key: &'a str, has: bool) -> Result<(), AllocError>
     ensures { OnOk result ((other : List ℕ) → has_key other broken.new
         ≡ (if bytes_eq key.now other then not (has && is_some (name_of_key key.now))

@@ -32,7 +32,7 @@ pub(crate) struct SiteFields<'a> {
     pub points: Result<Site, SiteFault>,
 }
 
-/// Reads a site file part by part.
+/// Reads a site file part by part: its site, or its first fault.
 pub(crate) fn read_parts(alloc: Global, text: &str) -> Result<Result<Site, SiteFault>, PartFault>
     ensures { IfOk result (λ site. site ≡ site_by (tree_of_text text.now)) }
 {
@@ -46,7 +46,7 @@ pub(crate) fn read_parts(alloc: Global, text: &str) -> Result<Result<Site, SiteF
     read_marked(alloc, marked, &mut scratch)
 }
 
-/// Reads a marked text whose value has a tree.
+/// Reads the marked text of a site file, whose value has a tree: its site, or its first fault.
 fn read_marked(
     alloc: Global,
     marked: &str,
@@ -63,6 +63,7 @@ fn read_marked(
     Ok(site)
 }
 
+/// Reads the value of a whole site file, which is to be an object: its site, or its first fault.
 fn read_whole(
     alloc: Global,
     reader: &mut Reader<'_>,
@@ -86,6 +87,7 @@ fn read_whole(
     }
 }
 
+/// Reads the fields of a site file's object: the last value of each one that counts.
 fn read_fields<'a>(
     alloc: Global,
     reader: &mut Reader<'a>,
@@ -105,7 +107,7 @@ fn read_fields<'a>(
     Ok(site)
 }
 
-/// Reads the value of the next member, which counts if its key is a text.
+/// Reads the value of the next member of a site file's object, which counts if its key is a text.
 fn with_member<'a>(
     alloc: Global,
     site: SiteFields<'a>,
@@ -126,7 +128,8 @@ fn with_member<'a>(
     }
 }
 
-/// Reads the value of the next field.
+/// Reads the value of the next field of a site file: `unit`, `points`, or another, which is
+/// skipped.
 fn with_field<'a>(
     alloc: Global,
     site: SiteFields<'a>,
@@ -153,6 +156,8 @@ fn with_field<'a>(
     Ok(SiteFields { unit, points })
 }
 
+/// Makes the site from the fields of its file, or returns the first fault: that of the unit, or
+/// else of the points.
 #[tactic(auto, unfolding(crate::specs::ByCases::Parts::site_by_fields))]
 fn site_of_fields(site: SiteFields<'_>) -> Result<Site, SiteFault>
     ensures { result ≡ site_by_fields (glance_tree site.entry.unit) site.entry.points }

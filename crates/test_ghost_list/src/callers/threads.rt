@@ -28,6 +28,8 @@ impl<J: ListName> Model for Tally<J> {
 }
 
 impl<J: ListName> Tally<J> {
+    /// Makes the tally of no bytes in this example of `ghost_list`, with a ghost list of the name
+    /// `J`.
     fn new(unnamed: Unnamed) -> Tally<J>
         requires { unnamed.name ≡ J.name }
         ensures { result ≡ [] }
@@ -38,7 +40,8 @@ impl<J: ListName> Tally<J> {
         }
     }
 
-    /// Counts a byte, and returns a front of all bytes up to it.
+    /// Counts a byte in the tally of this example of `ghost_list`, and returns a front of all bytes
+    /// up to it.
     fn count(&mut self, byte: u8) -> Option<Front<u8, J>>
         ensures { IfSome result (λ front. (front.entries ≡ self.new)
             × (self.new ≡ self.old ++ byte ∷ [])) }
@@ -51,7 +54,8 @@ impl<J: ListName> Tally<J> {
         Some(self.bytes.front())
     }
 
-    /// Returns the number of counted bytes. The first are those of the front.
+    /// Returns the number of counted bytes in this example of `ghost_list`. The first are those of
+    /// the front.
     fn counted(&self, front: &Front<u8, J>) -> u64
         ensures count { result ≡ length self.now }
         ensures first { IsPrefix front.now.entries self.now }
@@ -64,7 +68,8 @@ impl<J: ListName> Tally<J> {
 /// The fronts that two threads know, and the tally in the end.
 type Ended<J> = (Front<u8, J>, Front<u8, J>, Tally<J>);
 
-/// Lets each thread count a byte. In the end the front of each is a prefix of the tally.
+/// Lets each of two threads count a byte in a tally under a lock. In the end the front of each is a
+/// prefix of the tally.
 fn two_threads<J: ListName + Send + Sync, R: Threads + Wait + Sync>(
     rt: &R,
     tally: Tally<J>,
@@ -90,6 +95,7 @@ fn two_threads<J: ListName + Send + Sync, R: Threads + Wait + Sync>(
     Some((one, two, tally))
 }
 
+/// Returns the number of bytes that two threads have counted in the example of `ghost_list`.
 fn two_bytes<J: ListName + Send + Sync, R: Threads + Wait + Sync>(
     rt: &R,
     unnamed: Unnamed,
@@ -101,7 +107,8 @@ fn two_bytes<J: ListName + Send + Sync, R: Threads + Wait + Sync>(
     Some(tally.counted(&one))
 }
 
-/// The name is picked for the call: see `proofs/`.
+/// Checks that two threads count two bytes in one ghost list. The list's name is picked for the
+/// call: see `proofs/`.
 #[test]
 fn two_threads_share_a_ghost_list(rt: HostRuntime) -> Result<(), Fail> {
     assert_eq!(rt;

@@ -117,7 +117,8 @@ impl<C: Ledger, A: Ledger, N: ListName> Book<C, A, N> {
         }
     }
 
-    /// Replies with the answer to the request of a number, or NotYet, and counts it for the pass.
+    /// Replies with the answer to the request of this number for a composite schedule, or NotYet,
+    /// and counts it for the session's pass.
     fn hand_out(&mut self, pass: &mut Pass<C, A>, number: u64) -> Result<Reply, Refusal>
         ensures calls { IfOk result (λ reply. Calls self.old pass.old (steps.Answer number) reply
             self.new pass.new) }
