@@ -1,7 +1,7 @@
 //! The message in a line of a script, as the checks read it.
 
 use crate::audit_check::JudgedAudit;
-use messages::{CallFault, Response, Side};
+use messages::{ActionKind, CallFault, Response, Side};
 use ocpp_scalars::{Instant, Refusal};
 use replay::{PlayedLine, PointChange, PrintedLine};
 use site_rules::Site;
@@ -46,8 +46,8 @@ pub(crate) struct LineMessage<'a> {
     pub confirms_call: bool,
     /// The point's audit, where the message confirmed a call.
     pub audit: Option<JudgedAudit>,
-    /// Whether the message confirmed the call of a remote start.
-    pub replies_to_start: bool,
+    /// The action of the call that the message confirmed.
+    pub replies_to: Option<ActionKind>,
 }
 
 impl<'a> LineMessage<'a> {
@@ -84,7 +84,7 @@ impl<'a> LineMessage<'a> {
             printed: played.outcome.printed.as_slice(),
             confirms_call: played.outcome.change == PointChange::Confirmed,
             audit: None,
-            replies_to_start: false,
+            replies_to: None,
         }
     }
 

@@ -98,7 +98,7 @@ impl ScriptCheck {
         };
         let text = LineMessage {
             audit: judged_audit(playing, played, sent.point()),
-            replies_to_start: starts.is_reply,
+            replies_to: starts.replies_to,
             ..LineMessage::new(playing.machine().site(), played, sent)
         };
         check_text(&mut self.report, &mut self.memory, &text);

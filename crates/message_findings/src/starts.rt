@@ -1,7 +1,7 @@
 //! Follows the remote starts that wait at each point, line by line. The machine forgets a start
 //! when it ends, so this module keeps the fields that its finding needs.
 
-use messages::CallBody;
+use messages::ActionKind;
 use ocpp_scalars::IdTag;
 use point_book::PointBook;
 use profile::Purpose;
@@ -22,8 +22,8 @@ struct PendingRemoteStart {
 /// The remote starts of a point.
 #[derive(Drop)]
 struct PointStarts {
-    /// Whether the call in flight is that of a remote start.
-    is_asked: bool,
+    /// The action of the call in flight.
+    asked: Option<ActionKind>,
     waiting: Vec<PendingRemoteStart>,
 }
 
@@ -40,8 +40,8 @@ pub(crate) struct EndedStart {
 /// The effect of a line on the remote starts of its point.
 #[derive(Drop)]
 pub(crate) struct StartsChange {
-    /// Whether it confirmed the call of a remote start.
-    pub is_reply: bool,
+    /// The action of the call that it confirmed.
+    pub replies_to: Option<ActionKind>,
     pub ended: Option<EndedStart>,
 }
 
@@ -85,7 +85,7 @@ impl PendingRemoteStarts {
     fn known(&mut self, place: usize) -> Result<Option<&mut PointStarts>, AllocError> {
         for _place in self.points.len()..place.saturating_add(1) {
             self.points.push(PointStarts {
-                is_asked: false,
+                asked: None,
                 waiting: Vec::new(self.alloc),
             })?;
         }
@@ -97,7 +97,7 @@ impl StartsChange {
     /// Returns the change by a script's line without an effect on the remote starts of its point.
     fn none() -> StartsChange {
         StartsChange {
-            is_reply: false,
+            replies_to: None,
             ended: None,
         }
     }
@@ -116,9 +116,9 @@ impl PointStarts {
         let mut change = StartsChange::none();
         match played.outcome.change {
             PointChange::Confirmed => {
-                change.is_reply = self.is_asked;
+                change.replies_to = self.asked;
                 // Without an `Accepted` the start is dropped, so the starts are read again.
-                self.is_asked = false;
+                self.asked = None;
                 self.waiting = known_starts(alloc, playing, point)?;
             }
             PointChange::Transaction => {
@@ -132,11 +132,11 @@ impl PointStarts {
         Ok(change)
     }
 
-    /// Notes whether the call that a script's line sent to its point is a RemoteStartTransaction.
+    /// Notes the action of the call that a script's line sent to its point.
     fn follow_calls(&mut self, played: &PlayedLine<'_>) {
         for line in &played.outcome.printed {
             if let PrintedLine::Call { call, .. } = line {
-                self.is_asked = matches!(call.body, CallBody::RemoteStart { .. });
+                self.asked = Some(call.body.kind());
             }
         }
     }

@@ -6,7 +6,7 @@ use crate::line_text::{LineMessage, Sender};
 use crate::report::Report;
 use crate::sentences::{call_sentence, line_sentence};
 use findings::{JsonFault, excerpt, first_break, json_fault_text};
-use messages::CallFault;
+use messages::{ActionKind, CallFault, ReplyStatus};
 use ocpp_scalars::character_count;
 use ocppj_frame::{
     Field, Frame, FrameFault, MAX_ID_CHARACTERS, Node, ReadingMemory, read_frame, read_tree,
@@ -60,7 +60,8 @@ fn check_frame(report: &mut Report, text: &LineMessage<'_>, frame: Frame<'_>) {
         }
         _ if text.sender == Sender::Hold => not_composite(report, text, "it is no CALL"),
         Frame::Reply { id, payload } => {
-            let status = unaccepted_status(text.replies_to_start, payload.root());
+            let action = text.replies_to;
+            let status = action.and_then(|action| unaccepted_status(action, payload.root()));
             check_reply(report, text, id.as_str(), status);
         }
         Frame::Fault { id } => check_reply(report, text, id.as_str(), Some("an error")),
@@ -70,38 +71,20 @@ fn check_frame(report: &mut Report, text: &LineMessage<'_>, frame: Frame<'_>) {
     }
 }
 
-/// Returns the status in a point's reply to a remote start or another call, if `check` has to warn
-/// of it.
+/// Returns the status in a point's reply to a call of this action, if the call isn't done by it, for
+/// a warning of `check`.
 fn unaccepted_status<'memory>(
-    is_of_start: bool,
+    action: ActionKind,
     payload: Node<'_, 'memory>,
 ) -> Option<&'memory str> {
-    if is_of_start {
-        status_of_start(payload)
-    } else {
-        reply_status(payload)
-    }
-}
-
-/// Returns the status in a point's reply to a call, if it is neither `Accepted` nor `Unknown`, for
-/// a warning of `check`.
-// A clear answered `Unknown` matched nothing: the point is without the profiles, as it should be.
-fn reply_status<'memory>(payload: Node<'_, 'memory>) -> Option<&'memory str> {
     match text_field(payload, "status") {
-        Field::Value("Accepted" | "Unknown") => None,
-        Field::Value(status) => Some(status),
+        Field::Value(name) => match ReplyStatus::named(name) {
+            Some(status) if status.is_done(action) => None,
+            _ => Some(name),
+        },
+        // A reply without a status ends a remote start too.
+        _ if action == ActionKind::RemoteStartTransaction => Some("no status"),
         _ => None,
-    }
-}
-
-/// Returns the status in a point's reply to a RemoteStartTransaction, if it isn't `Accepted`, for a
-/// warning of `check`.
-// Any other reply ends the remote start, one without a status too.
-fn status_of_start<'memory>(payload: Node<'_, 'memory>) -> Option<&'memory str> {
-    match text_field(payload, "status") {
-        Field::Value("Accepted") => None,
-        Field::Value(status) => Some(status),
-        _ => Some("no status"),
     }
 }
 
@@ -133,7 +116,7 @@ fn not_accepted_message(
     id: &str,
     status: &str,
 ) -> Result<String, AllocError> {
-    let effect = if text.replies_to_start {
+    let effect = if text.replies_to == Some(ActionKind::RemoteStartTransaction) {
         "it starts no transaction, and the remote start waits no more"
     } else {
         "the central system keeps what the call is of, so its schedules aren't what the point has"
