@@ -127,6 +127,10 @@ def figures_that_follow(program):
             point.texts_of(start("s", tag="a card"))
             expect("a transaction", [entry["connectorId"] for entry in point_of(running)["transactions"]], [1])
             expect("whether an idTag is told", "a card" in get(running, "/state.json")[2], False)
+            expect("an unknown action", point.texts_of(call("u", "Vendor")), [error("u", "NotImplemented")])
+            for faulty in ("f", "g"):  # said once a minute
+                wanted = [error(faulty, "PropertyConstraintViolation", "UnknownConnector")]
+                expect("a faulty start", point.texts_of(start(faulty, connector=9)), wanted)
         until("the point is lost", lambda: point_of(running)["connectedSince"] is None)
         with RawClient(running) as stranger:
             stranger.shake_hands("/P9", ["Sec-WebSocket-Protocol: ocpp1.6"])
@@ -140,6 +144,7 @@ def figures_that_follow(program):
         wanted = [
             "central: AT P1: connected", "central: AT P1: booted", "central: AT P1: rejected call 1, SetChargingProfile: Rejected",
             f"central: AT P1: rejected call 2, SetChargingProfile: {error('2', 'InternalError', '<script>alert(1)</script>')}",
+            "central: AT P1: its message was answered PropertyConstraintViolation, UnknownConnector",
             "central: AT P1: lost",
         ]
         expect("what is said", [line for line in said if " P1: " in line], wanted)

@@ -237,6 +237,7 @@ def undated(said):
 # What is said of clients as they come and go, and the beginning of whatever is said with its moment.
 OF_CLIENTS = re.compile(
     rb"central: \d{4}-\S+Z \S+: (connected[^\n]*|lost[^\n]*|booted|its earlier connection is closed|refused, [^\n]*|rejected call [^\n]*"
+    rb"|its message was answered [^\n]*"
     rb"|call \d+ has no reply[^\n]*)\n"
 )
 DATED = re.compile(rb"^central: \d{4}-\S+Z ", re.MULTILINE)

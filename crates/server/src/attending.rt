@@ -5,13 +5,16 @@ ghost use Rattle.session.specs.Serving.{KeepsPass};
 use crate::session_watch::SessionWatch;
 use bytes::Bytes;
 use journal::Journal;
+use messages::CallFault;
 use ocpp_scalars::Moments;
 use server_core::{
-    LONGEST_SILENCE, Pace, SILENCE_BEFORE_CALL, SILENCE_BEFORE_PING, TICK, seconds_since,
+    LONGEST_SILENCE, LineThrottle, Pace, SILENCE_BEFORE_CALL, SILENCE_BEFORE_PING, TICK,
+    seconds_since,
 };
 use server_ports::IncomingStream;
 use session::{
-    Context, Ended, Received, SentCall, SessionCore, WatchedSocket, answer_next, send_call,
+    Context, Ended, Received, SentCall, SessionCore, SessionEvent, WatchedSocket, answer_next,
+    send_call,
 };
 use std::rt::Clock;
 use std::sync::Wait;
@@ -38,6 +41,8 @@ struct ClientState {
     is_pinged: bool,
     /// The last call that was sent to the client, until it is overdue.
     sent: Option<CallMoment>,
+    /// The time of the last line about a refused request of the client.
+    refused: LineThrottle,
 }
 
 /// A call that was sent to a point, and when.
@@ -70,6 +75,7 @@ pub(crate) fn run_session<R: Wait + Clock, W: World>(
         looked: now,
         is_pinged: false,
         sent: None,
+        refused: LineThrottle::new(),
     };
     let mut pace = Pace::new(&seats.ahead);
     for _message in seats.rt.forever() {
@@ -103,6 +109,7 @@ fn attend_next<R: Wait + Clock, W: World>(
     let sent = match received {
         Received::Message { event, sent } => {
             attention.has_spoken = true;
+            attention.report_refused(watch, core, &event);
             watch.hear(context, core, event);
             sent
         }
@@ -186,6 +193,25 @@ fn send_to_silent<R: Wait + Clock, W: World>(
 }
 
 impl ClientState {
+    /// Reports that a request of the session's client is refused, if the event is that.
+    // An action that the central system doesn't have is no mistake of the point's.
+    fn report_refused<R: Wait + Clock>(
+        &mut self,
+        watch: &SessionWatch<'_, R>,
+        core: &SessionCore,
+        event: &SessionEvent,
+    ) {
+        match event {
+            SessionEvent::Refused(CallFault::NotImplemented) => {}
+            SessionEvent::Refused(fault) => {
+                if self.refused.is_due(&watch.seats.rt) {
+                    watch.refuse(core, *fault);
+                }
+            }
+            _ => {}
+        }
+    }
+
     /// Records that the call of this number was sent to the session's point just now. Without a
     /// clock its reply has no deadline.
     fn note_sent<R: Clock>(&mut self, rt: &R, number: u64) {

@@ -1,6 +1,6 @@
 //! Observations of a session: for the status of its site, and as lines for people.
 
-use messages::ActionKind;
+use messages::{ActionKind, CallFault};
 use ocpp_scalars::{Instant, Moments};
 use server_core::{PointReply, Rejected};
 use server_ports::Seats;
@@ -76,7 +76,7 @@ impl<R: Wait + Clock> SessionWatch<'_, R> {
                 };
                 self.hear_reply(core, reply);
             }
-            SessionEvent::Added | SessionEvent::Other => {}
+            SessionEvent::Added | SessionEvent::Refused(_) | SessionEvent::Other => {}
         }
     }
 
@@ -88,6 +88,14 @@ impl<R: Wait + Clock> SessionWatch<'_, R> {
                 action: call.action,
                 moment,
             }));
+        }
+    }
+
+    /// Reports in the log the fault with which a request of the session's point was answered. An
+    /// operator sees the answer.
+    pub(crate) fn refuse(&self, core: &SessionCore, fault: CallFault) {
+        if self.link.is_some() {
+            self.say_made(core, answered_with(self.seats.alloc, fault));
         }
     }
 
@@ -204,6 +212,17 @@ fn reason_of(alloc: Global, reply: &PointReply) -> Result<String, AllocError> {
 /// Returns the log's text that a point hasn't replied to the call of this number in time.
 fn without_reply(alloc: Global, call: u64) -> Result<String, AllocError> {
     format!(in alloc; "call {call} has no reply in time: its connection is closed")
+}
+
+/// Returns the log's text that a point's request is answered with a fault: its code, and the field
+/// or the refusal.
+fn answered_with(alloc: Global, fault: CallFault) -> Result<String, AllocError> {
+    let (code, description) = (fault.code(), fault.description());
+    if description.is_empty() {
+        format!(in alloc; "its message was answered {code}")
+    } else {
+        format!(in alloc; "its message was answered {code}, {description}")
+    }
 }
 
 /// Returns the log's text that a point rejected a call: its number, its action and the reason.

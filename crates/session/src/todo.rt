@@ -121,6 +121,18 @@ impl Todo {
         )
     }
 
+    /// Returns the fault with which the work for a session's message answers its CALL without a
+    /// step, for the session's observer.
+    pub(crate) fn fault(&self) -> Option<CallFault> {
+        match &self.owed {
+            Owed::Response {
+                response: Response::Error(fault),
+                ..
+            } => Some(*fault),
+            _ => None,
+        }
+    }
+
     /// Returns the answer that the message's sender is owed.
     pub fn into_owed(self) -> Owed
         ensures { result ≡ self.owed }

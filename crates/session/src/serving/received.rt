@@ -1,6 +1,6 @@
 //! The messages and events that a session receives.
 
-use messages::ActionKind;
+use messages::{ActionKind, CallFault};
 use tungstenite::Utf8Bytes;
 
 /// The result of waiting for the next message of a session.
@@ -41,6 +41,8 @@ pub enum SessionEvent {
     },
     /// A request of an operator, which added a call.
     Added,
+    /// A request that is refused with this fault.
+    Refused(CallFault),
     /// Anything else.
     Other,
 }

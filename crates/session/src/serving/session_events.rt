@@ -3,6 +3,7 @@
 use crate::outcome::Outcome;
 use crate::serving::received::SessionEvent;
 use crate::todo::Todo;
+use messages::CallFault;
 use site_core::{Reply, Step};
 use std::alloc::Global;
 use texts::rejection_in;
@@ -13,11 +14,13 @@ pub(crate) enum Subject {
     Boot,
     /// A reply to the call of this number, and whether it accepts the call.
     Reply { call: u64, accepted: bool },
+    /// A CALL that is answered with this fault, and asks for no step.
+    Faulty(CallFault),
     Other,
 }
 
 /// Returns the subject of a session's message for its observer: a BootNotification, a reply to a
-/// call, or another.
+/// call, a CALL with a fault, or another.
 pub(crate) fn subject_of(todo: &Todo, step: &Option<Step>) -> Subject {
     match step {
         Some(Step::Confirm { call, accepted, .. }) => Subject::Reply {
@@ -25,7 +28,11 @@ pub(crate) fn subject_of(todo: &Todo, step: &Option<Step>) -> Subject {
             accepted: *accepted,
         },
         None if todo.is_of_boot() => Subject::Boot,
-        _ => Subject::Other,
+        None => match todo.fault() {
+            Some(fault) => Subject::Faulty(fault),
+            None => Subject::Other,
+        },
+        Some(_) => Subject::Other,
     }
 }
 
@@ -49,6 +56,8 @@ pub(crate) fn event_of(
                 },
             },
         (_, Some(Outcome::Made(reply))) if adds_call(reply) => SessionEvent::Added,
+        (Subject::Faulty(fault), _) => SessionEvent::Refused(fault),
+        (_, Some(Outcome::Refused(refusal))) => SessionEvent::Refused(CallFault::Refused(*refusal)),
         _ => SessionEvent::Other,
     }
 }
