@@ -58,9 +58,8 @@ fn send_options<'a, R: Files<File = File> + Eprint + AllocGlobal>(
     })
 }
 
-/// Returns which calls of `call` go to which points: to the point of the undone line, to every
-/// point of the site, or to that of the URL. Leaves out the calls that are held back, and prints
-/// why.
+/// Returns which calls of `call` go to which points: that of the undone line or of the URL, or all.
+/// Leaves out calls that are held back, and prints why.
 fn visits_of<R: Files<File = File> + Clock + Print + Eprint + AllocGlobal>(
     rt: &R,
     calling: Calling<'_>,
@@ -122,7 +121,7 @@ fn undo_in<R: Files<File = File> + Clock + Eprint + AllocGlobal>(
     Ok(Some(undo_of(rt, folder, site, number)?))
 }
 
-/// Takes the calls to a charge point out of an undo, if there is one.
+/// Takes the calls to a charge point out of an undo that `call --undo` requests, if there is one.
 fn undo_calls(alloc: Global, undo: &mut Option<Undoing>) -> Vec<GivenCall> {
     match undo {
         Some(undoing) => mem::replace(&mut undoing.undo.calls, Vec::new(alloc)),
@@ -147,8 +146,8 @@ fn plain_visits(
     }
 }
 
-/// Returns the visit that sends the calls of an undo to the point of the undone line. The
-/// operator's URL lacks its identity, or has it.
+/// Returns the visit by which `call` sends the calls of an undo to the point of the undone line.
+/// The operator's URL lacks its identity, or has it.
 fn undo_visit(
     alloc: Global,
     url: &str,

@@ -127,8 +127,7 @@ fn connected<R: ClientRuntime>(
     Ok(OperatorClient::new(alloc, socket))
 }
 
-/// Sends an operator's message and reports its answer, or prints the message in a dry run of
-/// `call`.
+/// Sends an operator's message and prints its answer, or prints the message in a dry run of `call`.
 fn send<R: ClientRuntime, N: Display + Copy + Drop>(
     caller: &mut Caller<'_, R>,
     callee: &mut Destination<R>,
@@ -153,7 +152,7 @@ fn send<R: ClientRuntime, N: Display + Copy + Drop>(
     }
 }
 
-/// Closes the operator's connection for a point, if there is one.
+/// Closes the connection by which `call` was the operator of a point, if there is one.
 fn leave<R: RandomSource + Drop>(callee: Destination<R>) {
     let Destination { label, client } = callee;
     drop(label);

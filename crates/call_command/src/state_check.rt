@@ -40,8 +40,8 @@ pub fn check_visits<R: Files<File = File> + Clock + Print + Eprint + AllocGlobal
     Ok(())
 }
 
-/// Returns an operator's calls to a point that the point would accept. They are the next lines of
-/// the script.
+/// Returns those calls of `call` to a point that have no fault by the point's state. They are the
+/// next lines of the script that is played.
 fn passed_calls<R: Print + Eprint + AllocGlobal>(
     alloc: Global,
     caller: &mut Caller<'_, R>,

@@ -62,7 +62,8 @@ pub fn hold_undo<R: Print + Eprint + AllocGlobal>(
     Ok(())
 }
 
-/// Prints the beginning of the journal's line that an undo is to revert.
+/// Prints the beginning of the journal's line that an undo of `call` is to revert to standard
+/// error.
 fn say_line<R: Eprint + AllocGlobal>(rt: &R, number: u64, line: &[u8]) -> Result<(), AllocError> {
     let mut shown = String::new(rt.alloc());
     for character in str::from_utf8(line)
@@ -76,7 +77,7 @@ fn say_line<R: Eprint + AllocGlobal>(rt: &R, number: u64, line: &[u8]) -> Result
     Ok(())
 }
 
-/// Prints which charging profiles an undo can't restore.
+/// Prints to standard error which charging profiles an undo of `call` can't restore.
 fn say_lost<R: Eprint>(rt: &R, lost: &[LostProfile]) {
     for LostProfile { id, connector } in lost {
         let _ = eprintln!(rt;

@@ -34,8 +34,8 @@ pub fn say_waiting<R: Files<File = File> + Clock + Eprint + AllocGlobal>(
     Ok(())
 }
 
-/// Reads the site file of this path. Returns the request to follow the site's journal without
-/// notes.
+/// Reads the site file of this path for `call`. Returns the request to follow the site's journal
+/// without notes on standard error.
 fn quiet_request<'a, R: Files<File = File> + AllocGlobal>(
     rt: &R,
     folder: &'a str,
@@ -53,7 +53,8 @@ fn quiet_request<'a, R: Files<File = File> + AllocGlobal>(
     })
 }
 
-/// Prints which of the points that an operator calls aren't connected, or have calls that wait.
+/// Prints to standard error which of the points that `call` calls aren't connected, or have calls
+/// that wait.
 fn say_of_points<R: Eprint>(rt: &R, followed: &FollowedJournal, visits: &[Visit]) {
     for visit in visits {
         let outbox = followed.machine().outbox_of(visit.id.as_str());
@@ -63,8 +64,8 @@ fn say_of_points<R: Eprint>(rt: &R, followed: &FollowedJournal, visits: &[Visit]
     }
 }
 
-/// Prints whether a point that an operator calls isn't connected, or has calls that wait behind the
-/// one in flight.
+/// Prints to standard error if a point that `call` calls isn't connected, or has calls that wait
+/// behind the one in flight.
 fn say_of_point<R: Eprint>(rt: &R, id: &str, outbox: &Outbox) {
     if outbox.link().is_none() {
         let (count, waits) = counted(outbox.len());
@@ -78,7 +79,8 @@ fn say_of_point<R: Eprint>(rt: &R, id: &str, outbox: &Outbox) {
     }
 }
 
-/// Returns how many calls wait for a point, and the words for it.
+/// Returns how many calls wait for a point, and the words for it in `call`'s line on standard
+/// error.
 fn counted(calls: usize) -> (usize, &'static str) {
     (
         calls,

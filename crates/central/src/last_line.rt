@@ -46,8 +46,8 @@ pub fn say_fault<
     }
 }
 
-/// Writes on a thread of its own that the journal is broken, and waits at most LONGEST_WAIT seconds
-/// for that. Returns None if no thread can be made.
+/// Writes to standard error on a thread of its own that the journal is broken, for at most
+/// LONGEST_WAIT seconds. Returns None if no thread can be made.
 fn say_in_time<
     R: Eprint + AllocGlobal + Clock + Threads + Wait + Copy + Send + Sync + Drop + 'static,
 >(rt: &R) -> Option<()> {

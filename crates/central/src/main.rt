@@ -39,7 +39,8 @@ fn main(rt: HostRuntime) -> ExitCode {
     ExitCode::from(run(&rt, screen))
 }
 
-/// Does the job of the command line. If it fails, prints why. Returns the program's exit status.
+/// Does the job of the program's command line, and prints to standard error why it failed, if it
+/// did. Returns the program's exit status.
 fn run<
     R: Runtime
         + Files<File = File>
@@ -120,8 +121,8 @@ fn do_job<
     }
 }
 
-/// Does the job of `run` on a site. If the site's file has a fault, also prints which command
-/// reports all faults.
+/// Does the job of `run` on a site. If the site's file has a fault, also prints to standard error
+/// which command reports all faults.
 fn run_site<
     R: Files<File = File>
         + Print
@@ -156,7 +157,8 @@ fn run_site<
     }
 }
 
-/// Prints the name of the site file that a job couldn't read, if that is why it stopped.
+/// Prints to standard error the name of the site file that a job couldn't read, if that is why it
+/// stopped.
 fn naming_site_file<T, R: Files<File = File> + Eprint>(
     rt: &R,
     path: &str,
@@ -168,8 +170,8 @@ fn naming_site_file<T, R: Files<File = File> + Eprint>(
     done
 }
 
-/// Prints the name of the site's folder that another `central run` uses, if that is why a job
-/// stopped.
+/// Prints to standard error the name of the site's folder that another `central run` uses, if that
+/// is why a job stopped.
 fn naming_folder<T, R: Eprint>(
     rt: &R,
     path: &str,

@@ -81,7 +81,8 @@ fn exchange<R: AllocGlobal + Net<Stream = TcpStream>>(
     Ok(answer)
 }
 
-/// Returns the status port's HTTP response in these bytes: its status, and the text after its head.
+/// Returns the status port's HTTP response in these bytes, for `status`: its code, and the text
+/// after its head.
 fn reply_in(alloc: Global, bytes: &[u8]) -> Result<StatusReply, ProgramFault> {
     let mut fields = [EMPTY_HEADER_SPAN; MAX_FIELDS];
     let Ok(Status::Complete(head)) = parse_response(bytes, &mut fields) else {

@@ -115,18 +115,20 @@ fn push_warning(page: &mut Page, point: &Value<'_>) {
     );
 }
 
-/// Returns the text of a field of the status port's `/state.json`, if there is one.
+/// Returns the text in a field of the status port's `/state.json`, if there is one, for the tables
+/// of `status`.
 fn text_in<'a>(object: &Value<'a>, key: &str) -> Option<&'a str> {
     object.get(key)?.as_str()
 }
 
 /// Returns the number in a field of the status port's `/state.json`, as it is written, if there is
-/// one.
+/// one, for the tables of `status`.
 fn number_in<'a>(object: &Value<'a>, key: &str) -> Option<&'a str> {
     object.get(key)?.as_number()
 }
 
-/// Returns the truth value of a field of the status port's `/state.json`, if there is one.
+/// Returns the truth value in a field of the status port's `/state.json`, if there is one, for the
+/// tables of `status`.
 fn flag_in(object: &Value<'_>, key: &str) -> Option<bool> {
     object.get(key)?.as_bool()
 }

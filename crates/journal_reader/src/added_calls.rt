@@ -20,7 +20,8 @@ pub(crate) struct AddedCalls {
 }
 
 impl AddedCalls {
-    /// Returns the added calls of a point before the first line of a journal: there are none.
+    /// Returns the moments at which a point's waiting calls were added, before the first line of a
+    /// journal: there are none.
     pub(crate) fn new(alloc: Global) -> AddedCalls {
         AddedCalls {
             calls: Vec::new(alloc),
@@ -28,7 +29,8 @@ impl AddedCalls {
         }
     }
 
-    /// Takes in the effect of a journal's line, which has this moment, on the outbox of its point.
+    /// Records the effect of a journal's line of this moment on the calls that wait for its point,
+    /// and when they were added.
     pub(crate) fn follow(&mut self, outbox: &Outbox, moment: Instant) -> Result<(), AllocError> {
         let first = outbox.first_number();
         // A point confirms its calls in order, so those below the first number are confirmed.
@@ -40,8 +42,8 @@ impl AddedCalls {
         Ok(())
     }
 
-    /// Returns when the call of this number was added to its point's outbox, if it is the first one
-    /// there.
+    /// Returns since when the first call that waits for a point waits, by the journal, if that call
+    /// has this number.
     pub(crate) fn first_since(&self, first: u64) -> Option<Instant> {
         let added = self.calls.first()?;
         if added.number == first {

@@ -106,8 +106,8 @@ pub fn follow_journal<R: Files<File = File> + Eprint + Clock + AllocGlobal>(
     follow_counted::<Brand, Brand, R>(rt, following, blanks)
 }
 
-/// Follows a journal up to the requested end, on a book whose changes and answers are counted by
-/// these two ledgers.
+/// Follows a site's journal up to the requested end, for `explain`, `show` and `call`. These two
+/// ledgers count its changes and answers.
 fn follow_counted<C: Ledger, A: Ledger, R: Files<File = File> + Eprint + Clock + AllocGlobal>(
     rt: &R,
     following: FollowRequest<'_>,
@@ -145,7 +145,7 @@ fn follow_counted<C: Ledger, A: Ledger, R: Files<File = File> + Eprint + Clock +
 }
 
 /// Follows all parts of a journal, to the state of the site at the requested end. If that takes
-/// long, prints how many lines are read.
+/// long, prints to standard error how many lines are read.
 fn follow_parts<C: Ledger, A: Ledger, R: Eprint + Clock + AllocGlobal>(
     rt: &R,
     file: &mut NamedFile,
@@ -164,7 +164,8 @@ fn follow_parts<C: Ledger, A: Ledger, R: Eprint + Clock + AllocGlobal>(
     Ok(())
 }
 
-/// Prints how much of a journal was read. Returns whether it reaches the requested end.
+/// Prints to standard error how much of a journal was read. Returns whether the journal reaches the
+/// requested end.
 fn say_followed<C: Ledger, A: Ledger, R: Eprint + AllocGlobal>(
     rt: &R,
     file: &NamedFile,
@@ -210,7 +211,7 @@ struct Follower<C: Ledger, A: Ledger> {
 }
 
 impl<C: Ledger, A: Ledger> Follower<C, A> {
-    /// Returns the state of a site before the first line of the journal to follow.
+    /// Returns the state of a site before the first line of the journal that a command follows.
     fn begin(
         alloc: Global,
         site: Site,
@@ -247,8 +248,8 @@ impl<C: Ledger, A: Ledger> Follower<C, A> {
         })
     }
 
-    /// Returns the state after all lines of a journal, with the moment since which the first
-    /// waiting call to this point waits.
+    /// Returns the site's state after the followed lines of a journal, with the moment since which
+    /// the first waiting call to this point waits.
     fn into_followed(
         self,
         point: &str,
@@ -275,7 +276,8 @@ impl<C: Ledger, A: Ledger> Follower<C, A> {
         })
     }
 
-    /// Reads these lines of a journal, and follows those up to the requested end.
+    /// Reads these lines of a journal, and restores the site's state from those up to the requested
+    /// end.
     fn follow_lines(
         &mut self,
         lines: JournalPart<'_>,
@@ -299,8 +301,8 @@ impl<C: Ledger, A: Ledger> Follower<C, A> {
         Ok(())
     }
 
-    /// Follows the line of this number in the journal's file, unless it is after the requested end.
-    /// The text is the line with its line feed.
+    /// Restores the effect of the line of this number in the journal's file, unless it is after the
+    /// requested end. The text is the line with its line feed.
     fn follow_line(
         &mut self,
         line: &Line<'_>,
@@ -348,8 +350,8 @@ impl<C: Ledger, A: Ledger> Follower<C, A> {
         }
     }
 
-    /// Takes in the effect of a journal's line on the calls to its point. The line belongs to the
-    /// script's line of this number.
+    /// Takes in the effect of a journal's line on the calls to its point. The number is that of its
+    /// line in the script of the journal's messages.
     fn follow_calls(&mut self, line: &Line<'_>, number: u64) -> Result<(), AllocError> {
         let machine = self.book.present();
         let (Some(place), Some(outbox)) = (
@@ -372,7 +374,7 @@ impl<C: Ledger, A: Ledger> Follower<C, A> {
     }
 }
 
-/// Prints how many lines of a journal were read, and the moment of the last one.
+/// Prints to standard error how many lines of a journal were read, and the moment of the last one.
 fn say_read<R: Eprint + AllocGlobal>(
     rt: &R,
     lines: u64,
@@ -388,8 +390,8 @@ fn say_read<R: Eprint + AllocGlobal>(
     Ok(())
 }
 
-/// Prints a note if the journal doesn't reach the end that `--at` requests. Returns whether it
-/// does.
+/// Prints a note to standard error if the journal doesn't reach the end that `--at` requests.
+/// Returns whether it does.
 fn say_end<R: Eprint + AllocGlobal>(
     rt: &R,
     wanted: &FollowOptions<'_>,
@@ -412,8 +414,8 @@ fn say_end<R: Eprint + AllocGlobal>(
     }
 }
 
-/// Prints a note if the journal begins after the moment that `--at` requests. Returns whether it
-/// doesn't.
+/// Prints a note to standard error if the journal begins after the moment that `--at` requests.
+/// Returns whether it doesn't.
 fn say_begun<R: Eprint + AllocGlobal>(
     rt: &R,
     moment: Instant,
@@ -428,8 +430,8 @@ fn say_begun<R: Eprint + AllocGlobal>(
     Ok(false)
 }
 
-/// Returns whether a line of a journal is a change to be counted: a message about the followed
-/// point after the requested moment.
+/// Returns whether a line of a journal is a change that `explain` counts: a message about the
+/// followed point after the requested moment.
 fn is_counted(line: &Line<'_>, wanted: &FollowOptions<'_>) -> bool {
     match (&line.noted, wanted.counted_from) {
         (Noted::Message { .. }, Some(moment)) => line.point == wanted.point && line.moment > moment,

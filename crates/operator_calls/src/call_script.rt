@@ -43,7 +43,8 @@ pub fn script_of_calls(
     Ok(Some(CallScript { script, lines }))
 }
 
-/// Appends an operator's calls to a point to a journal's script, each as a line at this moment.
+/// Appends an operator's calls to a point to the script of a journal's messages, each as a line at
+/// this moment. So `call` checks them before it sends them.
 fn push_visit(
     script: &mut Vec<u8>,
     moment: Instant,
@@ -58,8 +59,8 @@ fn push_visit(
     Ok(())
 }
 
-/// Appends an operator's call to a point as a line of a script. A call that is too long becomes an
-/// empty line, and isn't checked.
+/// Appends an operator's call to a point to the script in which `call` checks it. A call that is
+/// too long becomes an empty line, and isn't checked.
 // Each call has to be one line, since the lines are played in step with the calls.
 fn push_call(
     script: &mut Vec<u8>,
@@ -94,7 +95,8 @@ pub fn on_one_line(alloc: Global, text: &str) -> Result<String, AllocError> {
     Ok(line)
 }
 
-/// Returns the number of lines in a journal's script, each of which ends with a line feed.
+/// Returns the number of lines in the script of a journal's messages, to which `call` appends its
+/// calls. Each line ends with a line feed.
 fn count_lines(script: &[u8]) -> u64 {
     let mut count = 0u64;
     for byte in script {

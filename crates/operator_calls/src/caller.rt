@@ -64,8 +64,8 @@ impl<'a, R: Print + Eprint + AllocGlobal> Caller<'a, R> {
         Ok(passed)
     }
 
-    /// Returns whether the operator's call of an option is to be sent. Its text has to be JSON by
-    /// itself.
+    /// Returns whether `call` is to send the message that the operator gave by an option. Text that
+    /// isn't JSON by itself is reported to the operator and isn't sent.
     // The break's place is in the text that the operator wrote, not in the frame built of it.
     fn passes_given(&mut self, call: &GivenCall) -> Result<bool, ClientFault> {
         let name = call.name;
@@ -115,8 +115,8 @@ impl<'a, R: Print + Eprint + AllocGlobal> Caller<'a, R> {
         self.passes_with(label.as_str(), call.name, findings)
     }
 
-    /// Returns whether an operator's message with these findings is to be sent. Prints the reason
-    /// if it isn't.
+    /// Returns whether `call` is to send an operator's message with these findings. If not, prints
+    /// the reason to standard error.
     fn passes_with<N: Display + Copy + Drop>(
         &mut self,
         label: &str,
@@ -178,7 +178,7 @@ impl<'a, R: Print + Eprint + AllocGlobal> Caller<'a, R> {
         Ok(())
     }
 
-    /// Prints the findings in an operator's message before it is sent.
+    /// Prints the findings in an operator's message to standard error, before `call` sends it.
     fn say_of<N: Display + Copy + Drop>(
         &self,
         name: N,
@@ -190,8 +190,8 @@ impl<'a, R: Print + Eprint + AllocGlobal> Caller<'a, R> {
         self.say_findings("", name, checked.findings.as_slice())
     }
 
-    /// Prints the findings in an operator's message, each after the label of its point and the name
-    /// of the message.
+    /// Prints the findings in an operator's message to standard error, for `call`, each after the
+    /// label of its point and the name of the message.
     fn say_findings<N: Display + Copy + Drop>(
         &self,
         label: &str,

@@ -19,7 +19,8 @@ pub(crate) struct InstalledProfile {
     pub(crate) comes_back: bool,
 }
 
-/// Returns the charging profiles that a point has, as an undo compares them.
+/// Returns the charging profiles that a point has, for the undo of `call`, which compares those of
+/// two moments.
 pub(crate) fn installed_profiles(
     alloc: Global,
     machine: &Machine,
@@ -58,16 +59,16 @@ fn payload_of(alloc: Global, row: &Row) -> Result<String, AllocError> {
     Ok(payload)
 }
 
-/// Returns the number of the active transaction at a connector of a point, to which a TxProfile
-/// belongs.
+/// Returns the number of the active transaction at a connector of a point. An undo installs a
+/// TxProfile again only in its own transaction.
 pub(crate) fn transaction_of(machine: &Machine, point: &str, connector: u32) -> Option<i32> {
     let book = machine.book_of(point)?;
     let transaction = book.transaction_at(connector)?;
     Some(transaction.id)
 }
 
-/// Returns whether one of these charging profiles is the same, at the same connector, as an undo
-/// compares them.
+/// Returns whether one of these charging profiles has the same fields and connector as this one,
+/// for the undo of `call`.
 pub(crate) fn contains_profile(kept: &InstalledProfile, others: &[InstalledProfile]) -> bool {
     let payload = kept.payload.as_str();
     others.iter().any(|other| other.payload.as_str() == payload)

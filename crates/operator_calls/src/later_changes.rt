@@ -44,7 +44,8 @@ pub(crate) struct PointFollower<'a> {
 }
 
 impl<'a> PointFollower<'a> {
-    /// Begins to look for later changes at the point of an undo, with the profiles that it has now.
+    /// Begins to look for changes by the journal's lines after the one that an undo reverts, with
+    /// its point's profiles after that line.
     pub(crate) fn begin(
         alloc: Global,
         machine: &Machine,
@@ -58,7 +59,7 @@ impl<'a> PointFollower<'a> {
         })
     }
 
-    /// Records how a later line that was played changed the profiles of the point of an undo.
+    /// Records how a line of the journal after the undone one changed the profiles of its point.
     pub(crate) fn follow(
         &mut self,
         machine: &Machine,
@@ -84,8 +85,8 @@ impl<'a> PointFollower<'a> {
         Ok(())
     }
 
-    /// Records the changes of a later line that installed these profiles at the point of an undo,
-    /// or removed them.
+    /// Records that a line of the journal after the undone one installed these profiles at the
+    /// undo's point, or removed them.
     fn add_changes(
         &mut self,
         line: u64,
@@ -104,8 +105,8 @@ impl<'a> PointFollower<'a> {
         Ok(())
     }
 
-    /// Returns the later changes that an undo reverts if the point has these profiles again. Of
-    /// several changes of one profile the last counts. A line with an install is named by that.
+    /// Returns the later changes that an undo reverts too, for a warning to the operator. Of
+    /// several changes of one profile the last counts.
     pub(crate) fn taken_back(
         self,
         before: &[InstalledProfile],
@@ -132,8 +133,8 @@ impl<'a> PointFollower<'a> {
         Ok(taken)
     }
 
-    /// Returns whether a line after this change at the point of an undo installed the same profile
-    /// again, or removed it again.
+    /// Returns whether a line of the journal after this change installed the same profile at the
+    /// undo's point again, or removed it again.
     fn is_outdated(&self, change: &LaterChange) -> bool {
         self.changes.iter().any(|other| {
             other.line > change.line
@@ -151,8 +152,8 @@ impl<'a> PointFollower<'a> {
     }
 }
 
-/// Returns whether a script's line with this change may have changed the charging profiles of its
-/// point.
+/// Returns whether a journal's line with this change may have changed the charging profiles of its
+/// point, for an undo.
 fn may_change_profiles(change: PointChange) -> bool {
     matches!(change, PointChange::Profiles | PointChange::Transaction)
 }

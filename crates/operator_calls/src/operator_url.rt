@@ -22,7 +22,8 @@ pub fn url_of_point(alloc: Global, base: &str, point: &str) -> Result<String, Al
     format!(in alloc; "{base}/{point}")
 }
 
-/// Returns the last segment of an operator's URL, which may be the identity of a point.
+/// Returns the last segment of the URL that an operator gives `call`, which may be the identity of
+/// a point.
 pub(crate) fn last_segment(url: &str) -> &str {
     match url.rsplit_once('/') {
         Some((_base, segment)) => segment,

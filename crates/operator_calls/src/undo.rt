@@ -65,8 +65,8 @@ pub fn undo_to<R: Clock + Eprint + AllocGlobal>(
     Ok(Undo { calls, lost, later })
 }
 
-/// Marks the profiles that the point of an undo has lost and may get again. Returns those that it
-/// can't.
+/// Marks the earlier profiles of an undo's point that it lacks now and may get again. Returns those
+/// that can't come back, to report them to the operator.
 fn find_lost(
     alloc: Global,
     machine: &Machine,
@@ -90,8 +90,8 @@ fn find_lost(
     Ok(lost)
 }
 
-/// Plays the lines of a journal's script before the line of this number, for the state that an undo
-/// compares.
+/// Plays the lines of a journal's script before the line of this number, for the state of the point
+/// that an undo compares.
 // A script has no more lines than bytes, so this range ends the loop without a proof.
 fn play_to<R: Clock + Eprint>(
     rt: &R,
@@ -109,7 +109,8 @@ fn play_to<R: Clock + Eprint>(
     Ok(())
 }
 
-/// Plays the other lines of a journal's script, and records their changes at the point of an undo.
+/// Plays the remaining lines of a journal's script, and records how they changed the profiles of
+/// the point of an undo.
 // A script has no more lines than bytes, so this range ends the loop without a proof.
 fn follow_rest<R: Clock + Eprint>(
     rt: &R,
@@ -135,7 +136,7 @@ fn may_come_back(machine: &Machine, point: &str, kept: &InstalledProfile) -> boo
         || kept.transaction == transaction_of(machine, point, kept.name.connector)
 }
 
-/// Returns the calls of an undo: they lead from the point's present profiles to the earlier ones.
+/// Returns the calls by which an undo leads from its point's present profiles to the earlier ones.
 fn calls_between(
     alloc: Global,
     before: &[InstalledProfile],

@@ -19,7 +19,8 @@ pub fn line_at(script: &[u8], number: u64) -> &[u8]
     split_line(rest).0
 }
 
-/// Returns the rest of a script after this number of lines, to find the line that is undone.
+/// Returns the rest of a journal's script after this number of lines, to find the line that an undo
+/// reverts.
 fn rest_behind(script: &[u8], lines: u64) -> &[u8]
     ensures { (k : ℕ) → line_behind result.now k ≡ line_behind script.now (lines + k) }
 {

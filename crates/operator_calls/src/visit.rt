@@ -21,7 +21,8 @@ pub struct Visit {
 }
 
 impl Visit {
-    /// Makes an operator's visit to a point, with the first `count` of the calls.
+    /// Makes an operator's visit to a point for `call`: the point's identity, and the first `count`
+    /// calls, which are to be sent to it.
     fn new(alloc: Global, id: &str, is_labelled: bool, count: usize) -> Result<Visit, AllocError>
         ensures { IfOk result (λ visit. visited visit ≡ (id.now, is_labelled)) }
     {

@@ -62,8 +62,8 @@ fn check_keys<R: Files<File = File> + Print + Eprint + AllocGlobal>(
     Ok(findings)
 }
 
-/// Returns the site of a site file for `check`, if it can be read. Otherwise the findings say why
-/// not.
+/// Returns the site of a site file for `check`, if it can be read. Otherwise these findings of
+/// `check` say why not.
 fn site_of(alloc: Global, bytes: &[u8], findings: &[Finding]) -> Result<Option<Site>, AllocError> {
     // Reading a file with such findings would fail.
     if exit_status(findings) == 1 {

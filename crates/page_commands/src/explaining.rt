@@ -76,8 +76,8 @@ pub fn explain_file<R: Files<File = File> + Input + Print + Eprint + Clock + All
     Ok(page_status(followed.is_as_wanted()))
 }
 
-/// Explains the limits of a connector after the script of standard input or of a file, for
-/// `explain`. Returns the exit status.
+/// Explains the limits of a connector after the script of messages from standard input or a file,
+/// for `explain`. Returns the exit status.
 fn explain_script<R: Files<File = File> + Input + Print + Eprint + AllocGlobal>(
     rt: &R,
     presentation: Presentation<'_>,
@@ -93,8 +93,8 @@ fn explain_script<R: Files<File = File> + Input + Print + Eprint + AllocGlobal>(
     Ok(page_status(is_whole))
 }
 
-/// Prints a note for `explain` if a journal has changes at the point that are later than the first
-/// explained instant. The explained state then isn't that of the point at that instant.
+/// Prints a note to standard error for `explain` if a journal has changes at the point after the
+/// first explained instant. The explained state isn't that of the instant then.
 fn note_later_changes<R: Eprint + AllocGlobal>(
     rt: &R,
     point: &str,
@@ -168,7 +168,7 @@ fn check_connector(site: &Site, point: &str, connector: u32) -> Result<(), Progr
 }
 
 /// Returns the instant at which `explain`'s time begins: the present or the one of `--start`.
-/// Prints a note if that has no zone.
+/// Prints a note to standard error if that has no zone.
 fn start_of<R: Clock + Eprint>(rt: &R, text: &str) -> Result<Instant, ProgramFault> {
     let Ok(start) = Start::of(text) else {
         return Err(ProgramFault::NoInstant);
@@ -182,7 +182,8 @@ fn start_of<R: Clock + Eprint>(rt: &R, text: &str) -> Result<Instant, ProgramFau
     }
 }
 
-/// Returns the request for a schedule that the options of `explain` describe, from this instant on.
+/// Returns the request for a composite schedule that the options of `explain` describe, from this
+/// instant on.
 fn ask_of(explaining: &Explaining<'_>, start: Instant) -> Result<Ask, ProgramFault> {
     let Some(duration) = read_duration(explaining.duration) else {
         return Err(ProgramFault::NoDuration);
@@ -197,8 +198,8 @@ fn ask_of(explaining: &Explaining<'_>, start: Instant) -> Result<Ask, ProgramFau
     }
 }
 
-/// Prints `explain`'s table or JSON for a request by the state of the charge point, and writes its
-/// picture.
+/// Prints `explain`'s table or JSON for a request for a schedule by the state of the charge point,
+/// and writes its picture.
 fn print_explained<R: Files + Print + Eprint + AllocGlobal>(
     rt: &R,
     presentation: Presentation<'_>,
@@ -216,8 +217,8 @@ fn print_explained<R: Files + Print + Eprint + AllocGlobal>(
     print_explanation(rt, presentation, book, ask)
 }
 
-/// Prints `explain`'s table or JSON for a request at a connector of the book, and writes its
-/// picture.
+/// Prints `explain`'s table or JSON for a request for a schedule by the point's book of installed
+/// profiles, and writes its picture.
 fn print_explanation<R: Files + Print + Eprint + AllocGlobal>(
     rt: &R,
     presentation: Presentation<'_>,

@@ -25,7 +25,8 @@ pub fn replay_file<R: Files<File = File> + Input + Print + Eprint + AllocGlobal>
     }
 }
 
-/// Plays a script on a site for `central replay`, and prints the answers.
+/// Plays a script of messages on a site for `central replay`, and prints the answers to its
+/// clients.
 fn replay_from<R: Print + AllocGlobal, S: Read>(
     rt: &R,
     script: &mut S,

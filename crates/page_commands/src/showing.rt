@@ -37,8 +37,8 @@ pub fn show_file<R: Files<File = File> + Input + Print + Eprint + Clock + AllocG
     Ok(page_status(followed.is_as_wanted()))
 }
 
-/// Shows the state of each point after the script of standard input or of a file, for `show`.
-/// Returns the exit status.
+/// Prints `show`'s page with the state of each point after the script of messages from standard
+/// input or a file. Returns the exit status.
 fn show_script<R: Files<File = File> + Input + Print + Eprint + AllocGlobal>(
     rt: &R,
     showing: Showing<'_>,

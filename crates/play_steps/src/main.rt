@@ -18,8 +18,8 @@ use std::sync::ledger::{Blank, Ledger};
 use step_words::Sides;
 use sweep_compiler::AuditJob;
 
-/// Plays the tables of steps on the standard input, each on a new machine and book of the central
-/// system, and prints the outcomes.
+/// Plays the tests' tables of steps on the standard input, each on a new machine and book of the
+/// central system. Prints each line with its outcome.
 fn main(rt: HostRuntime) -> io::Result<()> {
     let text = io::read_to_string(rt.alloc(), rt.reader())?;
     let mut job = None;
@@ -29,8 +29,8 @@ fn main(rt: HostRuntime) -> io::Result<()> {
     Ok(())
 }
 
-/// Plays a table of steps of the central system after printing its title and site file. The request
-/// of an audit is kept for later tables.
+/// Plays a table of a test's steps after printing its title and site file. Returns the kept request
+/// of an audit, for later tables.
 fn play_table<R: Print + AllocGlobal>(
     rt: &R,
     table: &str,
@@ -55,8 +55,8 @@ struct Table<'a> {
     job: Option<AuditJob>,
 }
 
-/// Plays a table's lines on a new machine and a new book, and prints each line with its outcome.
-/// Returns the kept request of an audit.
+/// Plays a table of a test's steps on a new machine and a new book, and prints each line with its
+/// outcome. Returns the kept request of an audit.
 fn play_at<C: Ledger, A: Ledger, R: Print + AllocGlobal>(
     rt: &R,
     changes: Blank,

@@ -31,8 +31,8 @@ pub(crate) struct Player<C: Ledger, A: Ledger> {
 }
 
 impl<C: Ledger, A: Ledger> Player<C, A> {
-    /// Returns the composite schedule that the book of a table answered last, whose periods are
-    /// printed.
+    /// Returns the composite schedule that the book answered last, to print its periods with a line
+    /// of the tests' tables of steps.
     pub(crate) fn answered(&self) -> Option<&Composite> {
         match &self.sides.answered {
             Some(answer) => answer.answer().as_ref().ok(),
@@ -40,8 +40,8 @@ impl<C: Ledger, A: Ledger> Player<C, A> {
         }
     }
 
-    /// Plays a line of a table on the machine and the book, and returns its outcome, empty for an
-    /// empty line.
+    /// Plays a line of the tests' tables of steps on the machine and the book. Returns its outcome,
+    /// which is empty for an empty line.
     pub(crate) fn said(&mut self, line: &str) -> Said {
         let mut words = Words::of(line);
         let point = words.word();
@@ -58,7 +58,8 @@ impl<C: Ledger, A: Ledger> Player<C, A> {
         }
     }
 
-    /// Makes the step of a table's line on the machine and the book, and returns its outcome.
+    /// Makes the step of a line of the tests' tables on the machine and the book, and returns its
+    /// outcome.
     fn made(&mut self, line: &str) -> Said {
         match step_of(self.sides.alloc, line) {
             Ok(step) => self.sides.make(step),
@@ -66,8 +67,8 @@ impl<C: Ledger, A: Ledger> Player<C, A> {
         }
     }
 
-    /// Makes the step of a table's line a number of times on the machine and the book, and returns
-    /// the last outcome.
+    /// Makes the step of a line of the tests' tables a number of times on the machine and the book,
+    /// and returns the last outcome.
     fn repeated(&mut self, times: &str, line: &str) -> Said {
         let mut said = UNREAD;
         for _ in 0..times.parse::<u32>().unwrap_or(0) {
@@ -76,15 +77,15 @@ impl<C: Ledger, A: Ledger> Player<C, A> {
         said
     }
 
-    /// Posts for one request the answer compiled for another one, as a table's line `- bring 2 1`
-    /// says, and returns the outcome.
+    /// Posts for one request the answer compiled for another one, as a line `- bring 2 1` of the
+    /// tests' tables says. Returns the outcome.
     fn brought(&mut self, mut words: Words<'_>) -> Said {
         let own = words.long().unwrap_or(0);
         self.sides.bring_both(own, words.long().unwrap_or(0))
     }
 
-    /// Reads the request of a point's audit from the machine and the book, as a table's line
-    /// `CP1 job 1` says, and keeps it.
+    /// Reads the request of a point's audit from the machine and the book, for a line `CP1 job 1`
+    /// of the tests' tables. Keeps that request.
     fn read_job(&mut self, point: &str, mut words: Words<'_>) -> Said {
         let call = words.long().unwrap_or(0);
         let of_machine = self.sides.machine.audit_job(point, call);
@@ -94,8 +95,8 @@ impl<C: Ledger, A: Ledger> Player<C, A> {
         }
     }
 
-    /// Keeps the request of a point's audit if the machine and the book have the same, and returns
-    /// its seconds as the outcome.
+    /// Keeps the request of a point's audit if the machine and the book have the same, for a line
+    /// of the tests' tables. Returns the request's seconds as the outcome.
     fn keep_job(&mut self, job: Option<AuditJob>, other: Option<AuditJob>) -> Said {
         if !is_one_job(&job, &other) {
             return DIFFERENT;
@@ -108,8 +109,8 @@ impl<C: Ledger, A: Ledger> Player<C, A> {
         ("job", Some(seconds))
     }
 
-    /// Makes the verdict on a reply to the kept request of an audit, as a table's line
-    /// `CP1 judge 1 160` says.
+    /// Makes the verdict on a point's reply to the audit whose request is kept, for a line
+    /// `CP1 judge 1 160` of the tests' tables.
     fn judged(&mut self, line: &str) -> Said {
         let Some(job) = &self.job else {
             return ("no job", None);
@@ -120,8 +121,8 @@ impl<C: Ledger, A: Ledger> Player<C, A> {
         }
     }
 
-    /// Returns the number that a table's line such as `- version` or `CP1 rows` asks for, or `None`
-    /// if it is a step.
+    /// Returns the number that a line of the tests' tables asks for, such as `- version` or
+    /// `CP1 rows`. Returns `None` for a step.
     fn told(&self, point: &str, name: &str, words: Words<'_>) -> Option<Said> {
         let book = &self.sides.book;
         match name {
@@ -134,8 +135,8 @@ impl<C: Ledger, A: Ledger> Player<C, A> {
         }
     }
 
-    /// Returns what a table's line such as `CP1 link` asks about a charge point, or `None` if it
-    /// asks no such thing.
+    /// Returns the answer to a line of the tests' tables about a charge point, such as `CP1 link`,
+    /// or `None` for any other line.
     fn told_of_point(&self, point: &str, name: &str, mut words: Words<'_>) -> Option<Said> {
         let machine = &self.sides.machine;
         match name {
@@ -147,7 +148,8 @@ impl<C: Ledger, A: Ledger> Player<C, A> {
     }
 }
 
-/// Whether the machine and the book have the same request of an audit, or both none.
+/// Checks for a line of the tests' tables whether the machine and the book have the same request of
+/// an audit, or both none.
 fn is_one_job(job: &Option<AuditJob>, other: &Option<AuditJob>) -> bool {
     match (job, other) {
         (Some(job), Some(other)) => job.same(other),
@@ -156,13 +158,14 @@ fn is_one_job(job: &Option<AuditJob>, other: &Option<AuditJob>) -> bool {
     }
 }
 
-/// Returns a number as the outcome of a table's line that asks for one.
+/// Returns a number as the outcome of a line of the tests' tables that asks for one, such as
+/// `- version`.
 fn number(number: u64) -> Option<Said> {
     Some(("", Some(number)))
 }
 
-/// Returns the outcome of a table's line `CP1 link`: the link over which a call is to be sent, or
-/// `no link`.
+/// Returns the outcome of a line `CP1 link` of the tests' tables: the link over which a call is to
+/// be sent, or `no link`.
 fn link_said(link: Option<u64>) -> Said {
     match link {
         Some(_) => ("", link),
@@ -170,8 +173,8 @@ fn link_said(link: Option<u64>) -> Said {
     }
 }
 
-/// Returns the charging profiles of a point in the machine, for a table's lines that ask about
-/// them.
+/// Returns the charging profiles installed at a point in the machine, each with its connector, for
+/// lines of the tests' tables that ask about them.
 fn rows_of<'a>(machine: &'a Machine, point: &str) -> &'a [Row] {
     match machine.book_of(point) {
         Some(book) => book.view().rows,
@@ -179,8 +182,8 @@ fn rows_of<'a>(machine: &'a Machine, point: &str) -> &'a [Row] {
     }
 }
 
-/// Returns the moment of a charging profile's install, or its transaction, for a table's line such
-/// as `CP1 moment 0`.
+/// Returns the moment of a charging profile's install, or its transaction, for a line of the tests'
+/// tables such as `CP1 moment 0`.
 fn told_of_row(row: &Row, name: &str) -> Option<Said> {
     match name {
         "moment" => number(row.moment.seconds().saturating_sub(MIDNIGHT)),

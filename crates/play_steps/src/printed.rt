@@ -5,8 +5,8 @@ use std::alloc::{AllocError, AllocGlobal, Global};
 use std::io;
 use step_words::Said;
 
-/// Prints a line of a table of steps with its outcome. For an answer with a schedule it prints all
-/// periods, each with its start.
+/// Prints a line of the tests' tables of steps with its outcome. For an answer with a schedule it
+/// prints all periods, each with its start.
 pub(crate) fn print_line<R: Print + AllocGlobal>(
     rt: &R,
     line: &str,
@@ -25,8 +25,8 @@ pub(crate) fn print_line<R: Print + AllocGlobal>(
     }
 }
 
-/// Returns the periods of a composite schedule as the outcome of a table's line, such as
-/// `limits 0:60 30:160`.
+/// Returns the periods of a composite schedule as the outcome of a line of the tests' tables, such
+/// as `limits 0:60 30:160`.
 fn periods_text(alloc: Global, schedule: &Composite) -> Result<String, AllocError> {
     let mut text = String::from_str(alloc, "limits")?;
     for period in schedule.periods() {

@@ -52,8 +52,8 @@ struct CallMoment {
     moment: Instant,
 }
 
-/// Serves the messages of a session. It ends if its WebSocket is closed or fails, the client is
-/// silent for too long, or a call to it has no reply in time. Returns how the session ended.
+/// Serves a client's session until its WebSocket closes or fails, the client is silent too long, or
+/// a call to it has no reply in time. Returns how the session ended.
 pub(crate) fn run_session<R: Wait + Clock, W: World>(
     context: &Context<'_, W>,
     watch: &SessionWatch<'_, R>,
@@ -90,8 +90,8 @@ pub(crate) fn run_session<R: Wait + Clock, W: World>(
     unreachable!()
 }
 
-/// Serves the next message of a session, or does what is due if none comes. An error ends the
-/// session.
+/// Serves the next message of a client's session on the server, or does the work that is due if no
+/// message comes. An error ends the session.
 fn attend_next<R: Wait + Clock, W: World>(
     context: &Context<'_, W>,
     watch: &SessionWatch<'_, R>,
@@ -147,7 +147,7 @@ fn attend_next<R: Wait + Clock, W: World>(
     Ok(())
 }
 
-/// Sends a session's silent client one WebSocket ping. After a longer silence it ends the session.
+/// Sends a session's silent client one WebSocket ping, and ends the session after a longer silence.
 fn keep_alive<R: Wait + Clock>(
     socket: &mut WebSocket<IncomingStream<'_, R>, NoMask>,
     attention: &mut ClientState,
@@ -193,7 +193,8 @@ fn send_to_silent<R: Wait + Clock, W: World>(
 }
 
 impl ClientState {
-    /// Reports that a request of the session's client is refused, if the event is that.
+    /// Reports on standard error that a request of the session's client is refused, if the event is
+    /// that.
     // An action that the central system doesn't have is no mistake of the point's.
     fn report_refused<R: Wait + Clock>(
         &mut self,

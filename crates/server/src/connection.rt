@@ -10,8 +10,8 @@ use tungstenite::{CloseCode, CloseFrame, NoMask, Utf8Bytes, WebSocket};
 use version_store::Pass;
 use world::World;
 
-/// Serves a WebSocket connection from its handshake until it ends. Returns the pass, whose counters
-/// never decrease.
+/// Serves a WebSocket connection of the server from its handshake until it ends. Returns the
+/// session's pass, whose counts of changes and answers never decrease.
 pub(crate) fn run_connection<W: World, S: Read + Write + Drop>(
     context: &Context<'_, W>,
     stream: S,
@@ -43,8 +43,8 @@ pub(crate) struct Admitted {
     pub(crate) place: usize,
 }
 
-/// Returns the session that a WebSocket client asks for, if it offers OCPP 1.6 and names a point of
-/// the site.
+/// Returns the session of the server that a WebSocket client asks for, if it offers OCPP 1.6 and
+/// names a point of the site.
 pub(crate) fn admit<W: World>(
     context: &Context<'_, W>,
     asked: &ClientRequest,

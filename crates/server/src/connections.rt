@@ -18,7 +18,8 @@ pub(crate) trait ConnectionSite {
     /// The pass with which a connection is served.
     type Pass;
 
-    /// Serves a connection of the server from its handshake until it ends. Returns the pass.
+    /// Serves a connection of the server from its handshake until it ends. Returns its pass, which
+    /// counts its changes and answers.
     fn run(&self, stream: TcpStream, pass: Self::Pass) -> Self::Pass;
 }
 
@@ -59,8 +60,8 @@ enum Session<P> {
     Ended(P),
 }
 
-/// Accepts a connection of `serve` for each pass. Serves it on a thread of its own, or on this one
-/// if no thread can be made. Ends when all connections have ended, and returns all passes.
+/// Accepts a connection of `serve` for each pass (a session's counts), and serves it on a thread of
+/// its own, or on this one. Returns the passes when all have ended.
 pub(crate) fn run_connections<
     R: Threads + Wait,
     S: ConnectionSite<Pass = P> + Sync,
@@ -95,8 +96,8 @@ pub(crate) fn run_connections<
     ))
 }
 
-/// Accepts a connection of `serve` for each pass, and starts its session, in `room`. Then it closes
-/// the listener, so that no client waits for a connection that is never accepted.
+/// Accepts a connection of `serve` for each pass (a session's counts), and starts its session. Then
+/// closes the listener, so that no client waits for a connection that is never accepted.
 fn begin_all<'s, E, S: ConnectionSite<Pass = P> + Sync + 's, P: Send + Drop + 's>(
     scope: &Scope<'s, E>,
     site: &'s S,
@@ -119,8 +120,8 @@ fn begin_all<'s, E, S: ConnectionSite<Pass = P> + Sync + 's, P: Send + Drop + 's
     }
 }
 
-/// Accepts the next connection of `serve`, and starts its session with this pass on a thread of its
-/// own.
+/// Accepts the next connection of `serve`, and starts its session on a thread of its own. This pass
+/// counts the session's changes and answers.
 fn begin<'s, E, S: ConnectionSite<Pass = P> + Sync + 's, P: Send + Drop + 's>(
     scope: &Scope<'s, E>,
     site: &'s S,
@@ -143,7 +144,8 @@ fn begin<'s, E, S: ConnectionSite<Pass = P> + Sync + 's, P: Send + Drop + 's>(
     }
 }
 
-/// Waits until each session of `serve` has ended, and returns their passes in `room`.
+/// Waits until each session of `serve` has ended, and returns the sessions' counts of changes and
+/// answers (their passes).
 fn end_all<R: Threads + Wait, P: Drop>(rt: &R, sessions: Vec<Session<P>>, room: Vec<P>) -> Vec<P>
     requires empty { vec_len room ≡ 0 }
     requires room { length sessions.items ≤ vec_capacity room }
@@ -156,7 +158,8 @@ fn end_all<R: Threads + Wait, P: Drop>(rt: &R, sessions: Vec<Session<P>>, room: 
     ended
 }
 
-/// Waits until a session of `serve` has ended, and returns its pass.
+/// Waits until a session of `serve` has ended, and returns its pass, which counts its changes and
+/// answers.
 fn pass_of<R: Threads + Wait, P>(rt: &R, session: Session<P>) -> P {
     match session {
         Session::Running(session) => session.join(rt),

@@ -42,8 +42,8 @@ pub trait SeatedSite {
     /// The pass that a seat keeps.
     type Pass;
 
-    /// Serves one connection of the server after another, each with the seat's pass, until no more
-    /// are sent. Returns the pass.
+    /// Serves one connection of the server after another in a seat, until no more come. Returns the
+    /// seat's pass, which counts their changes and answers.
     fn keep_seat(
         &self,
         jobs: Jobs<'_>,
@@ -98,7 +98,7 @@ pub fn keep_seat<R: Threads + Wait + Clock + Sync, W: World>(
 }
 
 /// Serves a client's connection in a seat of the server, from its handshake until it ends. Returns
-/// the pass.
+/// the seat's pass, which counts changes and answers.
 fn run_incoming<R: Threads + Wait + Clock + Sync, W: World>(
     seats: &Seats<R>,
     context: &Context<'_, W>,
@@ -183,8 +183,8 @@ fn limits() -> WebSocketConfig {
         .max_frame_size(Some(LONGEST_MESSAGE_BYTES))
 }
 
-/// Serves an admitted client's session after its handshake. A point's older connection is shut once
-/// this one has its link, and this one is shut once a later one has. Returns the pass.
+/// Serves an admitted client's session in a seat of the server, and returns the seat's pass. Of two
+/// connections of a point the older one is shut.
 fn run_admitted<R: Wait + Clock, W: World>(
     seats: &Seats<R>,
     context: &Context<'_, W>,

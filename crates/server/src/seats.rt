@@ -127,8 +127,8 @@ fn begin_writer<R: Wait + Threads + Eprint + Shareable>(
     }
 }
 
-/// Starts a seat of the server, which serves connections, for each pass. Returns the number of
-/// seats that have a thread.
+/// Starts a seat of the server, a thread that serves connections, for each pass, which counts the
+/// seat's changes and answers. Returns the number of started seats.
 fn begin_seats<R: Threads + Wait, S: SeatedSite<Pass = P> + Shareable, P: Send + Drop + 'static>(
     seats: &Seats<R>,
     site: &Arc<S, Global>,

@@ -22,7 +22,8 @@ pub(crate) struct SessionWatch<'a, R> {
 }
 
 impl<R: Wait + Clock> SessionWatch<'_, R> {
-    /// Records that a client's session has begun, for the status of the site and the log.
+    /// Records that a client's session has begun, for the status page of the site and the server's
+    /// lines on standard error.
     pub(crate) fn begin(&self, core: &SessionCore) {
         let seats = self.seats;
         seats.watch.begin(&seats.rt, self.link.is_some());
@@ -32,7 +33,8 @@ impl<R: Wait + Clock> SessionWatch<'_, R> {
         }
     }
 
-    /// Records how a client's session has ended, for the status of the site and the log.
+    /// Records how a client's session has ended, for the status page of the site and the server's
+    /// lines on standard error.
     pub(crate) fn end(&self, core: &SessionCore, ended: Ended) {
         let seats = self.seats;
         seats.watch.end(&seats.rt, self.link.is_some());
@@ -48,8 +50,8 @@ impl<R: Wait + Clock> SessionWatch<'_, R> {
         self.say(core, event);
     }
 
-    /// Records a message of a client's session, with its event, for the status of the site and the
-    /// log.
+    /// Records a message of a client's session, with its event, for the status page of the site and
+    /// the server's lines on standard error.
     pub(crate) fn hear<W: World>(
         &self,
         context: &Context<'_, W>,
@@ -80,7 +82,7 @@ impl<R: Wait + Clock> SessionWatch<'_, R> {
         }
     }
 
-    /// Records that a call was sent to the session's point, for the status of the site.
+    /// Records that a call was sent to the session's point, for the status page of the site.
     pub(crate) fn send(&self, call: SentCall) {
         if let Some(moment) = self.seats.clock.now() {
             self.see(Observation::Sent(SentMoment {
@@ -91,21 +93,22 @@ impl<R: Wait + Clock> SessionWatch<'_, R> {
         }
     }
 
-    /// Reports in the log the fault with which a request of the session's point was answered. An
-    /// operator sees the answer.
+    /// Reports on standard error the fault with which a request of the session's point was
+    /// answered. A fault in an operator's request isn't reported, since the operator sees the
+    /// answer.
     pub(crate) fn refuse(&self, core: &SessionCore, fault: CallFault) {
         if self.link.is_some() {
             self.say_made(core, answered_with(self.seats.alloc, fault));
         }
     }
 
-    /// Reports in the log that the call of this number has no reply from its point in time.
+    /// Reports on standard error that the call of this number has no reply from its point in time.
     pub(crate) fn give_up(&self, core: &SessionCore, call: u64) {
         self.say_made(core, without_reply(self.seats.alloc, call));
     }
 
-    /// Records when an operator's session last added a call to the point, for the status of the
-    /// site.
+    /// Records when an operator's session last added a call to the point, for the status page of
+    /// the site.
     fn see_calls<W: World>(&self, context: &Context<'_, W>, core: &SessionCore, moment: Instant) {
         let seats = self.seats;
         let book = context.shared.lock(context.rt);
@@ -121,8 +124,8 @@ impl<R: Wait + Clock> SessionWatch<'_, R> {
         }
     }
 
-    /// Records the BootNotification of the session's point, with the number of the first call that
-    /// it hadn't confirmed by then.
+    /// Records the BootNotification of the session's point for the status page, with the number of
+    /// the first call not confirmed by then. Reports the boot on standard error.
     fn hear_boot<W: World>(&self, context: &Context<'_, W>, core: &SessionCore, moment: Instant) {
         let book = context.shared.lock(context.rt);
         let first_call = match book.present().outbox_of(core.point_id().as_str()) {
@@ -134,8 +137,8 @@ impl<R: Wait + Clock> SessionWatch<'_, R> {
         self.say(core, Event::Booted);
     }
 
-    /// Records the point's reply to a call for the status of the site, and reports it in the log if
-    /// it is a rejection.
+    /// Records the point's reply to a call for the status page of the site, and reports a rejection
+    /// on standard error.
     fn hear_reply(&self, core: &SessionCore, reply: PointReply) {
         let seats = self.seats;
         let call = reply.call;
@@ -150,13 +153,14 @@ impl<R: Wait + Clock> SessionWatch<'_, R> {
         self.say_made(core, what);
     }
 
-    /// Adds an observation of the session's point to the status of the site.
+    /// Adds an observation of the session's point to the status of the site, which the status page
+    /// shows.
     fn see(&self, sighting: Observation) {
         let seats = self.seats;
         seats.watch.see(&seats.rt, self.place, sighting);
     }
 
-    /// Reports an event of the session's point in the log.
+    /// Reports an event of the session's point in a line on the server's standard error.
     fn say(&self, core: &SessionCore, event: Event) {
         let seats = self.seats;
         let who = core.point_id().as_str();
@@ -165,7 +169,8 @@ impl<R: Wait + Clock> SessionWatch<'_, R> {
             .say(&seats.rt, &seats.clock, who, event.name());
     }
 
-    /// Reports a text about the session's point in the log, if memory sufficed to make it.
+    /// Reports a text about the session's point on the server's standard error, if memory sufficed
+    /// to make the text.
     fn say_made(&self, core: &SessionCore, what: Result<String, AllocError>) {
         let seats = self.seats;
         let who = core.point_id().as_str();
@@ -186,7 +191,8 @@ enum Event {
 }
 
 impl Event {
-    /// Returns the words by which the log reports an event of a point's connection.
+    /// Returns the words for an event of a point's connection in the server's line on standard
+    /// error.
     fn name(self) -> &'static str {
         match self {
             Event::Connected => "connected",
@@ -200,8 +206,8 @@ impl Event {
     }
 }
 
-/// Returns a copy of the reason for which a point's reply rejects a call, or an empty text if it
-/// doesn't.
+/// Returns a copy of the reason for which a point's reply rejects a call, for a line on standard
+/// error. The text is empty if the reply doesn't.
 fn reason_of(alloc: Global, reply: &PointReply) -> Result<String, AllocError> {
     match &reply.rejection {
         Some(reason) => String::from_str(alloc, reason.as_str()),
@@ -209,13 +215,14 @@ fn reason_of(alloc: Global, reply: &PointReply) -> Result<String, AllocError> {
     }
 }
 
-/// Returns the log's text that a point hasn't replied to the call of this number in time.
+/// Returns the text of the server's line on standard error that a point hasn't replied to the call
+/// of this number in time.
 fn without_reply(alloc: Global, call: u64) -> Result<String, AllocError> {
     format!(in alloc; "call {call} has no reply in time: its connection is closed")
 }
 
-/// Returns the log's text that a point's request is answered with a fault: its code, and the field
-/// or the refusal.
+/// Returns the text of the server's line on standard error that a point's request is answered with
+/// a fault. It has the code, and the field or the refusal.
 fn answered_with(alloc: Global, fault: CallFault) -> Result<String, AllocError> {
     let (code, description) = (fault.code(), fault.description());
     if description.is_empty() {
@@ -225,7 +232,8 @@ fn answered_with(alloc: Global, fault: CallFault) -> Result<String, AllocError> 
     }
 }
 
-/// Returns the log's text that a point rejected a call: its number, its action and the reason.
+/// Returns the text of the server's line on standard error that a point rejected a call: its
+/// number, its action and the reason.
 fn rejected(
     alloc: Global,
     call: u64,

@@ -52,7 +52,8 @@ impl KeptBoots {
     }
 }
 
-/// Returns the identity of each point, at its place in the site, for the file of boots.
+/// Returns the identity of each point, at its index in the site, for the file in which `run` keeps
+/// the points' boots.
 fn identities(alloc: Global, site: &Site) -> Result<Vec<String>, AllocError> {
     let mut identities = Vec::new(alloc);
     for place in 0..site.len() {
@@ -74,8 +75,8 @@ impl BootKeeper for BootsFile {
     }
 }
 
-/// Returns the lines of the file of boots, one for each boot. The boots are in the order of the
-/// points.
+/// Returns the lines of the file in which `run` keeps the points' boots, one for each boot. The
+/// boots are in the order of the points.
 fn boot_lines(
     alloc: Global,
     points: &[String],

@@ -261,7 +261,7 @@ fn owned(alloc: Global, text: Option<&str>) -> Result<Option<String>, AllocError
     }
 }
 
-/// Starts the thread of `run` that writes lines for people about the journal.
+/// Starts the thread of `run` that writes lines for people about the journal to standard error.
 fn begin_lines<
     R: Eprint + AllocGlobal + Clock + Threads + Wait + Shareable,
     N: ListName + Shareable,
@@ -288,7 +288,7 @@ fn keep_boots<R: Clock + Threads + Wait + Shareable>(
     }
 }
 
-/// Prints the figures of the site that `run` restored from its journal.
+/// Prints to standard output the figures of the site that `run` restored from its journal.
 fn print_resumed<R: Print>(rt: &R, resumed: &Resumed) -> Result<(), ProgramFault> {
     let Resumed {
         points,

@@ -71,7 +71,7 @@ fn serve_listening<
     }
 }
 
-/// Prints the last line of `serve`: the numbers of changes and answers.
+/// Prints the last line of `serve` to standard output: the numbers of changes and answers.
 fn print_totals<R: Print>(rt: &R, totals: Totals) -> Result<(), ProgramFault> {
     match println!(rt;
         "done changes {} answers {}",

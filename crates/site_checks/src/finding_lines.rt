@@ -31,9 +31,8 @@ pub fn push_findings(
     Ok(())
 }
 
-/// Appends a line to the output of `check` for each finding in a script, with the point of its
-/// line. The findings are sorted by line. Equal ones in the points at the end, which come last,
-/// share a line.
+/// Appends to the output of `check` a line for each finding in a script of messages, with the point
+/// of its line. The findings are sorted by line, and equal ones at the end share a line.
 pub(crate) fn push_script_findings(
     page: &mut String,
     lines: &mut LinePoints<'_>,
@@ -54,7 +53,8 @@ pub(crate) fn push_script_findings(
     Ok(())
 }
 
-/// Appends a finding in a line of a script to the output of `check`, with the point of that line.
+/// Appends a finding in a line of a script of messages to the output of `check`, with the point
+/// that the line names.
 fn push_in_line(
     page: &mut String,
     lines: &mut LinePoints<'_>,
@@ -95,7 +95,8 @@ fn push_of_severity(
     Ok(())
 }
 
-/// Appends the line of a finding to the output of `check`, with the name of its source before it.
+/// Appends the line of a finding to the output of `check`, with the name of the checked file, or
+/// the word `script`, before it.
 fn push_finding(page: &mut String, name: &str, finding: &Finding) -> Result<(), AllocError> {
     match writeln!(page, "{name}: {finding}") {
         Ok(()) => Ok(()),
@@ -132,13 +133,14 @@ fn are_alike(finding: &Finding, other: &Finding) -> bool {
         && finding.message.as_str() == other.message.as_str()
 }
 
-/// Returns whether a finding is on a point of the site file, or on a point at the end of a script.
+/// Returns whether a finding of `check` is on a point of the site file, or on a point at the end of
+/// a script.
 fn is_on_point(finding: &Finding) -> bool {
     matches!(finding.place, Location::Point { .. } | Location::End(_))
 }
 
-/// Appends a finding to the output of `check`, with the last of the other points that have it, and
-/// the number of points.
+/// Appends a finding to the output of `check`. If later points have the same one, they share its
+/// line, which names the last of them and their number.
 fn push_counted(
     page: &mut String,
     name: &str,
@@ -166,8 +168,8 @@ fn push_counted(
     }
 }
 
-/// Returns the number of findings of `check` that are like this one, and the last of them, to write
-/// one line.
+/// Returns the number of findings of `check` with the same message as this one, and the last of
+/// them, to report all in one line.
 fn count_alike<'a>(finding: &'a Finding, others: &'a [Finding]) -> (usize, &'a Finding) {
     let mut count = 0usize;
     let mut last = finding;

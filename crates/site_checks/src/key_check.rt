@@ -45,7 +45,7 @@ pub fn find_in_keys(
     Ok(findings)
 }
 
-/// Makes a finding in a file of keys, of this severity and at this place.
+/// Makes a finding of `check` in a file of keys, of this severity and at this place.
 fn found_at(place: Location, severity: Severity, message: String) -> Finding {
     Finding {
         severity,
@@ -54,8 +54,8 @@ fn found_at(place: Location, severity: Severity, message: String) -> Finding {
     }
 }
 
-/// Returns the finding in a line of a file of keys: a fault, or the client that it lets in. A
-/// skipped line has none.
+/// Returns the finding of `check` in a line of a file of keys: a fault, or the client that the line
+/// lets in. A skipped line has none.
 fn found_in_line<'a>(
     alloc: Global,
     line: &'a [u8],
@@ -79,8 +79,8 @@ fn found_in_line<'a>(
     }
 }
 
-/// Returns the finding that a line of a file of keys lets in a client, a warning if the site lacks
-/// the point.
+/// Returns the finding of `check` that a line of a file of keys lets in a client. It is a warning
+/// if the site lacks the point.
 fn found_for_client<'a>(
     alloc: Global,
     role: &str,
@@ -101,7 +101,8 @@ fn found_for_client<'a>(
     })
 }
 
-/// Returns the role and the name in a line of a file of keys, or none if the line is skipped.
+/// Returns the role and the name of the client in a line of a file of keys, for `check`. A skipped
+/// line has none.
 fn user_of(line: &[u8]) -> Option<(&str, &str)> {
     let text = str::from_utf8(line).ok()?;
     if text.starts_with('#') {
@@ -112,7 +113,8 @@ fn user_of(line: &[u8]) -> Option<(&str, &str)> {
     Some((role, name))
 }
 
-/// Adds a warning for each point of the site that no line of a file of keys lets in.
+/// Adds to the findings of `check` a warning for each point of the site that no line of a file of
+/// keys lets in.
 fn find_left_out(
     alloc: Global,
     let_in: &[&str],

@@ -15,7 +15,8 @@ pub(crate) struct LinePoints<'a> {
 }
 
 impl<'a> LinePoints<'a> {
-    /// Begins at the first line of a script, to find the points of the lines with findings.
+    /// Begins at the first line of a script of messages, to find the points of the lines in which
+    /// `check` has findings.
     pub(crate) fn new(script: &'a [u8], site: &'a Site) -> LinePoints<'a> {
         LinePoints {
             site,
@@ -24,8 +25,8 @@ impl<'a> LinePoints<'a> {
         }
     }
 
-    /// Returns the identity of the point in a line of a script, or none if the line names no point
-    /// of the site. The line may not be before that of the last call.
+    /// Returns the identity of the point that a line of a checked script names, if the site has it.
+    /// The line may not be before that of the last call of this function.
     pub(crate) fn point_at(
         &mut self,
         alloc: Global,

@@ -6,12 +6,14 @@ use replay::{PlayedLine, PointChange, ScriptLine};
 use site_core::Machine;
 use std::alloc::{AllocError, Global};
 
-/// Returns the highest limit of the ChargePointMaxProfiles of the point of this identity, if any.
+/// Returns the fuse limit of the point of this identity, for a finding of `call`: the highest limit
+/// of its ChargePointMaxProfiles, if any.
 pub(crate) fn fuse_at(machine: &Machine, point: &str) -> Option<u32> {
     fuse_limit(machine.book_of(point)?)
 }
 
-/// Returns the identity of the point that a line of a script changed, if it changed one.
+/// Returns the identity of the point whose state a line of a checked script of messages changed, if
+/// it changed one.
 fn changed_point<'a>(played: &'a PlayedLine<'_>) -> Option<&'a str> {
     match &played.said {
         Some(Ok(ScriptLine::Text(sent))) if played.outcome.change != PointChange::Nothing => {
@@ -36,8 +38,8 @@ pub(crate) struct MaxProfileLimits {
 }
 
 impl MaxProfileLimits {
-    /// Begins before the first line of a script, without the fuse limit (ChargePointMaxProfile) of
-    /// any point.
+    /// Begins before the first line of a script that `check` plays. No point has a fuse limit
+    /// (ChargePointMaxProfile) yet.
     pub(crate) fn new(alloc: Global, machine: &Machine) -> Result<MaxProfileLimits, AllocError> {
         let mut fuses = Vec::new(alloc);
         for _place in 0..machine.site().len() {
@@ -49,8 +51,8 @@ impl MaxProfileLimits {
         Ok(MaxProfileLimits { fuses })
     }
 
-    /// Follows the effect of a script's line on the fuse limit of its point. Returns a remark if a
-    /// profile that replaces another one raised it.
+    /// Follows the effect of a line of the checked script on the fuse limit of its point. Returns a
+    /// remark if a profile that replaces another one raised the limit.
     pub(crate) fn follow(
         &mut self,
         alloc: Global,
@@ -80,8 +82,8 @@ impl MaxProfileLimits {
         check_raise(alloc, unit, played.number, before.limit, fuse.limit)
     }
 
-    /// Adds a remark for each point without a fuse limit at the end of a script, if most points
-    /// have one.
+    /// Adds to the findings of `check` a remark for each point without a fuse limit when the script
+    /// ends, if most points have one.
     pub(crate) fn find_unlimited(
         &self,
         alloc: Global,

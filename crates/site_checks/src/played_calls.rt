@@ -77,8 +77,8 @@ impl<'a> PlayedCalls<'a> {
     }
 }
 
-/// Plays the line of this number, which is a call after a script. Returns the findings in it, for
-/// `call`.
+/// Plays the line of this number, an operator's call that `call` put after the journal's script.
+/// Returns the findings in it, of which `call` reports the new ones to the operator.
 fn find_in_line(
     alloc: Global,
     trace: &mut Trace<'_>,

@@ -8,7 +8,8 @@ use show_pages::Trace;
 use site_core::Machine;
 use std::alloc::{AllocError, Global};
 
-/// Checks the line of a script that was played last. Adds the findings in its output to `printed`.
+/// Checks the line of a script of messages that was played last, for `check` or `call`. Adds the
+/// findings in the line's output to `printed`.
 pub(crate) fn find_in_played<'a>(
     alloc: Global,
     trace: &mut Trace<'a>,
@@ -22,7 +23,8 @@ pub(crate) fn find_in_played<'a>(
     trace.take_in(played)
 }
 
-/// Adds the findings in the changes of profiles by a script's lines from number `first` on.
+/// Adds to the findings of `check` or `call` those in the changes of profiles by a script's lines
+/// from number `first` on.
 pub(crate) fn find_in_changes(
     alloc: Global,
     trace: &Trace<'_>,
@@ -45,8 +47,8 @@ pub(crate) fn find_in_changes(
     Ok(())
 }
 
-/// Returns the findings in the profiles that the point of this identity has after the lines of a
-/// script.
+/// Returns the findings of `check` or `call` in the profiles that the point of this identity has
+/// after the lines that were played.
 pub(crate) fn find_at_point(
     alloc: Global,
     machine: &Machine,

@@ -60,7 +60,8 @@ pub fn push_played<R: Clock + Eprint>(
     Ok(findings)
 }
 
-/// Plays a script line by line for `check`. Returns the findings in its lines and in their output.
+/// Plays a script of messages line by line for `check`. Returns the findings in its lines and in
+/// their output.
 fn find_in_lines<R: Clock + Eprint>(
     rt: &R,
     alloc: Global,
@@ -88,7 +89,8 @@ fn find_in_lines<R: Clock + Eprint>(
     Ok(findings)
 }
 
-/// Adds the findings in the profiles that the points have when the script ends, for `check`.
+/// Adds to the findings of `check` those in the profiles that the points have when the script of
+/// messages ends.
 fn find_at_the_end(
     alloc: Global,
     trace: &Trace<'_>,
@@ -105,7 +107,8 @@ fn find_at_the_end(
     Ok(())
 }
 
-/// Adds a remark for each point that booted and may have forgotten its profiles.
+/// Adds to the findings of `check` a remark for each point that booted and may have forgotten its
+/// profiles.
 fn find_in_boots(
     alloc: Global,
     machine: &Machine,
@@ -123,7 +126,8 @@ fn find_in_boots(
     Ok(())
 }
 
-/// Returns whether the point of this identity may have forgotten its profiles in this boot.
+/// Returns whether the point of this identity may have forgotten its profiles in this boot, for a
+/// remark of `check`.
 fn may_forget(
     alloc: Global,
     machine: &Machine,

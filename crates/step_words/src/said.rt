@@ -48,8 +48,8 @@ pub fn said_of_answer(answer: &Result<Composite, Refusal>) -> Said {
     }
 }
 
-/// Returns the outcome of a step that asks for a point's status: the audit's outcome, and 1,000
-/// times the version plus the waiting calls.
+/// Returns the outcome of a step that asks for a point's status, in the tests' tables. That is its
+/// audit's outcome, and 1,000 times the version plus the waiting calls.
 fn said_of_status(status: PointStatus) -> Said {
     let thousands = status.version.wrapping_mul(1_000);
     (

@@ -92,8 +92,8 @@ impl<C: Ledger, A: Ledger> Sides<C, A> {
         }
     }
 
-    /// Returns the outcome of a step on the book. Compiles the schedule of a request that was
-    /// taken, and keeps a call that is sent.
+    /// Returns the outcome of a step on the book, for tests that compare it with the machine.
+    /// Compiles a taken request's schedule, and keeps a sent call.
     fn keep(&mut self, reply: Reply) -> Said
         requires { HasAskedConnector reply }
     {
@@ -114,8 +114,8 @@ impl<C: Ledger, A: Ledger> Sides<C, A> {
         }
     }
 
-    /// Keeps the answer compiled for the book's request of a number, if there is room. The spare
-    /// answer has the number 0.
+    /// Keeps the answer compiled for a request of the book, if there is room, for the tests' steps.
+    /// The spare answer has the number 0.
     fn put_back(&mut self, number: u64, compiled: Compiled) {
         if number == 0 {
             self.spare = Some(compiled);
@@ -124,8 +124,8 @@ impl<C: Ledger, A: Ledger> Sides<C, A> {
         }
     }
 
-    /// Removes and returns the answer compiled for the book's request of a number, or otherwise the
-    /// spare answer.
+    /// Removes and returns the answer compiled for a request of the book, or otherwise the spare
+    /// answer, for the tests' steps.
     fn take_out(&mut self, number: u64) -> Option<(u64, Compiled)> {
         match self.compiled.iter().position(|kept| kept.0 == number) {
             Some(place) => Some(self.compiled.remove(place)),
@@ -147,8 +147,8 @@ impl<C: Ledger, A: Ledger> Sides<C, A> {
         }
     }
 
-    /// Collects the book's answer to the request of a number, keeps it, and returns the outcome in
-    /// words.
+    /// Collects the book's answer to a request, in tests that make the same steps on a machine and
+    /// a book. Keeps the answer, and returns its outcome in words.
     fn collect(&mut self, number: u64) -> Said {
         match self.book.collect(&mut self.pass, number) {
             Ok(Some(answer)) => {
@@ -189,8 +189,8 @@ impl<C: Ledger, A: Ledger> Sides<C, A> {
         self.agreed(on_machine, said)
     }
 
-    /// Returns a step's outcome if the machine and the book had the same one and have the same
-    /// values since, otherwise the kind of difference.
+    /// Returns a step's outcome in a test if the machine and the book had the same one and have the
+    /// same values since. Otherwise returns the kind of difference.
     fn agreed(&self, on_machine: Said, said: Said) -> Said {
         if on_machine.0 != said.0 || on_machine.1 != said.1 {
             return ("the sides differ", None);
@@ -210,8 +210,8 @@ impl<C: Ledger, A: Ledger> Sides<C, A> {
             && self.is_one_at("CP2")
     }
 
-    /// Whether the machine and the book have the same number of calls and the same links for a
-    /// charge point.
+    /// Checks for the tests' steps whether the machine and the book have the same number of calls
+    /// and the same links for a charge point.
     fn is_one_at(&self, point: &str) -> bool {
         self.machine.outbox_len(point) == self.book.outbox_len(point)
             && self.machine.link_of(point) == self.book.link_of(point)
@@ -219,15 +219,15 @@ impl<C: Ledger, A: Ledger> Sides<C, A> {
     }
 }
 
-/// Makes the answer without a schedule to a request, if there is memory for a share of the point's
-/// book.
+/// Makes the answer without a schedule to a request, for the tests' steps, if there is memory for a
+/// share of the point's book.
 fn unmade(book: &Arc<PointBook>, ask: &Ask) -> Option<Compiled> {
     let share = Arc::try_clone(book).ok()?;
     Some(Compiled::unmade(share, *ask))
 }
 
-/// Whether a step had the outcome that the machine's outlook foresaw: an event, only an answer, or
-/// a refusal.
+/// Checks in a test whether a step had the outcome that the machine's outlook foresaw: an event,
+/// only an answer, or a refusal.
 fn is_foreseen(outlook: Result<bool, Refusal>, said: Said, is_event: bool) -> bool {
     match outlook {
         Ok(is_foreseen) => is_foreseen == is_event,

@@ -31,21 +31,22 @@ pub fn step_of(alloc: Global, line: &str) -> Result<Step, UnreadWords> {
     }
 }
 
-/// Parses the step that installs a charging profile at a point, from words such as
-/// `id=1 kind=Relative`.
+/// Parses the step that installs a charging profile at a point, from a line of the tests' tables
+/// such as `CP1 install id=1 kind=Relative`.
 fn install(alloc: Global, point: PointId, words: &str) -> Result<Step, UnreadWords> {
     let row = row_of(alloc, words)?;
     Ok(Step::Install { point, row })
 }
 
-/// Parses the step that clears a point's charging profiles by criteria, from words such as `id=1`.
+/// Parses the step that clears a point's charging profiles by criteria, from a line of the tests'
+/// tables such as `CP1 clear id=1`.
 fn clear(point: PointId, words: &str) -> Result<Step, UnreadWords> {
     let criteria = criteria_of(words)?;
     Ok(Step::Clear { point, criteria })
 }
 
-/// Parses the step that starts a transaction at a point, from its words: an idTag, a connector, and
-/// a second.
+/// Parses the step that starts a transaction at a point, from a line of the tests' tables: an
+/// idTag, a connector, and a second.
 fn start(alloc: Global, point: PointId, mut words: Words<'_>) -> Result<Step, UnreadWords> {
     let tag = words.word();
     let connector = words.number().unwrap_or(0);
@@ -57,8 +58,8 @@ fn start(alloc: Global, point: PointId, mut words: Words<'_>) -> Result<Step, Un
     })
 }
 
-/// Parses the step of a remote start at a point, from its words: an idTag, a connector, and those
-/// of a profile, if any.
+/// Parses the step of a remote start at a point, from a line of the tests' tables. Its words are an
+/// idTag, a connector, and those of a profile, if any.
 fn remote_start(alloc: Global, point: PointId, mut words: Words<'_>) -> Result<Step, UnreadWords> {
     let tag = words.word();
     let connector = words.number().unwrap_or(0);
@@ -72,8 +73,8 @@ fn remote_start(alloc: Global, point: PointId, mut words: Words<'_>) -> Result<S
     })
 }
 
-/// Parses the charging profile of a remote start from its words, or returns `None` if there are
-/// none.
+/// Parses the charging profile of a remote start, in a line of the tests' tables, or returns `None`
+/// if the line has none.
 fn profile_of(alloc: Global, words: &str) -> Result<Option<Profile>, UnreadWords> {
     if words.is_empty() {
         return Ok(None);
@@ -81,8 +82,8 @@ fn profile_of(alloc: Global, words: &str) -> Result<Option<Profile>, UnreadWords
     Ok(Some(row_of(alloc, words)?.profile))
 }
 
-/// Parses the step that requests a point's composite schedule, from its words: a connector, a
-/// start, a duration, and the version that was seen.
+/// Parses the step that requests a composite schedule, from a line of the tests' tables: a
+/// connector, a start, a duration, and the version seen.
 fn take(point: PointId, mut words: Words<'_>) -> Result<Step, UnreadWords> {
     let connector = words.number().unwrap_or(0);
     let start = instant_at(words.long().unwrap_or(0))?;
@@ -96,7 +97,7 @@ fn take(point: PointId, mut words: Words<'_>) -> Result<Step, UnreadWords> {
     }))
 }
 
-/// Makes a step of the central system whose words are numbers, such as `CP1 stop 1` or
+/// Makes a step from a line of the tests' tables whose words are numbers, such as `CP1 stop 1` or
 /// `- compile 1`.
 fn numbered_step(point: PointId, name: &str, mut words: Words<'_>) -> Result<Step, UnreadWords> {
     let first = words.long().unwrap_or(0);
@@ -118,8 +119,8 @@ fn numbered_step(point: PointId, name: &str, mut words: Words<'_>) -> Result<Ste
     }
 }
 
-/// Makes a step over a charge point's link, such as `CP1 send 2`, or one that names only a point,
-/// such as `CP1 attach`.
+/// Makes a step over a point's link from a line of the tests' tables, such as `CP1 send 2`. A line
+/// such as `CP1 attach` names only a point.
 fn link_step(point: PointId, name: &str, link: u64, call: u64) -> Result<Step, UnreadWords> {
     match name {
         "status" => Ok(Step::Status(point)),
@@ -132,7 +133,8 @@ fn link_step(point: PointId, name: &str, link: u64, call: u64) -> Result<Step, U
     }
 }
 
-/// Makes the step by which a charge point accepts or rejects a call over a link.
+/// Makes the step by which a charge point accepts or rejects a call over a link. A line of the
+/// tests' tables such as `CP1 confirm 2 0` says that.
 fn confirm(point: PointId, link: u64, call: u64, accepted: bool) -> Step {
     Step::Confirm {
         point,
@@ -159,8 +161,8 @@ pub fn judging(alloc: Global, job: &AuditJob, line: &str) -> Result<Step, Unread
     })
 }
 
-/// Parses a charge point's reply to an audit from the words of a line `judge`, `refuse` or
-/// `garble`.
+/// Parses a charge point's reply to an audit from the words of a line of the tests' tables,
+/// `judge`, `refuse` or `garble`.
 fn said_by_point(alloc: Global, name: &str, words: Words<'_>) -> Result<Said, UnreadWords> {
     match name {
         "judge" => schedule(alloc, words),
@@ -169,8 +171,8 @@ fn said_by_point(alloc: Global, name: &str, words: Words<'_>) -> Result<Said, Un
     }
 }
 
-/// Makes the schedule that a point reports to an audit: one limit from midnight on, in tenths of
-/// amperes.
+/// Makes the schedule with which a point replies to an audit, for a line `judge` of the tests'
+/// tables. It has one limit from midnight on, in tenths of amperes.
 fn schedule(alloc: Global, mut words: Words<'_>) -> Result<Said, UnreadWords> {
     let start = instant_at(0)?;
     let mut periods = Vec::new(alloc);

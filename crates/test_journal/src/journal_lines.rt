@@ -49,7 +49,8 @@ central journal 1 md5:e3b0c44298fc1c149afbf4c8996fb924|no digest of a site file
 central journal 1 sha256:E3b0c44298fc1c149afbf4c8996fb92427ae41e4649b934ca495991b7852b855|no digest of a site file
 central journal 1 sha256:e3b0c44298fc1c149afbf4c8996fb92427ae41e4649b934ca495991b7852b855 |no digest of a site file";
 
-/// Reads a line of a journal, and returns it as it is written again, or its fault.
+/// Reads a line of a journal, for the test of which texts are lines. Returns the line as it is
+/// written again, or its fault.
 fn line_again(rt: &impl Abort, alloc: Global, text: &[u8]) -> String {
     match read_bytes(text) {
         Ok(line) => {
@@ -61,7 +62,8 @@ fn line_again(rt: &impl Abort, alloc: Global, text: &[u8]) -> String {
     }
 }
 
-/// Reads the first line of a journal, and returns it as it is written again, or its fault.
+/// Reads the first line of a journal, for the test of which texts are first lines. Returns it as it
+/// is written again, or its fault.
 fn header_again(rt: &impl Abort, alloc: Global, text: &str) -> String {
     match read_header(text) {
         Ok(digest) => {
@@ -73,23 +75,23 @@ fn header_again(rt: &impl Abort, alloc: Global, text: &str) -> String {
     }
 }
 
-/// Checks what came of a text of a journal, read and written again, against its row: `=` wants the
-/// same text.
+/// Checks in a test of the journal's lines that a text, read and written again, is the wanted one.
+/// `=` wants the same text.
 fn as_wanted(rt: &impl Abort, again: &str, text: &str, wanted: &str) {
     let wanted = if wanted == "=" { text } else { wanted };
     same_text(rt, again.strip_suffix("\n").unwrap_or("-"), wanted, text);
 }
 
-/// Checks that the text of a row is read as a line of a journal and written again, or has the row's
-/// fault.
+/// Checks a row of the test of a journal's lines: its text is read as a line and written again, or
+/// has the row's fault.
 fn line_row(rt: &impl Abort, alloc: Global, row: &str) {
     let (text, wanted) = row.split_once('|').expect(rt, row);
     let again = line_again(rt, alloc, text.as_bytes());
     as_wanted(rt, again.as_str(), text, wanted);
 }
 
-/// Checks that the text of a row is read as a journal's first line and written again, or has the
-/// row's fault.
+/// Checks a row of the test of a journal's first lines: its text is read and written again, or has
+/// the row's fault.
 fn header_row(rt: &impl Abort, alloc: Global, row: &str) {
     let (text, wanted) = row.split_once('|').expect(rt, row);
     let again = header_again(rt, alloc, text);

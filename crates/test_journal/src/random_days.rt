@@ -54,26 +54,28 @@ struct Desk<C: Ledger, A: Ledger> {
 }
 
 impl<C: Ledger, A: Ledger> Desk<C, A> {
-    /// Returns a pseudorandom number below a limit, from which a random day of a site is made
-    /// (Knuth's MMIX generator).
+    /// Returns a pseudorandom number below a limit, for the test that restores books from journals
+    /// of random days (Knuth's MMIX generator).
     fn below(&mut self, limit: u64) -> u64 {
         let product = self.random.wrapping_mul(6_364_136_223_846_793_005);
         self.random = product.wrapping_add(1_442_695_040_888_963_407);
         (self.random >> 33) % limit.max(1)
     }
 
-    /// Returns the moment that a random day has come to, which each line of its journal begins
-    /// with.
+    /// Returns the moment that a random day has come to, for the next line of its journal, in the
+    /// test that restores random days.
     fn moment(&self, rt: &impl Abort) -> Instant {
         instant_at(self.seconds).expect(rt, "no instant")
     }
 
-    /// Copies a charge point's identity for a call on the book of a random day.
+    /// Copies a charge point's identity for a call on the book, in the test that restores random
+    /// days from their journals.
     fn id(&self, rt: &impl Abort, point: &str) -> PointId {
         PointId::copied(self.alloc, point).expect(rt, "error")
     }
 
-    /// Appends a line to the journal of a random day, whose step drew this number.
+    /// Appends a line to the journal of a random day, in the test that restores such days. `number`
+    /// is the number that the line's step drew.
     fn note(&mut self, rt: &impl Abort, point: &str, noted: Noted<'_>, number: u64) {
         let line = Line {
             moment: self.moment(rt),
@@ -87,8 +89,8 @@ impl<C: Ledger, A: Ledger> Desk<C, A> {
 
     // ---- messages
 
-    /// Handles a message of an operator or a charge point that requests a change of the book on a
-    /// random day.
+    /// Handles a message of an operator or a charge point that changes the book, in the test that
+    /// restores random days from their journals.
     fn message(&mut self, rt: &impl Abort, sender: Side, point: &str, frame: &str) {
         let text = SentText::new(self.moment(rt), sender, point, frame);
         match asked_of(self.alloc, &mut self.memory, &text).ok() {
@@ -97,8 +99,8 @@ impl<C: Ledger, A: Ledger> Desk<C, A> {
         }
     }
 
-    /// Makes the step of a message on the book of a random day, and notes it in the journal if it
-    /// changed something.
+    /// Makes the step of a message on the book, in the test that restores random days. Appends it
+    /// to the day's journal if it changed something.
     fn change(&mut self, rt: &impl Abort, text: &SentText<'_>, step: Step) {
         let noted = noted_by(&step, text.sender(), text.frame()).expect(rt, "a change");
         let Ok(reply) = self.book.make_step(&mut self.pass, step) else {
@@ -109,7 +111,8 @@ impl<C: Ledger, A: Ledger> Desk<C, A> {
         }
     }
 
-    /// Handles a charge point's reply to a call of the central system on a random day.
+    /// Handles a charge point's reply to a call of the central system, in the test that restores
+    /// random days from their journals.
     fn reply(&mut self, rt: &impl Abort, point: &str, frame: &str) {
         let text = SentText::new(self.moment(rt), Side::Point, point, frame);
         match asked_of(self.alloc, &mut self.memory, &text).ok() {
@@ -118,8 +121,8 @@ impl<C: Ledger, A: Ledger> Desk<C, A> {
         }
     }
 
-    /// Confirms a call over the link that the point has, notes the reply in the journal, and judges
-    /// it if the call was an audit.
+    /// Confirms a call over the point's link, in the test that restores random days, and appends
+    /// the reply to the journal. Then judges the reply to an audit.
     fn confirm(&mut self, rt: &impl Abort, text: &SentText<'_>, call: u64, accepted: bool) {
         let job = self.book.audit_job(text.point(), call).ok();
         let job = job.expect(rt, "error");
@@ -135,8 +138,9 @@ impl<C: Ledger, A: Ledger> Desk<C, A> {
         }
     }
 
-    /// Judges a point's reply to an audit, and notes the verdict in the journal. Sometimes the
-    /// point starts a transaction before that.
+    /// Compares a point's reply to an audit with its book's schedule, and appends the verdict to
+    /// the journal, in the test that restores random days. Sometimes a transaction starts before
+    /// that.
     fn judge(&mut self, rt: &impl Abort, text: &SentText<'_>, call: u64, job: AuditJob) {
         let said = said_of(self.alloc, &mut self.memory, text).expect(rt, "error");
         let judged = Judged::make(self.alloc, job, said);
@@ -151,8 +155,8 @@ impl<C: Ledger, A: Ledger> Desk<C, A> {
         }
     }
 
-    /// Returns the number for a mark in a message of a random day: a random one, a transaction, or
-    /// the call in flight.
+    /// Returns the number for a mark in a message, in the test that restores random days: random, a
+    /// transaction's, or the call in flight's.
     fn number_of(&mut self, point: &str, mark: char) -> u64 {
         match mark {
             '%' => self.below(3),
@@ -164,8 +168,8 @@ impl<C: Ledger, A: Ledger> Desk<C, A> {
         }
     }
 
-    /// Returns the number of the transaction at a point's connector 1, or 1 if there is none, for a
-    /// StopTransaction.
+    /// Returns the number of the transaction at a point's connector 1, or 1 without one, for a
+    /// StopTransaction in the test that restores random days.
     fn running(&self, point: &str) -> u64 {
         let Some(book) = self.book.present().book_of(point) else {
             return 1;
@@ -176,7 +180,8 @@ impl<C: Ledger, A: Ledger> Desk<C, A> {
         }
     }
 
-    /// Appends a character of a random day's OCPP-J message, or the text for a mark such as `%`.
+    /// Appends a character of an OCPP-J message, or the text for a mark such as `%`, in the test
+    /// that restores random days.
     fn push_filled(&mut self, rt: &impl Abort, text: &mut String, point: &str, mark: char) {
         match mark {
             '%' | '@' | '&' => {
@@ -188,7 +193,8 @@ impl<C: Ledger, A: Ledger> Desk<C, A> {
         }
     }
 
-    /// Returns the OCPP-J message of this form at a charge point, with marks such as `%` filled in.
+    /// Returns the OCPP-J message of a form at a charge point, with marks such as `%` filled in, in
+    /// the test that restores random days.
     fn frame_of(&mut self, rt: &impl Abort, point: &str, form: &str) -> String {
         let mut frame = String::new(self.alloc);
         for mark in form.chars() {
@@ -197,15 +203,15 @@ impl<C: Ledger, A: Ledger> Desk<C, A> {
         frame
     }
 
-    /// Handles a random StartTransaction of a charge point, which the journal of the random day
-    /// notes.
+    /// Handles a random StartTransaction of a charge point, in the test that restores random days
+    /// from their journals.
     fn start(&mut self, rt: &impl Abort, point: &str) {
         let frame = self.frame_of(rt, point, START);
         self.message(rt, Side::Point, point, frame.as_str());
     }
 
-    /// Handles a message of a random day at a charge point, made from a row of `MESSAGES`: an
-    /// operator's, the point's, or its reply.
+    /// Handles a message made from a row of `MESSAGES`, in the test that restores random days. It
+    /// is an operator's, the point's, or the point's reply.
     fn say(&mut self, rt: &impl Abort, point: &str, row: u64) {
         let row = MESSAGES.lines().nth(row as usize).expect(rt, "no row");
         let (sender, form) = row.split_once(' ').expect(rt, row);
@@ -219,8 +225,8 @@ impl<C: Ledger, A: Ledger> Desk<C, A> {
 
     // ---- events
 
-    /// Makes a random event of the day at a charge point: a message, a new or lost link, or a call
-    /// that is sent.
+    /// Makes a random event at a point, in the test that restores random days: a message, a new or
+    /// lost link, or a sent call.
     fn happen(&mut self, rt: &impl Abort) {
         self.seconds = self.seconds.saturating_add(self.below(20));
         let place = self.below(2) as usize;
@@ -233,8 +239,8 @@ impl<C: Ledger, A: Ledger> Desk<C, A> {
         }
     }
 
-    /// Gives the charge point a link, or ends the one that it has, and notes that in the journal of
-    /// the random day.
+    /// Gives a charge point a link, or ends the one that it has, in the test that restores random
+    /// days. Appends that to the journal.
     fn link(&mut self, rt: &impl Abort, point: &str) {
         let id = self.id(rt, point);
         match self.book.link_of(point) {
@@ -250,8 +256,8 @@ impl<C: Ledger, A: Ledger> Desk<C, A> {
         }
     }
 
-    /// Sends the charge point the call that is next, if one waits for its link, and notes that in
-    /// the journal.
+    /// Sends a charge point the next call if one waits for its link, in the test that restores
+    /// random days. Appends that to the journal.
     fn send(&mut self, rt: &impl Abort, point: &str) {
         let Some(link) = self.book.link_to_send(point) else {
             return;
@@ -265,7 +271,8 @@ impl<C: Ledger, A: Ledger> Desk<C, A> {
 
 // ---- days
 
-/// Makes a book of the test's site with an empty journal, for a random day of this seed.
+/// Makes a book of a small site with an empty journal, for a random day of this seed, in the test
+/// that restores random days.
 fn desk_of<C: Ledger, A: Ledger>(
     rt: &impl Abort,
     alloc: Global,
@@ -300,7 +307,8 @@ struct Day {
     state: Machine,
 }
 
-/// Makes a random day of 1,500 events at a site, and returns its journal and the state after it.
+/// Makes a random day of 1,500 events, for the test that restores books from journals. Returns the
+/// day's journal and the state after it.
 fn day_of<C: Ledger, A: Ledger>(
     rt: &impl Abort,
     alloc: Global,
@@ -322,8 +330,8 @@ fn day_of<C: Ledger, A: Ledger>(
     }
 }
 
-/// Restores a book from the journal of a random day, and checks that it has the state after that
-/// day.
+/// Restores a book from the journal of a random day, in a test of the journal. Checks that the book
+/// has the state after that day.
 fn restored<C: Ledger, A: Ledger>(
     rt: &impl Abort,
     alloc: Global,
@@ -348,8 +356,8 @@ fn restored<C: Ledger, A: Ledger>(
     }
 }
 
-/// Checks that a charge point is the same in the restored state and in the state after the random
-/// day.
+/// Checks in a test of the journal that a point is the same in the restored state and in the state
+/// after the random day.
 fn same_point(rt: &impl Abort, alloc: Global, found: &Machine, wanted: &Machine, point: &str) {
     let (seen, told) = (
         told_of(rt, alloc, found, point),
@@ -361,8 +369,8 @@ fn same_point(rt: &impl Abort, alloc: Global, found: &Machine, wanted: &Machine,
     holds(rt, found.same(wanted), "what the point has");
 }
 
-/// Returns the version and the state of a point after a random day: its calls, its link, its
-/// pending remote starts, and its audit.
+/// Returns the version and a point's calls, link, pending remote starts and audit as a text, for
+/// the test that restores random days.
 fn told_of(rt: &impl Abort, alloc: Global, state: &Machine, point: &str) -> String {
     let outbox = state.outbox_of(point).expect(rt, point);
     let (first, next) = (outbox.first_number(), outbox.next_number());
@@ -377,7 +385,8 @@ fn told_of(rt: &impl Abort, alloc: Global, state: &Machine, point: &str) -> Stri
     ).expect(rt, "error")
 }
 
-/// Makes a random day and restores it from its journal, with two books of this test alone.
+/// Makes a random day and restores a book from its journal, in a test of the journal. The two books
+/// are of this test alone.
 fn day_at_random(rt: &impl Abort, alloc: Global, seed: u64) {
     let (changes, answers) = (Blank::new(1), Blank::new(1));
     let day = day_of::<Brand, Brand>(rt, alloc, changes, answers, seed);

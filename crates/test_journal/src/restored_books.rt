@@ -19,8 +19,8 @@ const LINES: usize = 20;
 
 // ---- the outcome of a journal
 
-/// Restores a book from a journal, and returns the journal's number of lines or its fault as a
-/// text.
+/// Restores a book from a journal, in a test of that. Returns the journal's number of lines, or its
+/// fault, as a text.
 fn said_of<C: Ledger, A: Ledger>(
     rt: &impl Abort,
     alloc: Global,
@@ -35,7 +35,8 @@ fn said_of<C: Ledger, A: Ledger>(
     said.expect(rt, "error")
 }
 
-/// Returns the state of CP1 in the form of `STATES`, after a book is restored from a journal.
+/// Returns the state of CP1 in the form of `STATES`, after a test of the journal has restored a
+/// book.
 fn state_of<C: Ledger, A: Ledger>(rt: &impl Abort, alloc: Global, book: &Book<C, A>) -> String {
     let (version, waiting) = (book.version(), book.outbox_len("CP1"));
     let link = book.link_of("CP1").unwrap_or(0);
@@ -43,8 +44,8 @@ fn state_of<C: Ledger, A: Ledger>(rt: &impl Abort, alloc: Global, book: &Book<C,
     format!(in alloc; "{version} {waiting} {link} {sending}").expect(rt, "error")
 }
 
-/// Returns the number of changes that a restored book and its pass count, and the outcome of CP1's
-/// audit.
+/// Returns the changes that a restored book and its pass count, and the outcome of CP1's audit, in
+/// a test of the journal.
 fn counts_of<C: Ledger, A: Ledger>(
     rt: &impl Abort,
     alloc: Global,
@@ -57,8 +58,8 @@ fn counts_of<C: Ledger, A: Ledger>(
     format!(in alloc; "{all} {own} {}", status.audit.name()).expect(rt, "error")
 }
 
-/// Ends all links of a restored book, at a minute past midnight, and returns the lines that the
-/// journal gets for that.
+/// Ends all links of a restored book at a minute past midnight, in a test of the journal. Returns
+/// the lines that the journal gets for that.
 fn losses_of<C: Ledger, A: Ledger>(
     rt: &impl Abort,
     alloc: Global,
@@ -72,8 +73,8 @@ fn losses_of<C: Ledger, A: Ledger>(
     text
 }
 
-/// Restores a new book from a journal, and returns the result and the state. Then all links are
-/// lost, and the noted lines, the state and the counts follow.
+/// Restores a new book from a journal, in a test of that, and returns the result and the state.
+/// Then ends all links, and adds the journal's lines, the state and the counts.
 fn play<C: Ledger, A: Ledger>(
     rt: &impl Abort,
     alloc: Global,
@@ -97,14 +98,15 @@ fn play<C: Ledger, A: Ledger>(
     format!(in alloc; "{said}\n{state}\n{losses}{after} {counts}").expect(rt, "error")
 }
 
-/// Returns the outcome of a journal, as `play` does, for a restored book of this test alone.
+/// Returns the outcome of restoring a book of this test alone from a journal, as `play` does, for
+/// the tests of the journal.
 fn told(rt: &impl Abort, alloc: Global, journal: &str) -> String {
     let (changes, answers) = (Blank::new(1), Blank::new(1));
     play::<Brand, Brand>(rt, alloc, changes, answers, journal.as_bytes())
 }
 
-/// Checks that the outcome of restoring a book from a journal is the wanted text, or begins with
-/// it.
+/// Checks in a test of the journal that the outcome of restoring a book from this journal is the
+/// wanted text, or begins with it.
 fn expect_outcome(rt: &impl Abort, alloc: Global, journal: &str, wanted: &str) {
     let told = told(rt, alloc, journal);
     let begins = told.as_str().get(..wanted.len()).unwrap_or(told.as_str());
@@ -113,8 +115,8 @@ fn expect_outcome(rt: &impl Abort, alloc: Global, journal: &str, wanted: &str) {
 
 // ---- journals
 
-/// Returns the first lines of the journal written by hand, with `line` in place of the line of one
-/// number.
+/// Returns the first lines of the journal written by hand, for the tests of restoring books. `line`
+/// replaces the line of one number.
 fn journal_of(rt: &impl Abort, alloc: Global, lines: usize, changed: usize, line: &str) -> String {
     let mut journal = String::new(alloc);
     for (index, own) in JOURNAL.lines().enumerate().take(lines) {
@@ -125,8 +127,8 @@ fn journal_of(rt: &impl Abort, alloc: Global, lines: usize, changed: usize, line
     journal
 }
 
-/// Returns the outcome that restoring the first lines of the journal is to have, without the
-/// counts.
+/// Returns the wanted outcome, without the counts, of restoring a book from the journal's first
+/// lines, for the test that cuts the journal.
 fn wanted_behind(rt: &impl Abort, alloc: Global, lines: usize) -> String {
     let state = STATES.split(',').nth(lines).expect(rt, "no state");
     let (version, rest) = state.split_once(' ').expect(rt, state);
@@ -141,8 +143,8 @@ fn wanted_behind(rt: &impl Abort, alloc: Global, lines: usize) -> String {
     )
 }
 
-/// Checks that a book is restored from the first `lines` lines of the journal if the next one is
-/// torn.
+/// Checks in a test of the journal that a book is restored from its first `lines` lines if the next
+/// one is torn.
 fn cut_after(rt: &impl Abort, alloc: Global, lines: usize) {
     let mut journal = journal_of(rt, alloc, lines, 0, "");
     let torn = "2025-01-01T00:00:20Z lost CP1";
@@ -202,8 +204,8 @@ fn a_whole_journal_is_restored(rt: HostRuntime) {
     );
 }
 
-/// Checks that the restore of a journal with one changed line names the first line that doesn't
-/// fit.
+/// Checks a row of the test that changes one line of a journal: its restore names the first line
+/// that doesn't fit.
 fn changed(rt: &impl Abort, alloc: Global, row: &str) {
     let (number, row) = row.split_once('|').expect(rt, row);
     let (line, wanted) = row.split_once('|').expect(rt, row);
@@ -240,7 +242,8 @@ fn a_message_with_line_breaks_is_restored(rt: HostRuntime) {
     expect_outcome(&rt, alloc, journal.as_str(), "4 lines\n0 0 1 0\n");
 }
 
-/// Appends lines of the journal by which CP1 gets a link and loses it.
+/// Appends lines by which CP1 gets a link and loses it, for the test that restores a book from a
+/// long journal.
 fn push_links(rt: &impl Abort, alloc: Global, journal: &mut String, link: u64) {
     let lines = format!(in alloc;
         "2025-01-01T00:00:00Z attached CP1 {link}\n2025-01-01T00:00:00Z lost CP1 {link}\n"

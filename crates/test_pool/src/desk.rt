@@ -25,8 +25,8 @@ pub(crate) struct Desk<'a, 'j, 'g, C: Ledger, A: Ledger> {
 pub(crate) type Played<C, A> = (Pass<C, A>, String);
 
 impl<C: Ledger, A: Ledger> Desk<'_, '_, '_, C, A> {
-    /// Plays more lines of a session beside the pool of workers. `3* ask 0 1 60 = #` is a line that
-    /// is played three times, with the number of the time for `#`.
+    /// Plays lines of a session in a test of the workers' pool, and appends those with unexpected
+    /// results. `3* ask 0 1 60 = #` is played three times, numbered for `#`.
     pub(crate) fn play(&self, rt: &impl Wait, played: Played<C, A>, lines: &str) -> Played<C, A> {
         let (mut pass, mut wrong) = played;
         for line in lines.lines() {
@@ -43,8 +43,8 @@ impl<C: Ledger, A: Ledger> Desk<'_, '_, '_, C, A> {
         (pass, wrong)
     }
 
-    /// Plays a line of a session once, and returns the line with its result if that isn't an
-    /// expected one.
+    /// Plays a line of a session once, in a test of the workers' pool. Returns the line with its
+    /// result if that isn't an expected one.
     fn play_once(&self, rt: &impl Wait, pass: &mut Pass<C, A>, text: &str, time: u32) -> String {
         let text = numbered(self.alloc, text, time).unwrap_or(String::new(self.alloc));
         let (command, wanted) = text.as_str().split_once(" = ").unwrap_or(("", ""));
@@ -56,8 +56,8 @@ impl<C: Ledger, A: Ledger> Desk<'_, '_, '_, C, A> {
         wrong
     }
 
-    /// Makes a command of a session beside the workers. Returns its result: a number, which is 0 if
-    /// there is none, or a refusal.
+    /// Makes a command of a session in a test of the workers' pool. Returns its result: a number,
+    /// which is 0 if there is none, or a refusal.
     fn done(&self, rt: &impl Wait, pass: &mut Pass<C, A>, command: &str) -> Result<u64, Refusal> {
         let mut words = Words::of(command);
         match words.word() {
@@ -76,15 +76,16 @@ impl<C: Ledger, A: Ledger> Desk<'_, '_, '_, C, A> {
         }
     }
 
-    /// Stops the central system, and wakes all sessions that wait for an answer.
+    /// Stops the central system in a test of the workers' pool, and wakes all sessions that wait
+    /// for an answer.
     fn finish(&self, rt: &impl Wait) -> Result<u64, Refusal> {
         self.shared.lock(rt).finish();
         self.shared.wake();
         Ok(0)
     }
 
-    /// Installs the charging profile of a session's words at a point and a connector, in the book
-    /// that all sessions share.
+    /// Installs the charging profile of a line's words at a point and a connector, in a test of the
+    /// workers' pool. All sessions share the book.
     fn install(
         &self,
         rt: &impl Wait,
@@ -104,8 +105,8 @@ impl<C: Ledger, A: Ledger> Desk<'_, '_, '_, C, A> {
         }
     }
 
-    /// Starts a transaction at a point and a connector, in the book that all sessions share, and
-    /// returns its number.
+    /// Starts a transaction at a point and a connector, in a test of the workers' pool, and returns
+    /// its number. All sessions share the book.
     fn start(
         &self,
         rt: &impl Wait,
@@ -125,8 +126,8 @@ impl<C: Ledger, A: Ledger> Desk<'_, '_, '_, C, A> {
         }
     }
 
-    /// Takes a session's request for a connector's composite schedule, from midnight on, and
-    /// returns the job for a worker.
+    /// Takes a session's request for a connector's composite schedule, from midnight on, in a test
+    /// of the workers' pool. Returns the job for a worker.
     fn job(&self, rt: &impl Wait, pass: &mut Pass<C, A>, words: Words<'_>) -> Result<Job, Refusal> {
         let mut words = words;
         let point = PointId::copied(self.alloc, words.word())?;
@@ -139,8 +140,8 @@ impl<C: Ledger, A: Ledger> Desk<'_, '_, '_, C, A> {
         book.take(pass, point, connector, start, seconds, None)
     }
 
-    /// Takes a session's request for a composite schedule, sends its job to a worker, and returns
-    /// the request's number.
+    /// Takes a session's request for a composite schedule in a test of the workers' pool. Sends its
+    /// job to a worker, and returns the request's number.
     fn ask(&self, rt: &impl Wait, pass: &mut Pass<C, A>, words: Words<'_>) -> Result<u64, Refusal> {
         let job = self.job(rt, pass, words)?;
         let number = job.number();
@@ -150,8 +151,8 @@ impl<C: Ledger, A: Ledger> Desk<'_, '_, '_, C, A> {
         }
     }
 
-    /// Takes a session's request for a composite schedule, sends its job to a worker, and abandons
-    /// the request at once.
+    /// Takes a request for a composite schedule in a test of the workers' pool, sends its job, and
+    /// abandons the request at once.
     fn leave(
         &self,
         rt: &impl Wait,
@@ -169,8 +170,8 @@ impl<C: Ledger, A: Ledger> Desk<'_, '_, '_, C, A> {
         }
     }
 
-    /// Waits until a worker has answered the request of a number, and returns the tenths of the
-    /// schedule's first limit.
+    /// Waits in a test of the workers' pool until a worker has answered a request. Returns the
+    /// tenths of the schedule's first limit.
     fn answer(
         &self,
         rt: &impl Wait,
@@ -186,8 +187,8 @@ impl<C: Ledger, A: Ledger> Desk<'_, '_, '_, C, A> {
         }
     }
 
-    /// Returns 1 if the job of a request for a composite schedule is short for the pool of workers,
-    /// otherwise 0.
+    /// Returns 1 if the job of a request for a composite schedule is short, otherwise 0, in a test
+    /// of the workers' pool.
     fn is_short(
         &self,
         rt: &impl Wait,
@@ -198,8 +199,8 @@ impl<C: Ledger, A: Ledger> Desk<'_, '_, '_, C, A> {
         Ok(u64::from(short_work(&job).is_some()))
     }
 
-    /// Compiles a request for a composite schedule, and returns the number of evaluations of the
-    /// limit, which is its work.
+    /// Compiles a request for a composite schedule, in a test of which jobs are short. Returns the
+    /// number of evaluations of the limit, which is its work.
     fn turns(
         &self,
         rt: &impl Wait,
@@ -214,14 +215,15 @@ impl<C: Ledger, A: Ledger> Desk<'_, '_, '_, C, A> {
     }
 }
 
-/// Returns a session's line with a number for each `#`.
+/// Returns a line of a session with a number for each `#`, in a test of the workers' pool, or
+/// `None` without memory.
 fn numbered(alloc: Global, text: &str, number: u32) -> Option<String> {
     let number = format!(in alloc; "{number}").ok()?;
     text.replace(alloc, "#", number.as_str()).ok()
 }
 
-/// Whether the result of a session's command is one of those that its line expects, such as
-/// `320 or Stopped`.
+/// Checks in a test of the workers' pool whether a command's result is one of those that its line
+/// expects, such as `320 or Stopped`.
 fn is_one_of(found: Result<u64, Refusal>, wanted: &str) -> bool {
     for word in wanted.split(" or ") {
         let is_so = match found {

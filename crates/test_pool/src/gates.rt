@@ -23,8 +23,8 @@ pub(crate) struct HoldingGate {
 }
 
 impl HoldingGate {
-    /// Makes a closed gate before the workers that compile requests. `held` has an `h` for each
-    /// request that it holds up.
+    /// Makes the closed gate that holds up workers in the tests of their pool. `held` has an `h`
+    /// for each request that it holds up.
     pub(crate) fn new(held: &'static str) -> HoldingGate {
         HoldingGate {
             held,
@@ -35,13 +35,14 @@ impl HoldingGate {
         }
     }
 
-    /// Opens the gate, which lets the workers of all requests through.
+    /// Opens the gate that holds up workers in the tests of their pool, which lets the workers of
+    /// all requests through.
     pub(crate) fn open(&self) {
         self.opened.store(1, Ordering::SeqCst);
     }
 
-    /// Yields a thread up to this many turns, or until the gate before the workers is opened.
-    /// Returns whether it is.
+    /// Yields a thread up to this many turns, in a test of the workers' pool, until the gate that
+    /// holds up workers is opened. Returns whether it is.
     fn is_opened_within(&self, turns: u64) -> bool {
         for _turn in 0..turns {
             if self.opened.load(Ordering::SeqCst) != 0 {
@@ -52,9 +53,9 @@ impl HoldingGate {
         false
     }
 
-    /// Opens the gate or pauses, as a session's word says, or returns what it counts. It counts how
-    /// often a worker came to the gate, the requests that workers began, and whether one went on
-    /// before it was opened.
+    /// Opens the gate before the workers or pauses, as a session's line says in a test of their
+    /// pool, or returns a count. It counts how often workers came and began, and whether a worker
+    /// went on before the gate was opened.
     pub(crate) fn done(&self, word: &str) -> Result<u64, Refusal> {
         match word {
             "open" => self.open(),

@@ -11,8 +11,8 @@ use std::sync::Wait;
 use std::sync::ledger::Blank;
 use std::thread::Threads;
 
-/// Plays a story of sessions and workers on a book whose ledgers of changes and answers are of this
-/// test alone.
+/// Plays a story of sessions and workers in a test of the workers' pool. Its book's ledgers of
+/// changes and answers are of this test alone.
 fn played<R: Abort + Threads + Wait + Sync>(rt: &R, alloc: Global, story: &Story) {
     play::<Brand, Brand, R>(rt, alloc, Blank::new(3), Blank::new(3), story);
 }

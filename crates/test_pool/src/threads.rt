@@ -40,8 +40,8 @@ pub(crate) struct Story {
 /// Three sessions: the two beside the first one, and the first.
 type Sessions<C, A> = (Played<C, A>, Played<C, A>, Played<C, A>);
 
-/// Plays a story of three sessions beside a pool of workers, and checks the changes and answers
-/// that all sessions count.
+/// Plays a test's story of three sessions beside the workers' pool, and checks the changes and
+/// answers that all sessions count.
 pub(crate) fn play<
     C: Ledger + Send + Sync,
     A: Ledger + Send + Sync,
@@ -84,16 +84,16 @@ pub(crate) fn play<
     );
 }
 
-/// Checks that all lines of a session had the expected results, and keeps its pass, so that its
-/// counts are added to the others'.
+/// Checks in a test of the workers' pool that all lines of a session had the expected results.
+/// Keeps the session's pass, so that its counts are added up.
 fn keep<C: Ledger, A: Ledger>(rt: &impl Abort, passes: &mut Vec<Pass<C, A>>, played: Played<C, A>) {
     let (pass, wrong) = played;
     assert!(rt; wrong.is_empty(), "{wrong}");
     passes.push(pass).ok().expect(rt, "error");
 }
 
-/// Plays a story's sessions beside the pool of workers that compile schedules. Returns `None` if
-/// there isn't a thread for each.
+/// Plays a test's three sessions beside the workers' pool that compiles schedules. Returns `None`
+/// if there isn't a thread for each.
 fn beside_workers<'a, C: Ledger + Send + Sync, A: Ledger + Send + Sync, R: Threads + Wait + Sync>(
     rt: &R,
     alloc: Global,
@@ -142,8 +142,8 @@ fn beside_workers<'a, C: Ledger + Send + Sync, A: Ledger + Send + Sync, R: Threa
     )
 }
 
-/// Plays a story's first session on this thread beside the two others. At the end it opens the gate
-/// before the workers.
+/// Plays the first session of a test of the workers' pool on this thread, beside the two others. At
+/// the end it opens the gate before the workers.
 fn beside<C: Ledger + Send + Sync, A: Ledger + Send + Sync, R: Threads + Wait + Sync>(
     rt: &R,
     desk: &Desk<'_, '_, '_, C, A>,

@@ -16,8 +16,8 @@ impl MaskKeys for OneKey {
     }
 }
 
-/// Makes the WebSocket of a session's client, which reads these bytes of the server and writes to
-/// memory.
+/// Makes the WebSocket of a client in a test of sessions, which reads these bytes of the server and
+/// writes to memory.
 fn client_of<'a>(alloc: Global, bytes: &'a [u8]) -> WebSocket<Duplex<&'a [u8], Vec<u8>>, OneKey> {
     let stream = Duplex {
         reader: bytes,
@@ -26,8 +26,8 @@ fn client_of<'a>(alloc: Global, bytes: &'a [u8]) -> WebSocket<Duplex<&'a [u8], V
     WebSocket::from_raw_socket(alloc, stream, OneKey, Role::Client, None)
 }
 
-/// Returns the bytes of a session's client that sends the messages of these names, and a close
-/// frame for `close`. For `end` it sends nothing.
+/// Returns the bytes of a client in a test of sessions, which sends the messages of these names.
+/// `close` is a close frame, and `end` sends nothing.
 pub(crate) fn client_bytes(rt: &impl Abort, alloc: Global, names: &str) -> Vec<u8> {
     let mut socket = client_of(alloc, &[]);
     for name in names.split(' ') {
@@ -38,8 +38,8 @@ pub(crate) fn client_bytes(rt: &impl Abort, alloc: Global, names: &str) -> Vec<u
     socket.into_inner().writer
 }
 
-/// Makes the WebSocket message of a name that a session's client sends: a close frame for `close`,
-/// otherwise an OCPP-J text.
+/// Makes the WebSocket message of a name that a client sends in a test of sessions: a close frame
+/// for `close`, otherwise an OCPP-J text.
 fn message_of(rt: &impl Abort, alloc: Global, name: &str) -> Message {
     if name == "close" {
         return Message::Close(None);
@@ -47,15 +47,15 @@ fn message_of(rt: &impl Abort, alloc: Global, name: &str) -> Message {
     Message::text(alloc, text_of(name)).expect(rt, "error")
 }
 
-/// Returns the names of the messages that a session's client reads from a server's bytes. It reads
-/// them twice, in case an allocation of one reading is refused.
+/// Returns the names of the messages that a client reads from a server's bytes, in a test of
+/// sessions. Reads twice, in case an allocation is refused once.
 pub(crate) fn heard(alloc: Global, bytes: &[u8]) -> String {
     let (one, other) = (heard_once(alloc, bytes), heard_once(alloc, bytes));
     if one.len() < other.len() { other } else { one }
 }
 
-/// Returns the names of the messages that a session's client reads from a server's bytes, as far as
-/// memory suffices.
+/// Returns the names of the messages that a client reads from a server's bytes, in a test of
+/// sessions, as far as memory suffices.
 fn heard_once(alloc: Global, bytes: &[u8]) -> String {
     let mut socket = client_of(alloc, bytes);
     let mut names = String::new(alloc);

@@ -42,15 +42,15 @@ pub(crate) struct Tale<'a> {
     pub(crate) enough: &'a str,
 }
 
-/// Plays a story's lines, such as `operator 5 450 install ask close`: the client that is served;
-/// the calls after which its stream fails; the bytes of the client after which it ends; and the
-/// messages that the client sends. A session that is `watched`, or compiles a `small` request
-/// itself, gets the messages after `|` once it polls its stream. In a story with `|` no worker
-/// takes a job from the queue; in any other story jobs come back. `other` is a job of another
-/// session. `timeless` is an operator's session without a clock. Returns for each session how it
-/// ended, and the messages that its client read; then the changes and answers of the book, the
-/// calls that wait, the requests that are kept, and the jobs in the queue. A story whose results
-/// are `enough` ends there.
+/// Plays the lines of a story in a test of sessions, such as `operator 5 450 install ask close`:
+/// the client that is served; the calls after which its stream fails; the bytes of the client after
+/// which it ends; and the messages that the client sends. A session that is `watched`, or compiles
+/// a `small` request itself, gets the messages after `|` once it polls its stream. In a story with
+/// `|` no worker takes a job from the queue; in any other story jobs come back. `other` is a job of
+/// another session. `timeless` is an operator's session without a clock. Returns for each session
+/// how it ended, and the messages that its client read; then the changes and answers of the book,
+/// the calls that wait, the requests that are kept, and the jobs in the queue. A story whose
+/// results are `enough` ends there.
 pub(crate) fn play<C: Ledger, A: Ledger, R: Abort + Wait + Clock>(
     rt: &R,
     alloc: Global,
@@ -95,8 +95,8 @@ pub(crate) fn play<C: Ledger, A: Ledger, R: Abort + Wait + Clock>(
     found
 }
 
-/// Serves the session of a story's line over a WebSocket in memory, and appends how it ended and
-/// what its client read.
+/// Serves the session of a line of a story, in a test of sessions, over a WebSocket in memory.
+/// Appends how it ended and the names of the messages that its client read.
 fn play_line<C: Ledger, A: Ledger, R: Abort + Wait + Clock>(
     desk: &Desk<'_, C, A, R>,
     line: &str,
@@ -131,8 +131,8 @@ fn play_line<C: Ledger, A: Ledger, R: Abort + Wait + Clock>(
     pass
 }
 
-/// Serves a session of a point or of an operator over a WebSocket in memory, and returns how it
-/// ended.
+/// Serves a session of a point or of an operator over a WebSocket in memory, in a test of sessions.
+/// Returns how the session ended, if it did.
 fn serve<C: Ledger, A: Ledger, R: Abort + Wait + Clock>(
     desk: &Desk<'_, C, A, R>,
     who: &str,
@@ -154,8 +154,8 @@ fn serve<C: Ledger, A: Ledger, R: Abort + Wait + Clock>(
     }
 }
 
-/// Serves an operator's session over a stream that is polled, until no message comes or the session
-/// ends. Returns how it ended, if it did.
+/// Serves an operator's session over a polled stream, in a test of sessions, until no message comes
+/// or it ends. Returns how it ended, if it did.
 fn watch<C: Ledger, A: Ledger, R: Abort + Wait + Clock>(
     desk: &Desk<'_, C, A, R>,
     socket: WebSocket<Stream<'_>, NoMask>,
@@ -175,8 +175,8 @@ fn watch<C: Ledger, A: Ledger, R: Abort + Wait + Clock>(
     rt.panic("it goes on")
 }
 
-/// Takes a request of another session for a schedule, and sends its job, which fills the queue of
-/// the workers.
+/// Takes another session's request for a schedule, in a test of sessions without workers, and sends
+/// its job. That fills the workers' queue.
 fn send_other<C: Ledger, A: Ledger, R: Abort + Wait>(
     desk: &Desk<'_, C, A, R>,
     pass: Pass<C, A>,
@@ -193,8 +193,8 @@ fn send_other<C: Ledger, A: Ledger, R: Abort + Wait>(
     pass
 }
 
-/// Appends the counts of the book after a session of a story. Checks that its point has no link,
-/// and that the pass counts all of the book.
+/// Appends the counts of the book after a session, in a test of sessions. Checks that the point has
+/// no link, and that the pass counts all of the book.
 fn put_book<C: Ledger, A: Ledger, R: Abort + Wait>(
     desk: &Desk<'_, C, A, R>,
     jobs: &Sender<Job>,
@@ -217,8 +217,8 @@ fn put_book<C: Ledger, A: Ledger, R: Abort + Wait>(
     .expect(desk.rt, "error");
 }
 
-/// Returns the name of the way in which a session ended, or `open`, as the results of a story have
-/// it.
+/// Returns the name of the way in which a session ended, or `open`, for the expected results in the
+/// tests of sessions.
 fn name_of_end(ended: Option<Ended>) -> &'static str {
     match ended {
         None => "open",

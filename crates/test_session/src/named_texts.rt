@@ -17,8 +17,8 @@ moment [3,"1",{"currentTime":"2025-01-01T00:00:10Z"}]
 heartbeat-short [4,"1","InternalError","OutOfMemory",{}]
 clear [2,"0","ClearChargingProfile",{}]"#;
 
-/// Returns the OCPP-J message of a name in a story of sessions. Any other name is itself the text,
-/// which is no OCPP-J frame.
+/// Returns the OCPP-J message of a name, for a client in the tests of sessions. Any other name is
+/// itself the text, which is no OCPP-J frame.
 pub(crate) fn text_of(name: &str) -> &str {
     for line in TEXTS.lines() {
         let (its, text) = line.split_once(' ').unwrap_or((line, ""));
@@ -29,7 +29,7 @@ pub(crate) fn text_of(name: &str) -> &str {
     name
 }
 
-/// Returns the name of an OCPP-J message that a session's client read, or `unknown`.
+/// Returns the name of an OCPP-J message that a client read in a test of sessions, or `unknown`.
 pub(crate) fn name_of(text: &str) -> &'static str {
     for line in TEXTS.lines() {
         let (name, its) = line.split_once(' ').unwrap_or((line, ""));

@@ -9,7 +9,8 @@ use std::rt::Clock;
 use std::sync::Wait;
 use std::sync::ledger::Blank;
 
-/// Plays a story of sessions on a book of this test alone, and returns the results.
+/// Plays a story of sessions in a test, on a book of this test alone. Returns how they ended, the
+/// messages that their clients read, and the book's counts.
 fn played<R: Abort + Wait + Clock>(rt: &R, alloc: Global, story: &str, enough: &str) -> String {
     let tale = Tale { story, enough };
     play::<Brand, Brand, R>(rt, alloc, Blank::new(1), Blank::new(1), &tale)
@@ -64,8 +65,8 @@ broken moment clear/0 0 1 0 0;closed moment clear moment close/0 0 1 0 0;
 broken moment clear moment/0 0 1 0 0;closed moment clear moment close/0 0 1 0 0;
 closed moment clear moment close/0 0 1 0 0;closed moment clear moment close/0 0 1 0 0;";
 
-/// Plays a story of sessions with each number below `most` for `#`. Checks that the results are
-/// these rows, in this order, and that no row is missing.
+/// Plays a story in a test of sessions whose socket fails or ends, with each number below `most`
+/// for `#`. Checks that the results are exactly these rows, in this order.
 fn come_to(rt: &(impl Abort + Wait + Clock), alloc: Global, story: &str, most: u32, rows: &str) {
     let (mut row, mut left) = rows.split_once('\n').expect(rt, rows);
     for number in 0..most {
@@ -121,8 +122,8 @@ out-of-memory moment/0 0 1 0 0
 out-of-memory moment clear/0 0 1 0 0
 out-of-memory moment clear close/0 0 1 0 0";
 
-/// Plays two sessions. `tests/program.py` refuses an allocation of the first one. That comes to
-/// `whole`, or to a row of `short`, and then the next session has all that it needs.
+/// Plays two sessions in a test in which `tests/program.py` refuses an allocation. Checks for
+/// `whole`, or a row of `short` for the first session and a whole next one.
 fn may_be_refused(
     rt: &(impl Abort + Wait + Clock),
     alloc: Global,

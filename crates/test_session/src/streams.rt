@@ -17,7 +17,8 @@ pub(crate) struct Stream<'a> {
 }
 
 impl Stream<'_> {
-    /// Counts a call of a session's stream in memory, and fails if no call is left.
+    /// Counts a read or write of a stream in memory, in a test of sessions, and fails if none is
+    /// left.
     fn call(&mut self) -> io::Result<()> {
         if self.calls == 0 {
             return Err(io::Error::from(ErrorKind::BrokenPipe));

@@ -31,8 +31,8 @@ pub(crate) fn machine(rt: &impl Abort, alloc: Global) -> Machine {
     Machine::new(alloc, site).expect(rt, "error")
 }
 
-/// Returns the observations of a small site's points, for tests of the status port. The first
-/// booted, was sent call 0, and rejected it; there are none of the second.
+/// Returns the observations of a small site's points, for tests of the status port. The first point
+/// booted, was sent call 0, and rejected it; the second has none.
 pub(crate) fn news(rt: &impl Abort, alloc: Global) -> Vec<PointActivity> {
     let mut points = Vec::new(alloc);
     points.push(first_news(rt, alloc)).expect(rt, "error");
@@ -40,8 +40,8 @@ pub(crate) fn news(rt: &impl Abort, alloc: Global) -> Vec<PointActivity> {
     points
 }
 
-/// Returns the observations of the first point, for tests of the status port: it booted, was sent
-/// call 0, and rejected it.
+/// Returns the observations of a small site's first point, for tests of the status port: it booted,
+/// was sent call 0, and rejected it.
 fn first_news(rt: &impl Abort, alloc: Global) -> PointActivity {
     let mut news = PointActivity::new();
     news.see(Observation::Connected {
@@ -63,8 +63,8 @@ fn first_news(rt: &impl Abort, alloc: Global) -> PointActivity {
     news
 }
 
-/// Returns since when a call to each point waits, for tests of the status port. For the second no
-/// moment is known.
+/// Returns the moments since which a call to each point waits, for tests of the status port. For
+/// the second point no moment is known.
 pub(crate) fn waits(rt: &impl Abort) -> [Option<Instant>; 2] {
     [Some(at(rt, 5)), None]
 }

@@ -3,12 +3,14 @@
 
 use std::process::Abort;
 
-/// Checks that a text of the status port equals the wanted one, in a case of a test.
+/// Checks in a test of the status port that its text equals the wanted one. A failure names the
+/// case.
 pub(crate) fn same_text(rt: &impl Abort, found: &str, wanted: &str, case: &str) {
     assert!(rt; found == wanted, "{case}: {found}, wanted {wanted}");
 }
 
-/// Checks a fact about a text of the status port, in a case of a test.
+/// Checks in a test of the status port that a fact about its text is true. A failure names the
+/// case.
 pub(crate) fn holds(rt: &impl Abort, fact: bool, case: &str) {
     assert!(rt; fact, "{case}");
 }

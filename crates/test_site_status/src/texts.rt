@@ -49,13 +49,13 @@ const PARTS: &str = r#"<html lang="en">
 : no &lt;room&gt; &amp; &quot;none&quot; \ &#39;either&#39;
 <h2>CP2</h2>"#;
 
-/// Checks the status port's JSON of a small site against a text written by hand.
+/// Checks in a test that the status port's JSON of a small site is the text written by hand.
 fn state(rt: &impl Abort, alloc: Global, report: &SiteReport<'_>) {
     let text = state_json(alloc, report).expect(rt, "error");
     same_text(rt, text.as_str(), STATE, "the state");
 }
 
-/// Checks that the status port's metrics of a small site have the lines written by hand.
+/// Checks in a test that the status port's metrics of a small site have the lines written by hand.
 fn figures(rt: &impl Abort, alloc: Global, report: &SiteReport<'_>) {
     let text = metrics_text(alloc, report).expect(rt, "error");
     for sample in SAMPLES.lines() {
@@ -65,12 +65,13 @@ fn figures(rt: &impl Abort, alloc: Global, report: &SiteReport<'_>) {
     holds(rt, none, "none is in flight");
 }
 
-/// Checks that the status port's metrics have a line.
+/// Checks in a test of the status port's metrics that their text has this line.
 fn has_line(rt: &impl Abort, text: &str, wanted: &str) {
     holds(rt, text.lines().any(|line| line == wanted), wanted);
 }
 
-/// Checks that the status page of a small site has the parts written by hand.
+/// Checks in a test that the status page of a small site, which people read, has the parts written
+/// by hand.
 fn page(rt: &impl Abort, alloc: Global, report: &SiteReport<'_>) {
     let page = site_page(alloc, report, 1).expect(rt, "error");
     let page = page.expect(rt, "a page");
@@ -91,7 +92,8 @@ fn what_is_told_of_a_site(rt: HostRuntime) {
     page(&rt, alloc, &report);
 }
 
-/// Checks the body of the status port's answer with the health of a site.
+/// Checks in a test the body of the status port's answer to a client that asks for the health of a
+/// site.
 fn check_health_answer(rt: &impl Abort, alloc: Global, health: Health, body: &str) {
     let answer = health_answer(alloc, health).expect(rt, "error");
     same_text(rt, answer.body.as_str(), body, "its body");
