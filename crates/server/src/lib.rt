@@ -12,7 +12,7 @@ mod seats;
 mod serving;
 mod session_watch;
 
-pub use seat::{SeatedSite, keep_seat};
+pub use seat::keep_seat;
 pub use seats::{MAX_SEATS, SeatedBook, run_seats};
 pub use server_ports::{
     BootKeeper, PathPeer, SeatContext, SeatOptions, Seats, ServeFault, StatusPort, WatchedSite,

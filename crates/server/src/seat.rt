@@ -37,45 +37,6 @@ const READ_BYTES: usize = 2_048;
 /// The socket of a seat.
 type SeatSocket<'a, R> = WebSocket<IncomingStream<'a, R>, NoMask>;
 
-/// A site that seats serve.
-pub trait SeatedSite {
-    /// The pass that a seat keeps.
-    type Pass;
-
-    /// Serves one connection of the server after another in a seat, until no more come. Returns the
-    /// seat's pass, which counts their changes and answers.
-    fn keep_seat(
-        &self,
-        jobs: Jobs<'_>,
-        streams: &Receiver<TcpStream>,
-        pass: Self::Pass,
-    ) -> Self::Pass;
-}
-
-impl<C: Ledger, A: Ledger, R: Threads + Wait + Clock + Sync, J: Journal<N>, N: ListName> SeatedSite
-    for SeatContext<C, A, R, J, N> {
-    type Pass = Pass<C, A>;
-
-    fn keep_seat(
-        &self,
-        jobs: Jobs<'_>,
-        streams: &Receiver<TcpStream>,
-        pass: Pass<C, A>,
-    ) -> Pass<C, A> {
-        let seats: &Seats<R> = &self.seats;
-        let context: Context<'_, SeatWorld<C, A, R, J, N>> = Context {
-            rt: &seats.rt,
-            alloc: seats.alloc,
-            shared: &self.shared,
-            jobs,
-            clock: &seats.clock,
-            journal: &self.journal,
-            reading: &seats.reading,
-        };
-        keep_seat(seats, &context, streams, pass)
-    }
-}
-
 /// Serves one connection after another, each with the seat's pass, until no more are sent. Returns
 /// the pass, whose counters never decrease.
 pub fn keep_seat<R: Threads + Wait + Clock + Sync, W: World>(
@@ -95,6 +56,27 @@ pub fn keep_seat<R: Threads + Wait + Clock + Sync, W: World>(
         seats.free.add(&seats.rt);
     }
     unreachable!()
+}
+
+/// Returns the context of the sessions of a site's seat, with these channels to the workers.
+pub(crate) fn context_of<
+    's,
+    C: Ledger + 's,
+    A: Ledger + 's,
+    R: Wait + Clock + 's,
+    J: Journal<N> + 's,
+    N: ListName + 's,
+>(site: &'s SeatContext<C, A, R, J, N>, jobs: Jobs<'s>) -> Context<'s, SeatWorld<C, A, R, J, N>> {
+    let seats: &'s Seats<R> = &site.seats;
+    Context {
+        rt: &seats.rt,
+        alloc: seats.alloc,
+        shared: &site.shared,
+        jobs,
+        clock: &seats.clock,
+        journal: &site.journal,
+        reading: &seats.reading,
+    }
 }
 
 /// Serves a client's connection in a seat of the server, from its handshake until it ends. Returns

@@ -2,15 +2,13 @@
 
 ghost use Rattle.std.specs.Prelude.{◌≡◌, ◌≤◌, ◌+◌, true, IfOk, length};
 
-use crate::seat::SeatedSite;
+use crate::seat::{context_of, keep_seat};
 use crossbeam_channel::{Receiver, bounded};
 use ghost_list::{ListName, Unnamed};
-use server_ports::{
-    CompiledSite, JobSenders, Seats, ServeFault, accept_connections, begin_workers,
-};
+use journal::Journal;
+use server_ports::{JobSenders, SeatContext, Seats, ServeFault, accept_connections, begin_workers};
 use site_rules::Site;
 use std::alloc::{AllocError, Global};
-use std::marker::Send;
 use std::net::{TcpListener, TcpStream};
 use std::rt::Clock;
 use std::sync::ledger::{Blank, Ledger};
@@ -77,24 +75,26 @@ impl<C: Ledger, A: Ledger, N: ListName> SeatedBook<C, A, N> {
 /// long as the program does. Returns the number of seats: fewer than passes if a thread couldn't
 /// be made, but at least one.
 pub fn run_seats<
-    R: Threads + Wait + Clock + Eprint + Shareable,
-    S: CompiledSite + SeatedSite<Pass = P> + Shareable,
-    P: Send + Drop + 'static,
+    C: Ledger + Shareable,
+    A: Ledger + Shareable,
+    R: Threads + Wait + Clock + Eprint + Copy + Shareable,
+    J: Journal<N> + Shareable,
+    N: ListName + Shareable,
 >(
-    seats: &Arc<Seats<R>, Global>,
-    site: &Arc<S, Global>,
+    site: &Arc<SeatContext<C, A, R, J, N>, Global>,
     listener: TcpListener,
-    passes: Vec<P>,
+    passes: Vec<Pass<C, A>>,
     workers: usize,
 ) -> Result<usize, ServeFault>
     requires workers { 1 ≤ workers }
     ensures some { IfOk result (λ seats. 1 ≤ seats) }
     ensures at_most { IfOk result (λ seats. seats ≤ length passes.items) }
 {
+    let seats: &Arc<Seats<R>, Global> = &site.seats;
     let wanted = passes.len();
-    let jobs = begin_workers(&seats.rt, seats.alloc, site, workers)?;
+    let jobs = begin_workers(&*seats, &site.shared, workers)?;
     let (streams, queue) = bounded(seats.alloc, wanted)?;
-    let begun = begin_seats(seats, site, &jobs, &queue, passes)?;
+    let begun = begin_seats(site, &jobs, &queue, passes)?;
     if begun == 0 {
         return Err(ServeFault::OutOfMemory);
     }
@@ -129,20 +129,25 @@ fn begin_writer<R: Wait + Threads + Eprint + Shareable>(
 
 /// Starts a seat of the server, a thread that serves connections, for each pass, which counts the
 /// seat's changes and answers. Returns the number of started seats.
-fn begin_seats<R: Threads + Wait, S: SeatedSite<Pass = P> + Shareable, P: Send + Drop + 'static>(
-    seats: &Seats<R>,
-    site: &Arc<S, Global>,
+fn begin_seats<
+    C: Ledger + Shareable,
+    A: Ledger + Shareable,
+    R: Threads + Wait + Clock + Copy + Shareable,
+    J: Journal<N> + Shareable,
+    N: ListName + Shareable,
+>(
+    site: &Arc<SeatContext<C, A, R, J, N>, Global>,
     jobs: &JobSenders,
     queue: &Receiver<TcpStream>,
-    passes: Vec<P>,
+    passes: Vec<Pass<C, A>>,
 ) -> Result<usize, ServeFault>
     ensures { IfOk result (λ seats. seats ≤ length passes.items) }
 {
     let mut begun = 0usize;
     for pass in passes {
-        if begin_seat(&seats.rt, site, jobs, queue, pass)? {
+        if begin_seat(site, jobs, queue, pass)? {
             // The seat counts as free before the first connection is accepted.
-            seats.free.add(&seats.rt);
+            site.seats.free.add(&site.seats.rt);
             begun += 1;
         }
     }
@@ -151,17 +156,25 @@ fn begin_seats<R: Threads + Wait, S: SeatedSite<Pass = P> + Shareable, P: Send +
 
 /// Starts a seat of the server: a thread that serves connections from this queue. Returns false if
 /// no thread can be made for it.
-fn begin_seat<R: Threads, S: SeatedSite<Pass = P> + Shareable, P: Send + Drop + 'static>(
-    rt: &R,
-    site: &Arc<S, Global>,
+fn begin_seat<
+    C: Ledger + Shareable,
+    A: Ledger + Shareable,
+    R: Threads + Wait + Clock + Copy + Shareable,
+    J: Journal<N> + Shareable,
+    N: ListName + Shareable,
+>(
+    site: &Arc<SeatContext<C, A, R, J, N>, Global>,
     jobs: &JobSenders,
     queue: &Receiver<TcpStream>,
-    pass: P,
+    pass: Pass<C, A>,
 ) -> Result<bool, ServeFault> {
     let own = Arc::try_clone(site)?;
     let (jobs, queue) = (jobs.share()?, queue.clone()?);
     let seat = thread::Builder::new()
         .stack_size(SEAT_STACK)
-        .spawn(rt, move || own.keep_seat(jobs.jobs(), &queue, pass));
+        .spawn(&site.seats.rt, move || {
+            let context = context_of(&own, jobs.jobs());
+            keep_seat(&own.seats, &context, &queue, pass)
+        });
     Ok(seat.is_ok())
 }

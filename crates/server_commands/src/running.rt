@@ -222,7 +222,7 @@ fn run_counted<
     site.resume_boots(boots.boots.as_slice())?;
     keep_boots(&site.seats, boots.file)?;
     port.watch(&site)?;
-    if let Err(fault) = run_seats(&site.seats, &site, listener, seats, workers as usize) {
+    if let Err(fault) = run_seats(&site, listener, seats, workers as usize) {
         return Err(stop_of(fault));
     }
     if println!(rt; "listening {listen}").is_err() {

@@ -34,4 +34,4 @@ pub use seats::{SeatOptions, Seats};
 pub use serve_fault::ServeFault;
 pub use status_port::{StatusPort, begin_status};
 pub use watched_site::WatchedSite;
-pub use workers::{CompiledSite, JobSenders, begin_workers};
+pub use workers::{JobSenders, begin_workers};
