@@ -128,6 +128,7 @@ def figures_that_follow(program):
             expect("a transaction", [entry["connectorId"] for entry in point_of(running)["transactions"]], [1])
             expect("whether an idTag is told", "a card" in get(running, "/state.json")[2], False)
             expect("an unknown action", point.texts_of(call("u", "Vendor")), [error("u", "NotImplemented")])
+            expect("a reply that confirms no call", point.texts_of(accepted("99")), [])
             for faulty in ("f", "g"):  # said once a minute
                 wanted = [error(faulty, "PropertyConstraintViolation", "UnknownConnector")]
                 expect("a faulty start", point.texts_of(start(faulty, connector=9)), wanted)

@@ -31,7 +31,8 @@ pub struct AnswerLines<'a, W: Write> {
 }
 
 impl<W: Write> AnswerLines<'_, W> {
-    /// Writes a message that arrived for the operator's client as a line of output.
+    /// Writes a message from the central system to an operator as a line of `central call`'s
+    /// output.
     fn write(&mut self, text: &str) -> Result<(), ClientFault> {
         let start = self.start;
         match writeln!(self.writer, "{start}{text}").and_then(|()| self.writer.flush()) {
@@ -90,8 +91,8 @@ impl<S: Read + Write + OpenStream + Drop, K: MaskKeys + Drop> OperatorClient<S, 
     }
 }
 
-/// Returns the id of the CALL that an operator is to send, even of a malformed one: the central
-/// system answers that.
+/// Returns the id of the CALL that `central call` is to send for an operator, even of a malformed
+/// one: the central system answers that.
 fn id_of_call(memory: &mut ReadingMemory, text: &str) -> Result<Option<MessageId>, ClientFault> {
     match read_frame(memory, text) {
         Ok(Frame::Call { id, .. }) => Ok(Some(id)),

@@ -55,8 +55,8 @@ impl<R: Read + Drop> Lines<R> {
         str::from_utf8(self.bytes()).ok()
     }
 
-    /// Returns the bytes of the line of standard input read last, without its LF and a CR before
-    /// it.
+    /// Returns the bytes of the line that a client command read last from standard input, without
+    /// its LF and a CR before it.
     fn bytes(&self) -> &[u8] {
         let line = self.line.as_slice();
         let line = line.strip_suffix(b"\n").unwrap_or(line);

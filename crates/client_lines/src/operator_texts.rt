@@ -57,14 +57,14 @@ pub fn status_call(alloc: Global) -> Result<String, AllocError> {
 }
 
 /// Returns the payload of an operator's GetCompositeSchedule or AuditPoint, by the connector and
-/// the seconds of an option.
+/// the seconds of an option of `central call`.
 fn payload_of(alloc: Global, connector: &str, seconds: &str) -> Result<String, AllocError> {
     let (connector, seconds) = (json_number(connector), json_number(seconds));
     format!(in alloc; "{{\"connectorId\":{connector},\"duration\":{seconds}}}")
 }
 
-/// Returns a whole number of an option as JSON writes it in an operator's call. The command line
-/// also accepts `+1` and `007`.
+/// Returns a whole number of an option of `central call` as JSON writes it in an operator's call.
+/// The command line also accepts `+1` and `007`.
 fn json_number(number: &str) -> &str {
     match number.trim_start_matches('+').trim_start_matches('0') {
         "" => "0",

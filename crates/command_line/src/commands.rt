@@ -39,7 +39,7 @@ fn with_served<'a>(alloc: Global, command: Command<'a>) -> Result<Command<'a>, A
     with_command(alloc, command, point())
 }
 
-/// Adds the commands of the command line that read a script or a journal.
+/// Adds the commands of the command line that read a script of messages or a journal.
 fn with_readers<'a>(alloc: Global, command: Command<'a>) -> Result<Command<'a>, AllocError>
     ensures { IfOk result (λ added. app_of added ≡ with_readers (app_of command.entry)) }
 {

@@ -75,8 +75,8 @@ fn job_named<'a>(name: &str, given: &ArgMatches<'a>) -> Option<Job<'a>>
     reader_named(name, given)
 }
 
-/// Returns the job of a subcommand of the command line that reads a script or a journal, and prints
-/// its content.
+/// Returns the job of a subcommand of the command line that reads a script of messages or a
+/// journal, such as `replay` or `explain`.
 fn reader_named<'a>(name: &str, given: &ArgMatches<'a>) -> Option<Job<'a>>
     ensures { IfSome result (λ job. IsJob name.now (rows_of (found_of given.now)) job) }
 {
@@ -91,7 +91,8 @@ fn reader_named<'a>(name: &str, given: &ArgMatches<'a>) -> Option<Job<'a>>
     page_named(name, given)
 }
 
-/// Returns the job of a subcommand of the command line that prints a page for people.
+/// Returns the job of `explain`, `check` or `show`, the subcommands of the command line that print
+/// a page.
 fn page_named<'a>(name: &str, given: &ArgMatches<'a>) -> Option<Job<'a>>
     ensures { IfSome result (λ job. IsJob name.now (rows_of (found_of given.now)) job) }
 {
@@ -236,8 +237,8 @@ fn starting_of<'a>(given: &ArgMatches<'a>) -> Option<Option<Starting<'a>>>
     }
 }
 
-/// Returns the connector and the seconds in the two values of an option of `call`, if it is given.
-/// None if there aren't two.
+/// Returns the connector and the seconds of `--ask` or `--audit` of `call`, if the option is given.
+/// None if it doesn't have two values.
 fn asking_of<'a>(given: &ArgMatches<'a>, option: &str) -> Option<Option<Asking<'a>>>
     ensures { IfSome result
         (λ asking. IsAsking (all_of option.now (rows_of (found_of given.now))) asking) }
@@ -325,8 +326,8 @@ fn showing_of<'a>(given: &ArgMatches<'a>) -> Option<Showing<'a>>
     })
 }
 
-/// Returns the source of the script that a command reads, by `--data` and `--script`. None if both
-/// options name one.
+/// Returns the source of the script of messages that a command reads: `--data`, `--script` or else
+/// standard input. None if both options are given.
 fn source_of<'a>(given: &ArgMatches<'a>) -> Option<Source<'a>>
     ensures { IfSome result (λ source. IsSource (rows_of (found_of given.now)) source) }
 {
@@ -339,7 +340,7 @@ fn source_of<'a>(given: &ArgMatches<'a>) -> Option<Source<'a>>
     }
 }
 
-/// Returns whether both `--data` and `--script` name a script for a command.
+/// Returns whether both `--data` and `--script` name a script of messages for a command.
 fn has_two_scripts(given: &ArgMatches<'_>) -> bool
     ensures { result ≡ has_two_scripts (rows_of (found_of given.now)) }
 {

@@ -27,8 +27,8 @@ pub fn short_work(job: &Job) -> Option<u64>
     }
 }
 
-/// Returns the work of compiling a request for a composite schedule of a book, if it is that of a
-/// short job.
+/// Returns the work of compiling a request for a composite schedule of a point's book, if that
+/// makes a short job for the workers.
 fn short_work_of(book: &PointBook, ask: &Ask) -> Option<u64>
     ensures work { IfSome result (λ work. work ≡ work_of (state_of book.now) ask.now) }
     ensures short { IfSome result (λ work. work_of (state_of book.now) ask.now ≤ most_of_short) }
@@ -37,8 +37,9 @@ fn short_work_of(book: &PointBook, ask: &Ask) -> Option<u64>
     work_within(&book.view(), ask, MOST_OF_SHORT)
 }
 
-/// Returns the work of compiling a request for a composite schedule if it is at most `most`. Each
-/// row's work is taken from the rest, so that no sum grows large.
+/// Returns the work of compiling a request for a composite schedule if it is at most `most`. The
+/// work for each installed profile's row is taken from what is left of `most`, so that no sum grows
+/// large.
 fn work_within(view: &View<'_>, ask: &Ask, most: u64) -> Option<u64>
     requires few { length view.now.starts.now < 2 ^ 32 }
     ensures work { IfSome result (λ work. work ≡ work_of (point_state view.now) ask.now) }
@@ -73,8 +74,8 @@ fn active_count(starts: &[Option<Instant>]) -> u32
     count
 }
 
-/// Returns how many limits of a composite schedule may read a row at a connector, if `active`
-/// connectors have a transaction.
+/// Returns how many limits of a composite schedule may read a charging profile's row at a
+/// connector, if `active` connectors have a transaction.
 fn looks_at(active: u32, asked: u32, connector: u32) -> u64
     ensures looks { result ≡ looks_at active asked connector }
     ensures few { result ≤ 4_294_967_296 }
@@ -90,7 +91,7 @@ fn looks_at(active: u32, asked: u32, connector: u32) -> u64
 }
 
 /// Returns how often the limit of a charging profile's row can change within `duration` seconds, at
-/// most.
+/// most, to find the work of a worker's job.
 fn changes_of(row: &Row, duration: u32) -> u64
     requires { duration ≤ max_duration }
     ensures changes { result ≡ changes_of row.now duration }
@@ -101,7 +102,7 @@ fn changes_of(row: &Row, duration: u32) -> u64
 }
 
 /// Returns how often a charging schedule of a kind can reach the same offset within `duration`
-/// seconds.
+/// seconds, to find the work of a worker's job.
 fn turns_within(kind: Kind, duration: u32) -> u64
     requires { duration ≤ max_duration }
     ensures turns { result ≡ turns_within kind duration }

@@ -53,13 +53,15 @@ pub(crate) fn push_time(out: &mut Page, second: u64, with_seconds: bool) {
     }
 }
 
-/// Appends the last two digits of a number, in a time of day or an offset from UTC.
+/// Appends to a page of `explain` the last two digits of a number, in a time of day or an offset
+/// from UTC.
 pub(crate) fn push_two_digits(out: &mut Page, number: u64) {
     push_digit(out, number / 10 % 10);
     push_digit(out, number % 10);
 }
 
-/// Appends the last digit of a number, in a time of day or an offset from UTC.
+/// Appends to a page of `explain` the last digit of a number, in a time of day or an offset from
+/// UTC.
 fn push_digit(out: &mut Page, digit: u64) {
     let digit = char::from_digit((digit % 10) as u32, 10);
     out.push(digit.unwrap_or('0'));

@@ -171,8 +171,9 @@ fn push_time_tick(out: &mut Page, x: u64, moment: u64, step: u64) {
     out.push_str("</text>\n");
 }
 
-/// Appends to the time axis of `explain`'s picture the date at the start of the request, and at
-/// each midnight in it. In more than 8 days only each second or fourth midnight has one.
+/// Appends to the time axis of `explain`'s picture the dates at the request's start and at each
+/// midnight in it, where there is room. In more than 8 days only each second or fourth midnight has
+/// one.
 fn push_dates(alloc: Global, out: &mut Page, explained: &ExplainedRequest<'_>, scale: Scale) {
     let (start, end) = (explained.moment(0), explained.end());
     let step = u64::from(date_step(explained.ask.duration).max(1));

@@ -20,8 +20,8 @@ use recurrence::{next_change, rate_at};
 const END_OF_TIME: u64 = LAST_SECOND + 1;
 
 impl RowAtConnector<'_> {
-    /// Returns whether a charging profile's row is installed at another connector, which is a
-    /// reason why it doesn't prevail.
+    /// Returns whether a profile's row is installed at another connector, which is a reason that
+    /// `explain` gives for a profile that doesn't prevail.
     pub(crate) fn is_elsewhere(&self) -> bool
         ensures { result ≡ is_elsewhere self.now.row.now.profile.purpose self.now.at
             self.now.row.now.connector }
@@ -34,8 +34,8 @@ impl RowAtConnector<'_> {
         }
     }
 
-    /// Returns whether a charging profile's row needs a transaction and there is none, which is a
-    /// reason why it doesn't prevail.
+    /// Returns whether a profile's row needs a transaction and there is none, which is a reason
+    /// that `explain` gives for a profile that doesn't prevail.
     pub(crate) fn lacks_transaction(&self) -> bool
         ensures { result
             ≡ lacks_transaction (point_state self.now.view) self.now.at self.now.row.now }
@@ -44,8 +44,8 @@ impl RowAtConnector<'_> {
             && self.view.active_since(self.at).is_none()
     }
 
-    /// Returns whether the row is a TxDefaultProfile of connector 0, and the connector has one of
-    /// its own at the same stack level.
+    /// Returns whether the row that `explain` checks is a TxDefaultProfile of connector 0, and the
+    /// connector has its own at the same stack level.
     pub(crate) fn is_hidden(&self) -> bool
         ensures { result ≡ true
             → is_hidden (point_state self.now.view) self.now.at self.now.row.now ≡ true }
@@ -56,8 +56,8 @@ impl RowAtConnector<'_> {
             && !is_candidate(Purpose::TxDefaultProfile, self.view.rows, self.at, self.row)
     }
 
-    /// Returns the instant from which a charging profile's row counts its seconds if it has no
-    /// start of its own.
+    /// Returns the instant from which `explain` counts the seconds of a charging profile's row that
+    /// has no start of its own.
     pub(crate) fn base_of(&self, row: &Row) -> Instant
         ensures { result ≡ base row.now (active_since (point_state self.now.view) self.now.at)
             self.now.ask.start }
@@ -65,7 +65,8 @@ impl RowAtConnector<'_> {
         row.base(self.view.active_since(self.at), self.ask.start)
     }
 
-    /// Returns the instant at which the charging schedule of the row's profile begins.
+    /// Returns the instant at which the charging schedule of the profile that `explain` checks
+    /// begins.
     pub(crate) fn anchor(&self) -> Instant
         ensures { result ≡ anchor self.now.row.now.profile (base self.now.row.now
             (active_since (point_state self.now.view) self.now.at) self.now.ask.start) }
@@ -73,8 +74,8 @@ impl RowAtConnector<'_> {
         self.row.profile.anchor(self.base_of(self.row))
     }
 
-    /// Returns until when the schedule of the row's charging profile remains past its duration, if
-    /// it is past it at an instant.
+    /// Returns until when the schedule of the profile that `explain` checks remains past its
+    /// duration, if it is past it at an instant.
     pub(crate) fn over_until(&self, instant: Instant) -> Option<u64>
         ensures { IfSome result (IsSoUntil (Holds PastDuration self.now) instant) }
     {
@@ -88,8 +89,8 @@ impl RowAtConnector<'_> {
         Some(counts_on_until(profile, base, instant, offset))
     }
 
-    /// Returns until when none of the periods of the row's charging profile has begun, if none has
-    /// at an instant.
+    /// Returns until when none of the periods of the profile that `explain` checks has begun, if
+    /// none has at an instant.
     pub(crate) fn ahead_until(&self, instant: Instant) -> Option<u64>
         ensures { IfSome result (IsSoUntil (Holds BeforeFirstPeriod self.now) instant) }
     {
@@ -110,8 +111,8 @@ impl RowAtConnector<'_> {
         }
     }
 
-    /// Returns until when a profile of the row's purpose with a higher stack level has a limit, and
-    /// so takes precedence, if one has.
+    /// Returns until when a profile of the same purpose and a higher stack level takes precedence
+    /// over the one that `explain` checks, if one does.
     pub(crate) fn above_until(&self, instant: Instant) -> Option<u64>
         ensures { IfSome result (IsSoUntil (Holds BelowHigherLevel self.now) instant) }
     {
@@ -119,8 +120,8 @@ impl RowAtConnector<'_> {
         self.other_until(profile.purpose, profile.stack_level + 1, instant)
     }
 
-    /// Returns until when a TxProfile has a limit, and so takes precedence, if the row is a
-    /// TxDefaultProfile and one has.
+    /// Returns until when a TxProfile takes precedence over the row that `explain` checks, if the
+    /// row is a TxDefaultProfile and a TxProfile has a limit.
     pub(crate) fn tx_until(&self, instant: Instant) -> Option<u64>
         ensures { IfSome result (IsSoUntil (Holds BehindTxProfile self.now) instant) }
     {
@@ -131,7 +132,7 @@ impl RowAtConnector<'_> {
     }
 
     /// Returns until when a profile of a purpose at the stack level `least` or above has a limit,
-    /// and may take precedence, if one has.
+    /// if one has. It may take precedence over the row that `explain` checks.
     fn other_until(&self, purpose: Purpose, least: u32, instant: Instant) -> Option<u64>
         ensures { IfSome result (IsSoUntil (λ k. Reaches least (prevailing_row purpose
             (point_state self.now.view) self.now.at self.now.ask.start k)) instant) }
@@ -153,16 +154,16 @@ impl RowAtConnector<'_> {
     }
 }
 
-/// Returns until when a reason why a profile doesn't prevail holds: to the end of time for one that
-/// always holds, and `None` for one that never does.
+/// Returns until when a reason that `explain` may give holds: to the end of time if it always
+/// holds, and `None` if it never does.
 pub(crate) fn always(holds: bool) -> Option<u64>
     ensures { result ≡ (if holds then Some (last_second + 1) else None) }
 {
     if holds { Some(END_OF_TIME) } else { None }
 }
 
-/// Returns the seconds of a profile's `validFrom` or schedule start if that is still to come: until
-/// then the profile doesn't prevail.
+/// Returns the seconds of a profile's `validFrom` or schedule start if that is still to come. Until
+/// then `explain` may give this as the reason.
 pub(crate) fn before(bound: Option<Instant>, instant: Instant) -> Option<u64>
     ensures { IfSome result (λ until. (instant < until) × (bound ≡ Some until)) }
 {
@@ -175,7 +176,7 @@ pub(crate) fn before(bound: Option<Instant>, instant: Instant) -> Option<u64>
 }
 
 /// Returns until when a charging profile keeps the limit that it has at an instant, or keeps having
-/// none.
+/// none, for `explain`'s reasons.
 pub(crate) fn rate_until(profile: &Profile, base: Instant, instant: Instant) -> u64
     ensures { IsSoUntil
         (λ k. rate profile.now base k ≡ rate profile.now base instant) instant result }
@@ -186,8 +187,8 @@ pub(crate) fn rate_until(profile: &Profile, base: Instant, instant: Instant) -> 
     }
 }
 
-/// Returns an instant until which a charging profile that has a limit now keeps having one. It may
-/// have one for longer.
+/// Returns, for `explain`'s reasons, an instant until which a charging profile that has a limit now
+/// keeps having one. It may have one for longer.
 fn limit_until(profile: &Profile, base: Instant, instant: Instant) -> u64
     requires { is_some (rate profile.now base instant) ≡ true }
     ensures { IsSoUntil (λ k. is_some (rate profile.now base k) ≡ true) instant result }
@@ -200,8 +201,8 @@ fn limit_until(profile: &Profile, base: Instant, instant: Instant) -> u64
     rate_until(profile, base, instant)
 }
 
-/// Returns the end of the validity of a charging profile that is valid at an instant: its
-/// `validTo`, or the end of time.
+/// Returns, for `explain`'s reasons, the end of the validity of a profile that is valid at an
+/// instant: its `validTo`, or the end of time.
 fn valid_until(profile: &Profile, instant: Instant) -> u64
     requires { is_before instant profile.now.valid_to ≡ true }
     ensures { IsSoUntil (λ k. is_before k profile.now.valid_to ≡ true) instant result }
@@ -212,8 +213,8 @@ fn valid_until(profile: &Profile, instant: Instant) -> u64
     }
 }
 
-/// Returns until when a charging schedule counts on from the offset that it has at an instant. A
-/// recurring one then begins again.
+/// Returns, for `explain`'s reasons, until when a charging schedule counts on from the offset that
+/// it has at an instant. A recurring one then begins again.
 fn counts_on_until(profile: &Profile, base: Instant, instant: Instant, at: u64) -> u64
     requires { offset profile.now base instant ≡ Some at }
     ensures { IsSoUntil

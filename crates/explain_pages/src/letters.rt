@@ -57,8 +57,8 @@ fn above(scale: Scale, limit: u32) -> u64 {
     scale.y(limit).saturating_sub(6)
 }
 
-/// Returns the first free spot for a letter of `explain`'s picture beside a spot: to its right, or
-/// to its left in the right half.
+/// Returns the first free spot for a letter of `explain`'s picture, from a spot on to the right, or
+/// to the left in the right half.
 fn free_spot(spots: &[(u64, u64)], spot: (u64, u64)) -> Option<(u64, u64)> {
     // Two lines may begin at one point. A letter that finds no free spot is only in the legend.
     let (mut x, y) = spot;

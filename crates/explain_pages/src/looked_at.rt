@@ -33,8 +33,8 @@ impl RowInRequest<'_> {
         None
     }
 
-    /// Returns the first second at which a reason why a profile never sets the limit fails, for the
-    /// first connector where it does.
+    /// Returns the first second at which a reason that `explain` may give for a profile fails, for
+    /// the first connector where it does.
     pub(crate) fn first_failing(&self, reason: NotCountedReason) -> Option<Instant>
         ensures { FoundFailing reason self.now result }
     {
@@ -56,7 +56,8 @@ impl RowInRequest<'_> {
     }
 
     /// Returns whether a reason why a profile never sets the limit holds at each second of the
-    /// request, for each connector. If `BehindOthers` doesn't, the row prevails at some second.
+    /// explained request, for each connector. If `BehindOthers` doesn't, the row prevails at some
+    /// second.
     pub(crate) fn is_throughout(&self, reason: NotCountedReason) -> bool
         ensures { MatchBool result (IsThroughout reason self.now) (FailsSomewhere reason self.now) }
     {
@@ -82,8 +83,8 @@ impl RowInRequest<'_> {
         }
     }
 
-    /// Returns whether the row of a profile that never sets the limit is checked for one connector
-    /// alone.
+    /// Returns whether `explain` checks the row of a profile that never sets the limit for one
+    /// connector alone.
     fn is_of_one(&self) -> bool
         ensures { result ≡ is_of_one self.now.ask.connector self.now.row.now }
     {

@@ -199,8 +199,8 @@ enum Layout {
 }
 
 impl Layout {
-    /// Returns the first layout of `explain`'s table in which a bar has its minimum width, or else
-    /// paragraphs.
+    /// Returns the layout of `explain`'s table: plain if no width is given, or else the first in
+    /// which a bar has its minimum width, or paragraphs.
     fn of(bare: Widths, columns: Option<usize>) -> Layout {
         let Some(columns) = columns else {
             return Layout::Plain;

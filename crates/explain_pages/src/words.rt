@@ -82,7 +82,8 @@ pub fn push_limit(out: &mut Page, tenths: u32, unit: Unit) {
     out.push_str(unit_name(unit));
 }
 
-/// Returns a limit in tenths as a number with one decimal: `16.0`.
+/// Returns a limit in tenths as a number with one decimal, `16.0`, for `explain`'s pages and the
+/// status page.
 fn tenths_text(alloc: Global, tenths: u32) -> Result<String, AllocError> {
     let mut text = String::new(alloc);
     push_tenths(&mut text, tenths)?;
@@ -120,7 +121,8 @@ pub fn push_profile(out: &mut Page, profile: PrevailingProfile) {
     write!(out, ", stack level {level}, at connector {connector}");
 }
 
-/// Appends a charging profile by its purpose and id alone: `TxDefaultProfile 1`.
+/// Appends a charging profile by its purpose and id alone, `TxDefaultProfile 1`, to `explain`'s
+/// pages or the status page.
 fn push_short_profile(out: &mut Page, profile: PrevailingProfile) {
     let (purpose, id) = (purpose_name(profile.purpose), profile.id);
     write!(out, "{purpose} {id}");
@@ -165,7 +167,8 @@ pub fn push_why(out: &mut Page, reason: &Reason, unit: Unit) {
     }
 }
 
-/// Appends a share of a summed limit with its cause: `connector 1 10.0 A by TxProfile 4`.
+/// Appends a share of a summed limit to `explain`'s pages or the status page, with its cause:
+/// `connector 1 10.0 A by TxProfile 4`.
 fn push_share(out: &mut Page, share: &Share, unit: Unit) {
     let connector = share.connector;
     write!(out, "connector {connector} ");

@@ -116,8 +116,8 @@ pub fn sort_by_line(findings: &mut Vec<Finding>) -> Result<(), AllocError> {
     findings.sort_by_key(|finding| line_of(&finding.place))
 }
 
-/// Returns the script's line of a finding, or a number below or above all lines, to sort findings
-/// by it.
+/// Returns a finding's line in the script that `central check` plays, or a number below or above
+/// all lines, to sort findings by it.
 fn line_of(place: &Location) -> u64 {
     match place {
         Location::Line(number) => *number,

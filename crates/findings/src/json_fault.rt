@@ -88,7 +88,8 @@ pub fn json_fault_text(alloc: Global, fault: &JsonFault) -> Result<String, Alloc
     Ok(text)
 }
 
-/// Returns whether the character at which a text stops being JSON is visible in print.
+/// Returns whether a character is visible in print, in a message of `central check` about a text
+/// that isn't JSON.
 // A no-break space looks like a space, and a byte order mark like nothing: their codes are printed.
 fn is_printable(character: char) -> bool {
     match character {
@@ -97,7 +98,8 @@ fn is_printable(character: char) -> bool {
     }
 }
 
-/// Returns the cure of a common mistake at the character where a text stops being JSON.
+/// Returns the cure of a common mistake at the character where a text stops being JSON, for a
+/// message of `central check`.
 fn hint_of(fault: &JsonFault) -> Option<&'static str> {
     match (fault.wanted, fault.found?) {
         (ExpectedToken::NextValue, ']') | (ExpectedToken::NextName, '}') => Some(

@@ -70,7 +70,8 @@ pub fn outline_of(alloc: Global, text: &str) -> Result<Outline, AllocError> {
 }
 
 impl Outline {
-    /// Adds the token of a JSON text that begins at an offset to the text's outline.
+    /// Takes the token that begins at an offset, for the outline of a message whose fields
+    /// `central check` checks.
     fn take(&mut self, start: usize, token: Token<'_>) -> Result<(), AllocError> {
         match token {
             Token::BeginObject => self.begin_parts(true),
@@ -90,7 +91,8 @@ impl Outline {
         }
     }
 
-    /// Opens an object or a list of a JSON text, and adds it to the text's outline.
+    /// Opens an object or a list of a message, and adds it to the message's outline for
+    /// `central check`.
     fn begin_parts(&mut self, is_object: bool) -> Result<(), AllocError> {
         let part = self.parts.len();
         self.add_part()?;
@@ -102,8 +104,8 @@ impl Outline {
         Ok(())
     }
 
-    /// Adds a value of a JSON text that is no object or list to the text's outline. One in a list
-    /// is only counted.
+    /// Adds a value of a message that is no object or list to the message's outline for
+    /// `central check`. One in a list is only counted.
     // The checks read the names of members; a list of numbers has none, and may be long.
     fn add_scalar(&mut self) -> Result<(), AllocError> {
         match self.open.last() {
@@ -115,8 +117,8 @@ impl Outline {
         }
     }
 
-    /// Adds the value of a JSON text that begins to the text's outline, with its parent and its
-    /// name or index.
+    /// Adds the JSON value that begins to a message's outline for `central check`, with its parent
+    /// and its name or index.
     fn add_part(&mut self) -> Result<(), AllocError> {
         let name = self.name;
         let part = match self.open.last() {
@@ -138,8 +140,8 @@ impl Outline {
         Ok(())
     }
 
-    /// Counts an entry of the innermost list of a JSON text, so that each part in a list has its
-    /// index.
+    /// Counts an entry of the innermost list in a message's outline for `central check`, so that
+    /// each part in a list has its index.
     fn count_entry(&mut self) {
         if let Some(open) = self.open.last_mut() {
             open.entries = open.entries.saturating_add(1);

@@ -30,8 +30,8 @@ pub fn is_similar(alloc: Global, found: &str, name: &str) -> Result<bool, AllocE
     Ok(distance_to(alloc, found, name)?.is_some())
 }
 
-/// Returns the number of letters by which a misspelled name differs from a similar one, 0 if only
-/// their case differs. None if they aren't similar.
+/// Returns by how many letters a misspelled name differs from one that `central check` may suggest,
+/// 0 if only in case. `None` if they are equal or aren't similar.
 fn distance_to(alloc: Global, found: &str, name: &str) -> Result<Option<usize>, AllocError> {
     if found == name || found.len() > MAX_COMPARED || name.len() > MAX_COMPARED {
         return Ok(None);

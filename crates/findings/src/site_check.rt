@@ -80,7 +80,7 @@ fn check_site_text(alloc: Global, text: &str) -> Result<Vec<Finding>, AllocError
     Ok(findings)
 }
 
-/// Returns whether a site file is JSON, so that a tree can be read from it.
+/// Returns for `central check` whether a site file is JSON, so that a tree can be read from it.
 fn is_json(alloc: Global, text: &str, marked: &str) -> Result<bool, AllocError> {
     match verdict_on(alloc, marked)? {
         JsonVerdict::Json => Ok(true),
@@ -127,7 +127,8 @@ fn not_an_object(alloc: Global, value: Glance<'_>) -> Result<Finding, AllocError
     Ok(site_fault(SiteFault::NotAnObject, message))
 }
 
-/// Reads the members of a site file's object: the unit, and the points, which it checks.
+/// Reads for `central check` the unit and the points in a site file's object, and checks each
+/// point.
 fn read_fields<'a>(
     alloc: Global,
     names: &SiteNames<'_>,

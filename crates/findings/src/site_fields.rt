@@ -98,7 +98,8 @@ pub(crate) fn site_names(alloc: Global, text: &str) -> Result<SiteNames<'_>, All
 }
 
 impl<'text> Walk<'text> {
-    /// Begins before the first token of a site file, to find its unknown and duplicate fields.
+    /// Begins before the first token of a site file, to find its unknown and duplicate fields for
+    /// `central check`.
     fn new(alloc: Global, text: &'text str) -> Walk<'text> {
         Walk {
             alloc,
@@ -115,7 +116,7 @@ impl<'text> Walk<'text> {
     }
 
     /// Takes the token of a site file that begins at an offset, to find unknown and duplicate
-    /// fields.
+    /// fields for `central check`.
     fn take(&mut self, start: usize, token: Token<'_>) -> Result<(), AllocError> {
         match token {
             Token::BeginObject => {
@@ -144,7 +145,8 @@ impl<'text> Walk<'text> {
         }
     }
 
-    /// Returns the role of the object that begins in a site file: the site, a point or another.
+    /// Returns the role, for `central check`, of the object that begins in a site file: the site, a
+    /// point or another.
     fn object_that_begins(&self) -> Owner {
         match self.open.last() {
             None => Owner::Site,
@@ -155,7 +157,8 @@ impl<'text> Walk<'text> {
         }
     }
 
-    /// Returns the role of the list that begins in a site file: the list of points or another.
+    /// Returns the role, for `central check`, of the list that begins in a site file: the list of
+    /// points or another.
     fn list_that_begins(&self) -> Owner {
         let Some(open) = self.open.last() else {
             return Owner::Other;
@@ -166,7 +169,8 @@ impl<'text> Walk<'text> {
         }
     }
 
-    /// Opens an object or a list of a site file, with the role that decides its known fields.
+    /// Opens an object or a list of a site file for `central check`, with the role that decides its
+    /// known fields.
     fn begin(&mut self, owner: Owner) -> Result<(), AllocError> {
         self.count_entry();
         self.open.push(OpenPart {
@@ -177,14 +181,16 @@ impl<'text> Walk<'text> {
         Ok(())
     }
 
-    /// Counts an entry of the innermost list in a site file, so that each point has its index.
+    /// Counts an entry of the innermost list in a site file for `central check`, so that each point
+    /// has its index.
     fn count_entry(&mut self) {
         if let Some(open) = self.open.last_mut() {
             open.entries = open.entries.saturating_add(1);
         }
     }
 
-    /// Checks the name of a site file's field that was read last: it may be unknown or a duplicate.
+    /// Checks for `central check` the last name read in a site file: the field may be unknown or a
+    /// duplicate.
     fn take_name(&mut self) -> Result<(), AllocError> {
         let point = match self.open.last().map(|open| open.owner) {
             Some(Owner::Site) => None,
@@ -222,8 +228,8 @@ impl<'text> Walk<'text> {
     }
 }
 
-/// Returns the index and the name of a point's or the site's field in a site file, if it is a known
-/// one.
+/// Returns the index and the name of a point's or the site's field in a site file, if
+/// `central check` knows it.
 fn known_field(point: Option<usize>, name: &str) -> Option<(usize, &'static str)> {
     for (place, field) in fields_of(point).iter().enumerate() {
         if *field == name {
@@ -233,7 +239,7 @@ fn known_field(point: Option<usize>, name: &str) -> Option<(usize, &'static str)
     None
 }
 
-/// Returns the known fields of a point or of the site in a site file.
+/// Returns the fields of a point or of the site in a site file that `central check` knows.
 fn fields_of(point: Option<usize>) -> &'static [&'static str] {
     match point {
         Some(_) => &POINT_FIELDS,
@@ -248,7 +254,8 @@ pub fn text_of(text: &str, span: Span) -> Option<&str> {
 }
 
 impl<'text> SiteNames<'text> {
-    /// Adds an unknown field of a site file, with the known one that is probably meant.
+    /// Adds an unknown field of a site file for a warning of `central check`, with the known one
+    /// that is probably meant.
     fn add_unknown(&mut self, alloc: Global, field: UnknownField<'text>) -> Result<(), AllocError> {
         // The span of a name with an escape isn't the whole name, so it can't be compared.
         if field.name.contains('\\') {
@@ -264,7 +271,8 @@ impl<'text> SiteNames<'text> {
         Ok(())
     }
 
-    /// Returns the unknown field of a site file that is probably meant to be this absent one.
+    /// Returns the unknown field of a site file that is probably meant to be this absent one, for a
+    /// fault of `central check`.
     pub(crate) fn hint(&self, point: Option<usize>, field: &str) -> Option<&str> {
         for (unknown, meant) in self.unknown.iter().zip(&self.meant) {
             if unknown.point == point && *meant == Some(field) {
@@ -274,7 +282,8 @@ impl<'text> SiteNames<'text> {
         None
     }
 
-    /// Adds a warning for each unknown and each duplicate field of a site file.
+    /// Adds a warning of `central check` for each kept unknown or duplicate field of a site file,
+    /// and one if there are more unknown ones.
     pub(crate) fn warn(
         &self,
         alloc: Global,

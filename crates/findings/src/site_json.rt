@@ -20,8 +20,8 @@ pub(crate) enum JsonVerdict {
     Unsure,
 }
 
-/// Returns whether a tree can be read from a marked site file. Of duplicate fields the last one
-/// counts, so the earlier ones may have malformed numbers.
+/// Returns for `central check` whether a tree can be read from a marked site file. Of duplicate
+/// fields the last one counts, so the earlier ones may have malformed numbers.
 pub(crate) fn verdict_on(alloc: Global, marked: &str) -> Result<JsonVerdict, AllocError> {
     let mut scratch = Scratch::new(alloc);
     let mut reader = Reader::new(marked, &mut scratch)?;
@@ -31,8 +31,8 @@ pub(crate) fn verdict_on(alloc: Global, marked: &str) -> Result<JsonVerdict, All
     }
 }
 
-/// Reads the next value of a site file, and returns whether it is JSON. An error means that the
-/// text breaks elsewhere than in a number.
+/// Reads the next value of a site file for `central check`, and returns whether it is JSON. An
+/// error means that the text breaks elsewhere than in a number.
 #[cycle(judge)]
 fn judge_value(reader: &mut Reader<'_>, depth: usize) -> Result<JsonVerdict, Invalid>
     ensures shorter { OnOk result (length reader.new < length reader.old) }
@@ -47,7 +47,8 @@ fn judge_value(reader: &mut Reader<'_>, depth: usize) -> Result<JsonVerdict, Inv
     }
 }
 
-/// Returns whether a marked string of a site file is JSON: a number by its grammar, a text always.
+/// Returns for `central check` whether a marked string of a site file is JSON: a number by its
+/// grammar, a text always.
 fn judge_string(marked: &str) -> JsonVerdict {
     match after_mark(marked, b'n') {
         Some(number) if !is_number_text(number) => JsonVerdict::NotJson,
@@ -55,7 +56,7 @@ fn judge_string(marked: &str) -> JsonVerdict {
     }
 }
 
-/// Reads the items of a list in a site file, and returns whether they are JSON.
+/// Reads the items of a list in a site file for `central check`, and returns whether they are JSON.
 #[cycle(judge)]
 fn judge_items(reader: &mut Reader<'_>, depth: usize) -> Result<JsonVerdict, Invalid>
     ensures shorter { OnOk result (length reader.new < length reader.old) }
@@ -72,7 +73,8 @@ fn judge_items(reader: &mut Reader<'_>, depth: usize) -> Result<JsonVerdict, Inv
     Ok(verdict)
 }
 
-/// Reads the members of an object in a site file, and returns whether they are JSON.
+/// Reads the members of an object in a site file for `central check`, and returns whether they are
+/// JSON.
 #[cycle(judge)]
 fn judge_members(reader: &mut Reader<'_>, depth: usize) -> Result<JsonVerdict, Invalid>
     ensures shorter { OnOk result (length reader.new < length reader.old) }
@@ -102,7 +104,8 @@ struct Members<'a> {
 }
 
 impl<'a> Members<'a> {
-    /// Takes the next member of an object in a site file, with the verdict on its value.
+    /// Takes the next member of an object in a site file for `central check`, with the verdict
+    /// whether its value is JSON.
     fn take(&mut self, key: &'a str, value: JsonVerdict) {
         if after_mark(key, b's').is_none() {
             self.has_broken_key = true;
@@ -117,7 +120,8 @@ impl<'a> Members<'a> {
         }
     }
 
-    /// Returns whether the object in a site file that has these members is JSON.
+    /// Returns for `central check` whether the object in a site file that has these members is
+    /// JSON.
     fn verdict(self) -> JsonVerdict {
         if self.has_broken_key || self.broken.is_some() {
             JsonVerdict::NotJson

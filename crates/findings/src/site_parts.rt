@@ -35,7 +35,8 @@ impl<T: Drop> From<AllocFailed<T>> for PartFault {
     }
 }
 
-/// Reads the next JSON value of a site file, without the contents of a list or an object.
+/// Reads the next JSON value of a site file for `central check`, without the contents of a list or
+/// an object.
 pub(crate) fn read_glance<'a>(reader: &mut Reader<'a>) -> Result<Glance<'a>, PartFault>
     ensures shorter { OnOk result (length reader.new < length reader.old) }
 {
@@ -43,8 +44,8 @@ pub(crate) fn read_glance<'a>(reader: &mut Reader<'a>) -> Result<Glance<'a>, Par
     glance_from(token, reader)
 }
 
-/// Reads the rest of the JSON value of a site file that begins with this token, without the
-/// contents of a list or an object.
+/// Reads for `central check` the rest of a site file's JSON value that begins with this token,
+/// without a list's or an object's contents.
 pub(crate) fn glance_from<'a>(
     token: Token<'a>,
     reader: &mut Reader<'a>,
@@ -70,7 +71,7 @@ pub(crate) fn glance_from<'a>(
     }
 }
 
-/// Returns the text or the number in a marked string of a site file.
+/// Returns for `central check` the text or the number in a marked string of a site file.
 fn glance_of_string(marked: &str) -> Glance<'_> {
     match after_mark(marked, b'n') {
         Some(number) => Glance::Number(number),
@@ -78,7 +79,7 @@ fn glance_of_string(marked: &str) -> Glance<'_> {
     }
 }
 
-/// Skips the items of a list in a site file, which its check doesn't need.
+/// Skips the items of a list in a site file, which `central check` doesn't need.
 fn pass_items(reader: &mut Reader<'_>) -> Result<(), PartFault>
     ensures shorter { OnOk result (length reader.new < length reader.old) }
 {
@@ -88,7 +89,7 @@ fn pass_items(reader: &mut Reader<'_>) -> Result<(), PartFault>
     Ok(())
 }
 
-/// Skips the members of an object in a site file, which its check doesn't need.
+/// Skips the members of an object in a site file, which `central check` doesn't need.
 fn pass_members(reader: &mut Reader<'_>) -> Result<(), PartFault>
     ensures shorter { OnOk result (length reader.new < length reader.old) }
 {

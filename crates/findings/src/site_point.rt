@@ -68,7 +68,8 @@ impl PointFields<'_> {
     }
 }
 
-/// Reads a point of a site file, whose object has begun: its identity, ceiling and connectors.
+/// Reads a point of a site file for `central check`, whose object has begun: its identity, ceiling
+/// and connectors.
 pub(crate) fn read_point<'a>(
     alloc: Global,
     index: usize,
@@ -100,7 +101,7 @@ pub(crate) fn read_point<'a>(
     Ok(PointParts { fields, connectors })
 }
 
-/// Reads the value of `connectors` of a point in a site file.
+/// Reads the value of `connectors` of a point in a site file for `central check`.
 fn read_connectors<'a>(
     alloc: Global,
     reader: &mut Reader<'a>,
@@ -114,7 +115,7 @@ fn read_connectors<'a>(
     Ok(ConnectorsPart::Other(glance_from(token, reader)?))
 }
 
-/// Reads the list of the ceilings of a point's connectors in a site file.
+/// Reads the list of the ceilings of a point's connectors in a site file for `central check`.
 fn read_ceilings(alloc: Global, reader: &mut Reader<'_>) -> Result<Connectors, PartFault>
     ensures shorter { OnOk result (length reader.new < length reader.old) }
 {
@@ -131,8 +132,8 @@ fn read_ceilings(alloc: Global, reader: &mut Reader<'_>) -> Result<Connectors, P
 }
 
 impl Connectors {
-    /// Adds the ceiling of the next connector of a point in a site file, or a message if it isn't
-    /// valid.
+    /// Adds for `central check` the ceiling of a point's next connector in a site file, or a
+    /// message if it isn't valid.
     fn add(&mut self, alloc: Global, value: Glance<'_>) -> Result<(), AllocError> {
         let place = self.count;
         self.count = place.saturating_add(1);
@@ -153,7 +154,8 @@ impl Connectors {
     }
 }
 
-/// Returns the ceiling of a point or a connector in a site file, in tenths, if its value is valid.
+/// Returns for `central check` the ceiling of a point or a connector in a site file, in tenths, if
+/// its value is valid.
 fn ceiling_of(value: Glance<'_>) -> Option<u32> {
     match value {
         Glance::Number(text) => read_tenths(text).ok(),
@@ -192,7 +194,8 @@ fn add_fault(
     points.add(Finding::fault(place, message))
 }
 
-/// Adds a fault if the `id` of a point in a site file isn't valid, or is that of an earlier point.
+/// Adds a fault of `central check` if the `id` of a point in a site file isn't valid, or is that of
+/// an earlier point.
 fn check_id(
     points: &mut CheckedPoints,
     names: &SiteNames<'_>,
@@ -218,17 +221,18 @@ fn check_id(
     add_fault(points, point, SiteFault::BadId, message)
 }
 
-/// Returns whether a text in a site file is valid as the `id` of a point.
+/// Returns for `central check` whether a text in a site file is valid as the `id` of a point.
 fn is_point_id(id: &str) -> bool {
     !id.is_empty() && id.len() <= MAX_ID_CHARACTERS && id.bytes().all(is_id_byte)
 }
 
-/// Returns whether the `id` of a point in a site file may contain this byte.
+/// Returns for `central check` whether the `id` of a point in a site file may contain this byte.
 fn is_id_byte(byte: u8) -> bool {
     matches!(byte, b'A'..=b'Z' | b'a'..=b'z' | b'0'..=b'9' | b'.' | b'_' | b'-' | b'~')
 }
 
-/// Checks the ceiling of a point in a site file. Returns it in tenths, if it is valid.
+/// Checks the ceiling of a point in a site file for `central check`. Returns it in tenths, if it is
+/// valid.
 fn check_ceiling(
     points: &mut CheckedPoints,
     names: &SiteNames<'_>,
@@ -249,8 +253,8 @@ fn check_ceiling(
     Ok(None)
 }
 
-/// Checks the connectors of a point in a site file. Returns the sum of their ceilings in tenths, if
-/// all are valid.
+/// Checks the connectors of a point in a site file for `central check`. Returns the sum of their
+/// ceilings in tenths, if all are valid.
 fn check_connectors(
     points: &mut CheckedPoints,
     names: &SiteNames<'_>,
@@ -272,8 +276,8 @@ fn check_connectors(
     Ok(None)
 }
 
-/// Checks the list of a point's connectors in a site file. Returns the sum of their ceilings in
-/// tenths, if all are valid.
+/// Checks the list of a point's connectors in a site file for `central check`. Returns the sum of
+/// their ceilings in tenths, if all are valid.
 fn check_list(
     points: &mut CheckedPoints,
     point: PointFields<'_>,

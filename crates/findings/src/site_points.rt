@@ -57,8 +57,8 @@ impl CheckedPoints {
         Ok(())
     }
 
-    /// Returns the index of an earlier point of this identity in a site file. If there is none,
-    /// notes this one.
+    /// Returns for `central check` the index of an earlier point of this identity in a site file.
+    /// If there is none, notes this point.
     pub(crate) fn earlier(&mut self, id: &str, index: usize) -> Result<Option<usize>, AllocError> {
         if let Some(earlier) = self.places.get(id) {
             return Ok(Some(*earlier));
@@ -87,7 +87,7 @@ impl CheckedPoints {
     }
 }
 
-/// Reads the value of `points` in a site file, and checks each point.
+/// Reads the value of `points` in a site file for `central check`, and checks each point.
 pub(crate) fn read_points<'a>(
     alloc: Global,
     names: &SiteNames<'_>,
@@ -102,7 +102,7 @@ pub(crate) fn read_points<'a>(
     Ok(PointsPart::Other(glance_from(token, reader)?))
 }
 
-/// Reads the list of points in a site file, and checks each of them.
+/// Reads the list of points in a site file for `central check`, and checks each of them.
 fn read_entries(
     alloc: Global,
     names: &SiteNames<'_>,
@@ -118,7 +118,7 @@ fn read_entries(
     Ok(points)
 }
 
-/// Reads and checks the next entry in the list of points of a site file.
+/// Reads and checks the next entry in the list of points of a site file for `central check`.
 fn check_entry(
     points: &mut CheckedPoints,
     names: &SiteNames<'_>,

@@ -57,7 +57,8 @@ fn lose_link<C: Ledger, A: Ledger, N: ListName>(
     lose(book, point, link, moment, text)
 }
 
-/// Ends this link of a point after a restore, and appends the line that says so for the journal.
+/// Ends this link of a point after a restore from the journal, and appends a `lost` line to the
+/// text for the journal.
 fn lose<C: Ledger, A: Ledger, N: ListName>(
     book: &mut Book<C, A, N>,
     point: PointId,

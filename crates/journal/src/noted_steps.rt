@@ -136,7 +136,7 @@ impl<N: ListName> NotedSteps<N> {
         Ok(())
     }
 
-    /// Removes all noted steps, since the journal has their lines.
+    /// Removes all noted steps from this list, since the journal's append log has their lines.
     pub(crate) fn clear(&mut self)
         ensures { self.new ≡ record {
           first = self.old.last;

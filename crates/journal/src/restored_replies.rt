@@ -67,8 +67,8 @@ fn confirm<C: Ledger, A: Ledger, N: ListName>(
     }
 }
 
-/// Restores a `verdict` line of the journal: judges the point's audit whose call has this number,
-/// by the point's reply.
+/// Restores a `verdict` line of the journal: judges an audit again by the point's reply to the
+/// GetCompositeSchedule of this number.
 pub(crate) fn judge_audit<C: Ledger, A: Ledger, N: ListName>(
     alloc: Global,
     memory: &mut ReadingMemory,
@@ -87,8 +87,8 @@ pub(crate) fn judge_audit<C: Ledger, A: Ledger, N: ListName>(
     }
 }
 
-/// Judges a point's audit again by its reply, and keeps the verdict, as a `verdict` line of the
-/// journal says.
+/// Judges a point's reply to an audit's GetCompositeSchedule again, as a `verdict` line of the
+/// journal says, and keeps the verdict in the book.
 fn judge<C: Ledger, A: Ledger, N: ListName>(
     alloc: Global,
     memory: &mut ReadingMemory,
@@ -109,8 +109,8 @@ fn judge<C: Ledger, A: Ledger, N: ListName>(
     }
 }
 
-/// Returns the verdict on a point's reply to its audit, read from a line of the journal. Fails if
-/// memory runs out.
+/// Returns the verdict on a point's reply to an audit's GetCompositeSchedule, read from a `verdict`
+/// line of the journal. Fails if memory runs out.
 fn judged_by(
     alloc: Global,
     memory: &mut ReadingMemory,

@@ -80,8 +80,8 @@ fn change<C: Ledger, A: Ledger, N: ListName>(
     }
 }
 
-/// Returns the step that the message in a line of the journal requests, or a fault if that isn't a
-/// change.
+/// Returns the step to restore that the message in a line of the journal requests, or a fault if it
+/// requests no change.
 fn change_asked(
     alloc: Global,
     memory: &mut ReadingMemory,

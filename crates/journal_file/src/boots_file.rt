@@ -65,8 +65,8 @@ pub fn read_boots<R: Files<File = File> + Eprint + AllocGlobal>(
     Ok(boots)
 }
 
-/// Returns the boots of a site's points before any is read from the file of boots: no point has
-/// one.
+/// Returns the boots of a site's points before the file of boots beside its journal is read: no
+/// point has one.
 fn no_boots(alloc: Global, points: usize) -> Result<Vec<Option<Boot>>, AllocError> {
     let mut boots = Vec::with_capacity(alloc, points)?;
     for _point in 0..points {
@@ -75,7 +75,7 @@ fn no_boots(alloc: Global, points: usize) -> Result<Vec<Option<Boot>>, AllocErro
     Ok(boots)
 }
 
-/// Reads the bytes of the file of boots, at most LONGEST_FILE.
+/// Reads the bytes of the file of boots beside a site's journal, at most LONGEST_FILE.
 fn read_file<R: Files<File = File> + AllocGlobal>(rt: &R, path: &str) -> io::Result<Vec<u8>> {
     let file = File::open(rt, path)?;
     let mut bytes = Vec::new(rt.alloc());
@@ -83,8 +83,9 @@ fn read_file<R: Files<File = File> + AllocGlobal>(rt: &R, path: &str) -> io::Res
     Ok(bytes)
 }
 
-/// Takes the points' boots from the lines of the file of boots. Of two boots of a point, the later
-/// line wins. Returns how many lines it skips, including a torn last one.
+/// Takes the boots of a site's points from the lines of the file of boots beside its journal. Of
+/// two boots of a point, the later line wins. Returns how many lines it skips, including a torn
+/// last one.
 fn take_lines(boots: &mut Vec<Option<Boot>>, site: &Site, bytes: &[u8]) -> u64 {
     let mut left_out = 0u64;
     let mut rest = bytes;
@@ -104,8 +105,8 @@ fn take_lines(boots: &mut Vec<Option<Boot>>, site: &Site, bytes: &[u8]) -> u64 {
     }
 }
 
-/// Takes a point's boot from a line of the file of boots. Returns false if the line has none of a
-/// point of the site.
+/// Takes a point's boot from a line of the file of boots beside the site's journal. Returns false
+/// if the line has no boot of a point of the site.
 fn take_line(boots: &mut Vec<Option<Boot>>, site: &Site, line: &[u8]) -> bool {
     let Ok(text) = std::str::from_utf8(line) else {
         return false;

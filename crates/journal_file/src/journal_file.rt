@@ -369,7 +369,8 @@ impl<N: ListName> NotedEntries<N> {
         None
     }
 
-    /// Counts a write and sync of the journal that took this time and left this many bytes on disk.
+    /// Counts, for the status port, a write and sync of the journal that took this time and left
+    /// this many bytes on disk.
     fn count_sync(&mut self, bytes: u64, time: Duration) {
         self.bytes = bytes;
         self.syncs = self.syncs.saturating_add(1);

@@ -99,7 +99,8 @@ struct ScriptReading {
 }
 
 impl ScriptReading {
-    /// Returns the reading of a journal as a script, before its first line.
+    /// Returns the reading of a journal as a script of messages, as `replay` reads it, before the
+    /// journal's first line.
     fn new(alloc: Global) -> ScriptReading {
         ScriptReading {
             alloc,
@@ -108,7 +109,8 @@ impl ScriptReading {
         }
     }
 
-    /// Returns the script's lines for the next lines of the journal, or None after the last one.
+    /// Returns the lines of a script of messages, as `replay` reads it, for the next lines of the
+    /// journal, or None after the last one.
     fn next<R: Eprint>(
         &mut self,
         rt: &R,
@@ -125,7 +127,7 @@ impl ScriptReading {
     }
 }
 
-/// Appends to a script its lines for these lines of a journal.
+/// Appends to a script of messages, as `replay` reads it, its lines for these lines of a journal.
 fn push_lines(
     script: &mut String,
     lines: JournalPart<'_>,
@@ -146,7 +148,8 @@ fn push_lines(
     Ok(())
 }
 
-/// Appends to a script its line for a line of a journal, if it has one.
+/// Appends to a script of messages, as `replay` reads it, the line for a line of a journal, if
+/// there is one.
 fn push_line(
     script: &mut String,
     line: &Line<'_>,
@@ -202,7 +205,8 @@ impl ScriptLines {
         Ok(Some((side, frame)))
     }
 
-    /// Returns whether this point sent the message of the last line of a journal's script.
+    /// Returns whether this point sent the message of the last line in a journal's script, which
+    /// `replay` can read.
     fn is_from(&self, point: &str) -> bool {
         match &self.sender {
             Some(sender) => sender.as_str() == point,
@@ -211,8 +215,8 @@ impl ScriptLines {
     }
 }
 
-/// Appends a message of the journal as a line of a script. A message that is too long for a line
-/// becomes `[]`.
+/// Appends a message of the journal as a line of a script, as `replay` reads it. A message that is
+/// too long for a script line becomes `[]`.
 fn push_message(
     script: &mut String,
     line: &Line<'_>,

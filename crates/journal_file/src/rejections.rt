@@ -100,7 +100,8 @@ fn reply_in<'a>(line: &Line<'a>) -> Option<&'a str> {
     }
 }
 
-/// Returns the action of the first call in a point's outbox, which the point's next reply confirms.
+/// Returns the action of the first call in a point's outbox, which the point's next reply in the
+/// journal confirms.
 fn first_action(alloc: Global, outbox: &Outbox) -> Result<Option<ActionKind>, AllocError> {
     match outbox.bodies(alloc)?.into_iter().next() {
         Some(body) => Ok(Some(body.kind())),
@@ -108,8 +109,8 @@ fn first_action(alloc: Global, outbox: &Outbox) -> Result<Option<ActionKind>, Al
     }
 }
 
-/// Returns whether a point's reply with this reason leaves nothing of its call undone, so that the
-/// call isn't listed as rejected.
+/// Returns whether a rejection with this reason leaves nothing of the call undone, so that a
+/// restore from the journal doesn't count it.
 fn is_done(action: Option<ActionKind>, reason: &str) -> bool {
     match (action, ReplyStatus::named(reason)) {
         (Some(action), Some(status)) => status.is_done(action),

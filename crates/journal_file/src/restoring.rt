@@ -141,7 +141,8 @@ fn restore_lines<C: Ledger, A: Ledger, R: AllocGlobal + Eprint + Clock, N: ListN
 }
 
 /// Restores a site's book from these lines of its journal, and takes in the calls that points
-/// rejected. Before such a reply, its call is the first one of its point.
+/// rejected. Before the reply that rejects a call is restored, the call is the first in its point's
+/// outbox.
 fn restore_part<C: Ledger, A: Ledger, N: ListName>(
     alloc: Global,
     lines: JournalPart<'_>,

@@ -34,8 +34,8 @@ impl ScriptEnd {
     }
 }
 
-/// Counts the lines of a script before the first one that is later than the moment up to which it
-/// is played.
+/// Counts the lines in a script of messages before the first one that is later than this moment,
+/// for `--at` of `explain` and `show`.
 fn lines_until(script: &[u8], moment: Instant) -> u64 {
     let mut lines = 0u64;
     for line in script.split(|byte| *byte == b'\n') {
@@ -47,7 +47,8 @@ fn lines_until(script: &[u8], moment: Instant) -> u64 {
     lines
 }
 
-/// Returns the moment at which a line of a script of OCPP messages begins, if it has one.
+/// Returns the moment at the beginning of a line in a script of messages, as `replay` reads it, if
+/// there is one.
 fn moment_of(line: &[u8]) -> Option<Instant> {
     let text = std::str::from_utf8(line).ok()?;
     let (moment, _) = text.split_once(' ')?;

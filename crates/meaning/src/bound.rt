@@ -80,8 +80,8 @@ pub fn lesser_of(best: Option<ProfileLimit>, other: Bound) -> Bound
     }
 }
 
-/// Returns the profile's limit with the higher stack level (chapter 3.13), or the first of equals,
-/// or the only one.
+/// Returns the charging profile and limit with the higher stack level (chapter 3.13), or the first
+/// of equals, or the only one.
 pub(crate) fn higher_level(
     best: Option<ProfileLimit>,
     next: Option<ProfileLimit>,

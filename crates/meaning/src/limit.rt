@@ -82,8 +82,8 @@ impl View<'_> {
     }
 }
 
-/// Returns the sum of a connector's limit and those of the connectors before it, but at most
-/// `most`.
+/// Adds a connector's limit to those of the connectors before it, for the limit of the whole charge
+/// point. The sum is at most `most`.
 fn least_sum(most: u32, sum: u32, limit: u32) -> u32
     ensures { result ≡ min most (sum + limit) }
 {

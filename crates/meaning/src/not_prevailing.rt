@@ -44,7 +44,7 @@ pub fn why_not(
 }
 
 impl View<'_> {
-    /// Returns the reason why a charging profile's row doesn't count for a connector:
+    /// Returns the reason why a row (an installed charging profile) doesn't count for a connector:
     /// `OtherConnector`, `NoTransaction` or `Hidden`.
     fn why_not_counted(&self, connector: usize, row: &Row) -> Option<WhyNot>
         ensures { result ≡ why_not_counted (point_state self.now) connector row.now }
@@ -63,8 +63,8 @@ impl View<'_> {
         None
     }
 
-    /// Returns the reason why a charging profile's row has no limit for a connector at an instant,
-    /// if it has none.
+    /// Returns the reason why a row (an installed charging profile) has no limit for a connector at
+    /// an instant, if it has none.
     fn why_no_limit(
         &self,
         connector: usize,
@@ -127,8 +127,8 @@ impl View<'_> {
             && self.any_higher(purpose, level, connector, asked, instant)
     }
 
-    /// Whether any row that applies to a connector by a purpose has a higher stack level and a
-    /// limit at an instant.
+    /// Whether any row (installed charging profile) that applies to a connector by a purpose has a
+    /// higher stack level and a limit at an instant.
     fn any_higher(
         &self,
         purpose: Purpose,
@@ -168,8 +168,8 @@ fn is_elsewhere(purpose: Purpose, connector: usize, at: usize) -> bool
     }
 }
 
-/// Returns the reason why a charging profile has no limit at an offset in its schedule, or before
-/// it.
+/// Returns the reason why a row (an installed charging profile) has no limit at an offset in its
+/// schedule, or before it. `None` if it has a limit there.
 fn why_no_limit_in(row: &Row, offset: Option<u64>) -> Option<WhyNot>
     ensures { result ≡ why_no_limit_in row.now offset }
 {

@@ -79,16 +79,16 @@ impl View<'_> {
         }
     }
 
-    /// Returns the least of the prevailing ChargePointMaxProfile, a bound and the charge point's
-    /// ceiling at an instant, with its cause.
+    /// Returns the least of the prevailing ChargePointMaxProfile, another limit and the charge
+    /// point's ceiling at an instant, with its cause.
     fn below_point(&self, bound: Bound, asked: Instant, instant: Instant) -> Bound
         ensures { result ≡ below_point (point_state self.now) asked instant bound }
     {
         self.below_maximum(bound.or_less(self.point_ceiling()), asked, instant)
     }
 
-    /// Returns the least of the prevailing ChargePointMaxProfile and a bound at an instant, with
-    /// its cause.
+    /// Returns the least of the charge point's prevailing ChargePointMaxProfile and another limit
+    /// at an instant, with its cause.
     fn below_maximum(&self, bound: Bound, asked: Instant, instant: Instant) -> Bound
         ensures { result ≡ lesser_of
             (prevailing_row ChargePointMaxProfile (point_state self.now) 0 asked instant) bound }
@@ -191,8 +191,8 @@ impl View<'_> {
         best
     }
 
-    /// Returns a row's charging profile with its limit for a connector at an instant, if it has
-    /// one.
+    /// Returns the charging profile of a row (installed at a connector) with its limit for a
+    /// connector at an instant, if it has one.
     fn profile_limit(
         &self,
         connector: usize,

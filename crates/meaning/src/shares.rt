@@ -53,7 +53,8 @@ impl Shares {
     }
 }
 
-/// Whether two lists of the active connectors' shares in the limit of a charge point are equal.
+/// Whether two reasons for the limit of a charge point have equal lists of the active connectors'
+/// shares in it.
 fn same_shares(shares: &[Share], others: &[Share]) -> bool
     ensures { IsTrue result ↔ (shares.now ≡ others.now) }
 {

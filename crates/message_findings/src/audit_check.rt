@@ -15,8 +15,8 @@ pub(crate) struct JudgedAudit {
     pub outcome: AuditOutcome,
 }
 
-/// Returns the last audit of the point of this identity, if the script's line played last confirmed
-/// a call to it.
+/// Returns the last audit of a point (its GetCompositeSchedule to compare) for `check`, if the
+/// script's line played last confirmed a call to the point.
 // That may be another call than the audit's, so its number is compared with the reply's id later.
 pub(crate) fn judged_audit(
     playing: &Playing<'_>,
@@ -35,8 +35,8 @@ pub(crate) fn judged_audit(
     })
 }
 
-/// Checks a point's reply to an audit's call in a script. Reports a point that isn't in step, or an
-/// audit without a verdict.
+/// Checks, for `check`, a point's reply to an audit (a GetCompositeSchedule). Warns if its schedule
+/// differs from what the central system means, or is missing. Remarks if they can't be compared.
 pub(crate) fn check_verdict(report: &mut Report, audit: &JudgedAudit) {
     let JudgedAudit {
         connector,

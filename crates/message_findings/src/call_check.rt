@@ -44,7 +44,8 @@ impl<'a, 'node, 'memory> LineCall<'a, 'node, 'memory> {
     }
 }
 
-/// Checks a CALL in a line of a script: whether its sender has the action, then its payload.
+/// Checks a CALL in a line of a script for `check`: whether its sender has the action, then its
+/// payload.
 pub(crate) fn check_call(report: &mut Report, call: &LineCall<'_, '_, '_>) {
     let kind = ActionKind::named(call.action);
     if call.text.sender == Sender::Hold && kind != Some(ActionKind::GetCompositeSchedule) {
@@ -57,14 +58,14 @@ pub(crate) fn check_call(report: &mut Report, call: &LineCall<'_, '_, '_>) {
     }
 }
 
-/// Reports a CALL whose action its sender, an operator or a point, doesn't have, and the action
-/// that was probably meant.
+/// Reports, for `check` or `call`, a CALL whose action its sender, an operator or a point, doesn't
+/// have, and the action that was probably meant.
 pub(crate) fn refuse_action(report: &mut Report, sender: Side, name: &str) {
     report.fault(unknown_action_message(report.alloc, sender, name));
 }
 
-/// Describes the action of a CALL that its sender doesn't have, and the one that was probably
-/// meant.
+/// Describes, for `check` or `call`, the action of a CALL that its sender doesn't have, and the one
+/// that was probably meant.
 fn unknown_action_message(alloc: Global, sender: Side, name: &str) -> Result<String, AllocError> {
     let actions = actions_of(alloc, sender)?;
     let sender = match sender {
@@ -85,8 +86,8 @@ fn unknown_action_message(alloc: Global, sender: Side, name: &str) -> Result<Str
     }
 }
 
-/// Returns the names of the actions that an operator or a point may send, to find the one that was
-/// probably meant.
+/// Returns the names of the actions that an operator or a point may send, from which `check` or
+/// `call` suggests one.
 fn actions_of(alloc: Global, side: Side) -> Result<Vec<&'static str>, AllocError> {
     let mut names = Vec::new(alloc);
     for kind in ActionKind::all() {
@@ -97,7 +98,7 @@ fn actions_of(alloc: Global, side: Side) -> Result<Vec<&'static str>, AllocError
     Ok(names)
 }
 
-/// Checks the payload of a CALL in a line of a script: its fields, then its request.
+/// Checks the payload of a CALL in a line of a script for `check`: its fields, then its request.
 fn check_action(report: &mut Report, call: &LineCall<'_, '_, '_>, kind: ActionKind) {
     let alloc = report.alloc;
     // Of a point's CALL only some fields are read, so its other fields aren't unknown ones.
@@ -116,7 +117,8 @@ fn check_action(report: &mut Report, call: &LineCall<'_, '_, '_>, kind: ActionKi
     }
 }
 
-/// Checks the request of a CALL in a line of a script, whose fields are right, by its action.
+/// Checks, for `check`, the request of a CALL in a line of a script, whose fields are right, by its
+/// action.
 fn check_asked(report: &mut Report, call: &LineCall<'_, '_, '_>, kind: ActionKind, action: Action) {
     check_operator_fields(report, call, kind);
     match action {
@@ -151,7 +153,7 @@ fn check_operator_fields(report: &mut Report, call: &LineCall<'_, '_, '_>, kind:
     remark_unzoned(report, payload);
 }
 
-/// Checks an operator's AuditPoint in a line of a script, as a request for a schedule.
+/// Checks, for `check`, an operator's AuditPoint in a line of a script as a request for a schedule.
 fn check_audit_request(report: &mut Report, text: &LineMessage<'_>, connector: u32, duration: u32) {
     let request = ScheduleRequest {
         connector,
@@ -161,8 +163,8 @@ fn check_audit_request(report: &mut Report, text: &LineMessage<'_>, connector: u
     check_ask(report, text, &request);
 }
 
-/// Reports the refusal of a CALL in a script whose action has no other check, unless it depends on
-/// the point's state.
+/// Reports, for `check`, the refusal of a CALL in a script whose action has no other check, unless
+/// it depends on the point's state.
 fn check_refused(report: &mut Report, text: &LineMessage<'_>) {
     match text.refusal() {
         Some(Refusal::UnknownPoint) => refuse_point(report, text),
@@ -174,7 +176,7 @@ fn check_refused(report: &mut Report, text: &LineMessage<'_>) {
     }
 }
 
-/// Warns of duplicate fields of an operator's CALL.
+/// Warns, for `check` or `call`, of duplicate fields of an operator's CALL.
 pub(crate) fn warn_repeated(report: &mut Report, frame: &str, kind: ActionKind) {
     let Ok(repeated) = repeated_fields(report.alloc, frame, kind) else {
         return report.fail();
@@ -186,13 +188,15 @@ pub(crate) fn warn_repeated(report: &mut Report, frame: &str, kind: ActionKind) 
     }
 }
 
-/// Returns the duplicate fields in the payload of an operator's CALL, for a warning of each.
+/// Returns the duplicate fields in the payload of an operator's CALL, for a warning of `check` or
+/// `call` about each.
 fn repeated_fields(alloc: Global, frame: &str, kind: ActionKind) -> Result<Vec<&str>, AllocError> {
     let outline = outline_of(alloc, frame)?;
     repeated_payload_fields(alloc, frame, &outline, kind)
 }
 
-/// Returns the unknown fields in the payload of an operator's CALL, which have no effect.
+/// Returns the unknown fields in the payload of an operator's CALL, which have no effect, for
+/// warnings of `check` or `call`.
 pub(crate) fn unknown_fields(
     alloc: Global,
     frame: &str,
@@ -202,7 +206,7 @@ pub(crate) fn unknown_fields(
     unknown_payload_fields(alloc, frame, &outline, kind)
 }
 
-/// Warns of unknown fields of an operator's CALL.
+/// Warns, for `check` or `call`, of unknown fields of an operator's CALL.
 pub(crate) fn warn_unknown(report: &mut Report, frame: &str, kind: ActionKind) {
     // OCPP doesn't have these two actions, so it doesn't define their fields.
     let whose = match kind {
@@ -217,7 +221,8 @@ pub(crate) fn warn_unknown(report: &mut Report, frame: &str, kind: ActionKind) {
     }
 }
 
-/// Describes an unknown field of an operator's CALL, and the field that was probably meant.
+/// Describes, for a warning of `check` or `call`, an unknown field of an operator's CALL, and the
+/// field that was probably meant.
 fn unknown_field_message(
     alloc: Global,
     field: &UnknownField<'_>,
@@ -233,8 +238,8 @@ fn unknown_field_message(
     }
 }
 
-/// Checks a ClearChargingProfile in a line of a script, which clears all profiles that match its
-/// criteria.
+/// Checks, for `check`, a ClearChargingProfile in a line of a script: whether the site has its
+/// point, and its fields that are no criteria.
 fn check_clear(report: &mut Report, call: &LineCall<'_, '_, '_>, criteria: &Criteria) {
     if call.text.site.place_of(call.text.point).is_none() {
         refuse_point(report, call.text);
@@ -246,8 +251,8 @@ fn check_clear(report: &mut Report, call: &LineCall<'_, '_, '_>, criteria: &Crit
     }
 }
 
-/// Warns of a ClearChargingProfile that clears more than it seems to, by its fields that are no
-/// criteria.
+/// Warns, for `check` or `call`, of a ClearChargingProfile that clears more than it seems to, by
+/// its fields that are no criteria.
 // Unknown fields are ignored, so a clear whose only criterion is misspelled clears everything.
 pub(crate) fn warn_of_clear(
     report: &mut Report,
@@ -263,8 +268,8 @@ pub(crate) fn warn_of_clear(
     }
 }
 
-/// Describes a field of a ClearChargingProfile that is no criterion, so that more may be cleared
-/// than is meant.
+/// Describes, for a warning of `check` or `call`, a field that is no criterion of a
+/// ClearChargingProfile. More may be cleared than is meant.
 fn no_criterion_message(alloc: Global, name: &str) -> Result<String, AllocError> {
     let name = excerpt(alloc, name)?;
     format!(in alloc;
@@ -273,7 +278,7 @@ fn no_criterion_message(alloc: Global, name: &str) -> Result<String, AllocError>
 }
 
 /// Returns the names of the criteria that are null in a ClearChargingProfile without any other
-/// criterion.
+/// criterion, for a warning of `check` or `call`.
 fn null_criteria(alloc: Global, payload: Node<'_, '_>) -> Result<Vec<&'static str>, AllocError> {
     let mut names = Vec::new(alloc);
     for row in fields_of(ActionKind::ClearChargingProfile) {
@@ -285,8 +290,8 @@ fn null_criteria(alloc: Global, payload: Node<'_, '_>) -> Result<Vec<&'static st
     Ok(names)
 }
 
-/// Returns whether a ClearChargingProfile without a criterion has fields, which are unknown or
-/// null.
+/// Returns whether a ClearChargingProfile without a criterion has fields, unknown or null, so that
+/// `call` takes it for a mistake.
 pub(crate) fn has_fields(payload: Node<'_, '_>, unknown: &Vec<UnknownField<'_>>) -> bool {
     for row in fields_of(ActionKind::ClearChargingProfile) {
         if payload.field(row.name().text()).is_some() {
@@ -296,7 +301,8 @@ pub(crate) fn has_fields(payload: Node<'_, '_>, unknown: &Vec<UnknownField<'_>>)
     !unknown.is_empty()
 }
 
-/// Describes a ClearChargingProfile without a criterion, and the criteria that were probably meant.
+/// Describes, for a warning of `check` or `call`, a ClearChargingProfile without a criterion, and
+/// the criteria that were probably meant.
 fn clears_all_message(
     alloc: Global,
     payload: Node<'_, '_>,
@@ -320,7 +326,7 @@ fn clears_all_message(
 }
 
 /// Returns the criterion of a ClearChargingProfile that is probably meant by an unknown field of
-/// this name.
+/// this name, for a warning of `check` or `call`.
 // These names are from other messages or OCPP 2.0.1, and not similar enough for `similar_name`.
 fn criterion_meant(alloc: Global, name: &str) -> Result<Option<&'static str>, AllocError> {
     match name {
@@ -335,15 +341,15 @@ fn criterion_meant(alloc: Global, name: &str) -> Result<Option<&'static str>, Al
     }
 }
 
-/// Reports that the site lacks the point of a message in a script, with the identity that is
-/// probably meant.
+/// Reports, for `check`, that the site lacks the point of a message in a script, with the identity
+/// that is probably meant.
 pub(crate) fn refuse_point(report: &mut Report, text: &LineMessage<'_>) {
     let message = unknown_point_message(report, text.site, text.point);
     report.fault(message);
 }
 
-/// Describes the refusal of a message for a point that the site lacks, with the identity that is
-/// probably meant.
+/// Describes, for `check`, the refusal of a script's message for a point that the site lacks, with
+/// the identity that is probably meant.
 fn unknown_point_message(report: &mut Report, site: &Site, id: &str) -> Result<String, AllocError> {
     let alloc = report.alloc;
     let hint = point_hint(report, site, id)?;
@@ -351,13 +357,13 @@ fn unknown_point_message(report: &mut Report, site: &Site, id: &str) -> Result<S
     format!(in alloc; "UnknownPoint: the site has no point \"{id}\"{hint}")
 }
 
-/// Returns the point of the site that a line of a script names, if the site has it.
+/// Returns, for `check`, the point of the site that a line of a script names, if the site has it.
 pub(crate) fn point_of<'a>(site: &'a Site, text: &LineMessage<'_>) -> Option<SitePoint<'a>> {
     site.point(site.place_of(text.point)?)
 }
 
-/// Checks a GetCompositeSchedule or an AuditPoint in a script by its answer. Reports a refusal
-/// unless it depends on the point's state.
+/// Checks, for `check`, a GetCompositeSchedule or an AuditPoint in a script by its answer. Reports
+/// a refusal unless it depends on the point's state.
 fn check_ask(report: &mut Report, text: &LineMessage<'_>, request: &ScheduleRequest) {
     match text.rejection() {
         None => {}
@@ -370,7 +376,8 @@ fn check_ask(report: &mut Report, text: &LineMessage<'_>, request: &ScheduleRequ
     }
 }
 
-/// Describes the value for which a GetCompositeSchedule or an AuditPoint is refused.
+/// Describes, for a fault of `check`, the value for which a GetCompositeSchedule or an AuditPoint
+/// is refused.
 fn ask_found(
     alloc: Global,
     text: &LineMessage<'_>,
@@ -389,8 +396,8 @@ fn ask_found(
     }
 }
 
-/// Describes, for the refusal of an operator's CALL, its connectorId and the last connector of the
-/// point.
+/// Describes, for a fault of `check` in an operator's CALL, its connectorId and the last connector
+/// of the point.
 pub(crate) fn connector_found(
     alloc: Global,
     site: &Site,
@@ -406,13 +413,14 @@ pub(crate) fn connector_found(
     }
 }
 
-/// Returns the number of connectors of the point that a line of a script names, 0 if the site lacks
-/// it.
+/// Returns, for a fault of `check`, the number of connectors of the point that a script's line
+/// names, 0 if the site lacks it.
 pub(crate) fn connector_count(text: &LineMessage<'_>) -> usize {
     point_of(text.site, text).map_or(0, |point| point.ceilings.len())
 }
 
-/// Describes the unit of the site file, for the refusal of a CALL with the other chargingRateUnit.
+/// Describes, for a fault of `check`, the unit of the site file, where a CALL has the other
+/// chargingRateUnit.
 pub(crate) fn unit_found(site: &Site) -> &'static str {
     match site.unit() {
         Unit::A => "the site's is \"A\"",
@@ -420,8 +428,8 @@ pub(crate) fn unit_found(site: &Site) -> &'static str {
     }
 }
 
-/// Reports the refusal of an operator's CALL with its sentence, and with the value found if that is
-/// known.
+/// Reports, for `check` or `call`, the refusal of an operator's CALL with its sentence, and with
+/// the value found if that is known.
 pub(crate) fn reject(report: &mut Report, refusal: Refusal, found: Option<&str>) {
     let name = refusal.name();
     let why = sentence(refusal);
@@ -431,8 +439,8 @@ pub(crate) fn reject(report: &mut Report, refusal: Refusal, found: Option<&str>)
     }
 }
 
-/// Reports the refusal of an operator's CALL with its sentence, and with the value found, whose
-/// text was made elsewhere.
+/// Reports, for `check` or `call`, the refusal of an operator's CALL with its sentence and the
+/// value found, unless an allocation for that value failed.
 pub(crate) fn reject_found(
     report: &mut Report,
     refusal: Refusal,
@@ -444,7 +452,8 @@ pub(crate) fn reject_found(
     }
 }
 
-/// Checks a StartTransaction in a line of a script. Reports a connector that the point lacks.
+/// Checks, for `check`, a StartTransaction in a line of a script. Reports a connector that the
+/// point lacks.
 fn check_start(report: &mut Report, text: &LineMessage<'_>, connector: u32) {
     let Some(point) = point_of(text.site, text) else {
         return;

@@ -13,8 +13,8 @@ struct ObjectPlace<'node, 'memory> {
     object: PayloadObject<'node, 'memory>,
 }
 
-/// Describes the CALLERROR that a CALL gets, with the field at fault, the value found there and the
-/// value wanted.
+/// Describes, for a fault of `check` or `call`, the CALLERROR that a CALL gets, with the field, the
+/// value found there and the value wanted.
 pub(crate) fn field_fault_message(
     alloc: Global,
     payload: Node<'_, '_>,
@@ -43,7 +43,8 @@ pub(crate) fn field_fault_message(
     format!(in alloc; "{code}: {path}{message}")
 }
 
-/// Returns the field of the payload that the fault of a CALL names, if it names one.
+/// Returns the field of the payload that the fault of a CALL names, if it names one, for the
+/// message of `check` or `call`.
 fn field_of(fault: CallFault) -> Option<FieldName> {
     match fault {
         CallFault::OccurenceConstraintViolation(field)
@@ -53,8 +54,8 @@ fn field_of(fault: CallFault) -> Option<FieldName> {
     }
 }
 
-/// Returns the outermost object of a CALL's payload whose table has a field of this name. Where an
-/// object on the path is absent, returns the last one that is present.
+/// Returns, for a fault of `check`, the outermost object of a CALL's payload whose table has a
+/// field of this name. Where an object on the path is absent, returns the last one that is present.
 // A fault names its field without a path, so the payload is searched for it.
 fn place_of_field<'node, 'memory>(
     alloc: Global,
@@ -84,8 +85,8 @@ fn place_of_field<'node, 'memory>(
     Ok(place)
 }
 
-/// Returns the first entry in a list of a CALL's payload that is at fault at this field, with the
-/// list and the index.
+/// Returns, for `check`, the first entry in a list of a CALL's payload with this field at fault,
+/// its list and its index.
 fn first_bad<'node, 'memory>(
     object: PayloadObject<'node, 'memory>,
     name: &str,
@@ -112,8 +113,8 @@ fn first_bad<'node, 'memory>(
     None
 }
 
-/// Returns whether a field of an object in a list of a CALL's payload, such as a period's limit, is
-/// right. The objects of lists have no fields of other kinds.
+/// Returns whether `check` finds no fault in a field of an object in a list of a CALL's payload,
+/// such as a period's limit. The objects of lists have no fields of other kinds.
 fn is_right(object: Node<'_, '_>, row: FieldRow) -> bool {
     let name = row.name().text();
     match row.kind() {
@@ -131,12 +132,14 @@ fn is_right(object: Node<'_, '_>, row: FieldRow) -> bool {
     }
 }
 
-/// Returns whether a field of a CALL's payload is optional, so that its absence is no fault.
+/// Returns whether a field of a CALL's payload is optional, so that `check` finds no fault in its
+/// absence.
 fn may_be_absent(row: FieldRow) -> bool {
     matches!(row, FieldRow::Optional(_, _))
 }
 
-/// Describes the value wanted at a field of a CALL's payload, by its name or else by its kind.
+/// Describes, for a fault of `check` or `call`, the value wanted at a field of a CALL's payload, by
+/// its name or its kind.
 fn wanted_of(row: FieldRow) -> &'static str {
     match row.name() {
         FieldName::StackLevel => "a whole number from 0 to 99",
@@ -145,8 +148,8 @@ fn wanted_of(row: FieldRow) -> &'static str {
     }
 }
 
-/// Describes the value wanted at a field of this kind in a CALL's payload, for the message about
-/// its fault.
+/// Describes, for a fault of `check` or `call`, the value wanted at a field of this kind in a
+/// CALL's payload.
 fn wanted_of_kind(kind: FieldKind) -> &'static str {
     match kind {
         FieldKind::Whole => "a whole number from -2147483648 to 2147483647",

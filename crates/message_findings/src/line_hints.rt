@@ -12,8 +12,8 @@ use std::alloc::{AllocError, Global};
 /// The words that may follow the instant.
 const WORDS: [&str; 4] = ["operator", "point", "hold", "release"];
 
-/// Describes the fault of a script's line that can't be played, with an excerpt of it and the
-/// probable mistake.
+/// Describes, for `check`, the fault of a script's line that can't be played, with an excerpt of it
+/// and the probable mistake.
 pub(crate) fn mistake_message(
     report: &mut Report,
     site: &Site,
@@ -40,13 +40,14 @@ pub(crate) fn mistake_message(
     }
 }
 
-/// Returns the word at an index in a line of a script, counted from 0, or an empty text.
+/// Returns the word at an index in a line of a script, counted from 0, or an empty text, for a
+/// fault of `check`.
 fn word_at(line: &str, place: usize) -> &str {
     line.split(' ').nth(place).unwrap_or("")
 }
 
-/// Describes the fault of a script's line that has none of the forms of lines, with the probable
-/// mistake.
+/// Describes, for `check`, the fault of a script's line that has none of the forms of lines, with
+/// the probable mistake.
 fn bad_line(alloc: Global, text: &str) -> Result<String, AllocError> {
     let hint = form_hint(alloc, text)?;
     let fault = ScriptLineFault::BadLine;
@@ -55,7 +56,7 @@ fn bad_line(alloc: Global, text: &str) -> Result<String, AllocError> {
     format!(in alloc; "{fault}: {hint}; {rule}: {text}")
 }
 
-/// Describes the fault of a script's line whose point isn't in the site.
+/// Describes, for `check`, the fault of a script's line whose point isn't in the site.
 fn unknown_point(report: &mut Report, site: &Site, id: &str) -> Result<String, AllocError> {
     let alloc = report.alloc;
     let hint = point_hint(report, site, id)?;
@@ -64,7 +65,7 @@ fn unknown_point(report: &mut Report, site: &Site, id: &str) -> Result<String, A
     format!(in alloc; "{fault}: the site has no point \"{id}\"{hint}")
 }
 
-/// Describes the fault of a script's line whose first word is no instant.
+/// Describes, for `check`, the fault of a script's line whose first word is no instant.
 fn bad_instant(alloc: Global, word: &str) -> Result<String, AllocError> {
     let hint = match read_instant(word) {
         Ok(_) => "",
@@ -76,7 +77,7 @@ fn bad_instant(alloc: Global, word: &str) -> Result<String, AllocError> {
     format!(in alloc; "{fault}: \"{word}\" {hint}; {rule}")
 }
 
-/// Describes the mistake in a script's line that has none of the forms of lines.
+/// Describes, for `check`, the mistake in a script's line that has none of the forms of lines.
 fn form_hint(alloc: Global, text: &str) -> Result<String, AllocError> {
     // This comes first, since two blanks would begin an empty word, and a tab would end none.
     if let Some(hint) = plain_hint(text) {
@@ -100,8 +101,8 @@ fn form_hint(alloc: Global, text: &str) -> Result<String, AllocError> {
     }
 }
 
-/// Returns the mistake that the first characters of a script's line show, such as a comment or a
-/// blank.
+/// Returns, for a fault of `check`, the mistake that the first characters of a script's line show,
+/// such as a comment or a blank.
 fn plain_hint(text: &str) -> Option<&'static str> {
     let start = text.trim_start();
     if start.starts_with('#') || start.starts_with("//") {
@@ -122,7 +123,8 @@ fn plain_hint(text: &str) -> Option<&'static str> {
     first_word_hint(text)
 }
 
-/// Returns the mistake in the first word of a script's line, or in the blanks after it.
+/// Returns, for a fault of `check`, the mistake in the first word of a script's line, or in the
+/// blanks after it.
 fn first_word_hint(text: &str) -> Option<&'static str> {
     let (first, rest) = text.split_once(' ').unwrap_or((text, ""));
     if first.contains('\t') || rest.starts_with('\t') {
@@ -139,14 +141,14 @@ fn first_word_hint(text: &str) -> Option<&'static str> {
     None
 }
 
-/// Returns whether a word in a script, where an instant is wanted, looks like a date without a
+/// Returns whether a word in a script, where `check` wants an instant, looks like a date without a
 /// time.
 fn is_date(word: &str) -> bool {
     word.len() == 10 && has_shape(word, "dddd-dd-dd")
 }
 
 /// Returns whether a word in a script begins with characters of this shape of an instant, `d` for a
-/// digit.
+/// digit, for a hint of `check`.
 fn has_shape(text: &str, shape: &str) -> bool {
     if text.len() < shape.len() {
         return false;
@@ -164,7 +166,8 @@ fn has_shape(text: &str, shape: &str) -> bool {
     true
 }
 
-/// Describes the words that have to follow the second word of a script's line, which is right.
+/// Describes, for a fault of `check`, the words that have to follow the second word of a script's
+/// line, which is right.
 fn words_hint(word: &str) -> &'static str {
     match word {
         "release" => {
@@ -175,7 +178,8 @@ fn words_hint(word: &str) -> &'static str {
     }
 }
 
-/// Describes the mistake in the instant at the beginning of a script's line.
+/// Describes, for a fault of `check`, the mistake in the instant at the beginning of a script's
+/// line.
 fn instant_hint(word: &str, fault: InstantFault) -> &'static str {
     if matches!(fault, InstantFault::Range) {
         return "lies before 1970 or after the year 9999";
@@ -195,8 +199,8 @@ fn instant_hint(word: &str, fault: InstantFault) -> &'static str {
     "is no instant"
 }
 
-/// Returns a hint at the point that an unknown identity in a script probably means, for the first
-/// 1,000 of them.
+/// Returns a hint of `check` at the point that an unknown identity in a script probably means, for
+/// the first 1,000 such identities.
 pub(crate) fn point_hint(report: &mut Report, site: &Site, id: &str) -> Result<String, AllocError> {
     let alloc = report.alloc;
     if !report.takes_hint() {

@@ -19,8 +19,8 @@ pub(crate) enum Sender {
 }
 
 impl Sender {
-    /// Returns the side that sends the message in a line of a script: an operator, also in a `hold`
-    /// line, or a point.
+    /// Returns, for `check`, the side that sends the message in a line of a script: an operator,
+    /// also in a `hold` line, or a point.
     pub(crate) fn side(self) -> Side {
         match self {
             Sender::Operator | Sender::Hold => Side::Operator,
@@ -88,7 +88,8 @@ impl<'a> LineMessage<'a> {
         }
     }
 
-    /// Returns the reason of a `Rejected`, if that is the answer to this message of a script.
+    /// Returns, for `check`, the reason of a `Rejected`, if that is the answer to this message of a
+    /// script.
     pub(crate) fn rejection(&self) -> Option<Refusal> {
         for line in self.printed {
             if let PrintedLine::Answer {
@@ -102,8 +103,8 @@ impl<'a> LineMessage<'a> {
         None
     }
 
-    /// Returns the reason of a `Rejected` or of a CALLERROR, if that is the answer to this message
-    /// of a script.
+    /// Returns, for `check`, the reason of a `Rejected` or of a CALLERROR, if that is the answer to
+    /// this message of a script.
     pub(crate) fn refusal(&self) -> Option<Refusal> {
         for line in self.printed {
             let PrintedLine::Answer { response, .. } = line else {
@@ -119,8 +120,8 @@ impl<'a> LineMessage<'a> {
     }
 }
 
-/// Returns a script's line as a text, empty if it isn't UTF-8, and the number of its bytes that are
-/// UTF-8.
+/// Returns a script's line as a text for `check`, empty if it isn't UTF-8, and the number of its
+/// bytes that are UTF-8.
 pub(crate) fn utf8_of(line: &[u8]) -> (&str, usize) {
     match std::str::from_utf8(line) {
         Ok(text) => (text, line.len()),

@@ -8,8 +8,8 @@ use ocpp_scalars::Refusal;
 use replay::PrintedLine;
 use std::alloc::{AllocError, Global};
 
-/// Returns whether the refusal of a message in a script depends on the state by then, or on the
-/// length of a schedule.
+/// Returns, for `check`, whether the refusal of a message in a script depends on the point's state
+/// or the length of a schedule.
 // The check of a message by itself leaves these out, so that none is reported twice.
 pub(crate) fn depends_on_state(refusal: Refusal) -> bool {
     matches!(
@@ -42,8 +42,8 @@ pub fn check_printed(
     report.into_findings()
 }
 
-/// Checks an answer in the output of a script's line. Reports a refusal that depends on the point's
-/// state, and a clear without a match.
+/// Checks, for `check`, an answer in the output of a script's line. Reports a refusal that depends
+/// on the point's state, and a clear without a match.
 fn check_answer(report: &mut Report, response: &Response) {
     match response {
         Response::Rejected(refusal) | Response::Error(CallFault::Refused(refusal)) => {
@@ -56,7 +56,8 @@ fn check_answer(report: &mut Report, response: &Response) {
     }
 }
 
-/// Reports that a message in a script is refused, if that depends on the point's state.
+/// Reports, for `check`, that a message in a script is refused, if that depends on the point's
+/// state.
 fn check_refusal(report: &mut Report, refusal: Refusal) {
     if depends_on_state(refusal) {
         let why = sentence(refusal);

@@ -13,8 +13,8 @@ use profile_findings::never_rated;
 use site_rules::{Site, SitePoint, admit};
 use std::alloc::{AllocError, Global};
 
-/// Checks a SetChargingProfile in a line of a script, whose fields are right: its refusal by the
-/// site, and its probable mistakes.
+/// Checks, for `check`, a SetChargingProfile in a line of a script, whose fields are right: its
+/// refusal by the site, and its probable mistakes.
 pub(crate) fn check_install(
     report: &mut Report,
     text: &LineMessage<'_>,
@@ -37,8 +37,8 @@ pub(crate) fn check_install(
     warn_rates(report, text.moment, &profile);
 }
 
-/// Checks the profile of an operator's SetChargingProfile by itself, without the site or a moment.
-/// Its fields are right.
+/// Checks the profile of an operator's SetChargingProfile by itself before `call` sends it, without
+/// the site or a moment. Its fields are right.
 pub(crate) fn check_sent_profile(report: &mut Report, parts: ProfileParts) {
     if let Some(profile) = check_parts(report, parts) {
         warn_transaction(report, &profile);
@@ -46,8 +46,8 @@ pub(crate) fn check_sent_profile(report: &mut Report, parts: ProfileParts) {
     }
 }
 
-/// Makes a charging profile of the fields in an operator's message, or reports their refusal. Warns
-/// of fields without an effect.
+/// Makes a charging profile of the fields in an operator's message, or reports their refusal.
+/// Warns, for `check` or `call`, of fields without an effect.
 pub(crate) fn check_parts(report: &mut Report, parts: ProfileParts) -> Option<Profile> {
     // This comes first, since a profile drops the fields that have no effect.
     warn_dropped(report, &parts);
@@ -60,14 +60,16 @@ pub(crate) fn check_parts(report: &mut Report, parts: ProfileParts) -> Option<Pr
     }
 }
 
-/// Warns of a charging profile in an operator's message that never sets a limit, with the reason.
+/// Warns, before `call` sends it, of a charging profile in an operator's message that never sets a
+/// limit, with the reason.
 pub(crate) fn warn_never_rated(report: &mut Report, profile: &Profile) {
     if let Some(why) = never_rated(profile) {
         report.warn_text_of(profile.purpose, profile.id, never_sentence(why));
     }
 }
 
-/// Describes the value in a SetChargingProfile for which the site doesn't admit the profile.
+/// Describes, for a fault of `check`, the value in a SetChargingProfile for which the site doesn't
+/// admit the profile.
 fn place_found(
     alloc: Global,
     site: &Site,
@@ -82,8 +84,8 @@ fn place_found(
     }
 }
 
-/// Warns of fields in an operator's message that have no effect with the charging profile's purpose
-/// or kind.
+/// Warns, for `check` or `call`, of fields in an operator's message that have no effect with the
+/// charging profile's purpose or kind.
 fn warn_dropped(report: &mut Report, parts: &ProfileParts) {
     let (purpose, id) = (parts.purpose, parts.id);
     if parts.transaction.is_some() && !matches!(purpose, Purpose::TxProfile) {
@@ -101,7 +103,8 @@ fn warn_dropped(report: &mut Report, parts: &ProfileParts) {
     }
 }
 
-/// Reports the refusal of a charging profile that isn't well formed, with the value at fault.
+/// Reports, for `check` or `call`, the refusal of a charging profile that isn't well formed, with
+/// the value at fault.
 fn refuse_parts(report: &mut Report, refusal: Refusal, parts: &ProfileParts) {
     let alloc = report.alloc;
     let periods = parts.schedule.periods.as_slice();
@@ -114,8 +117,8 @@ fn refuse_parts(report: &mut Report, refusal: Refusal, parts: &ProfileParts) {
     reject_found(report, refusal, found);
 }
 
-/// Describes the first chargingSchedulePeriod of a profile that doesn't start later than the one
-/// before it.
+/// Describes, for a fault of `check`, the first chargingSchedulePeriod of a profile that doesn't
+/// start later than the one before it.
 fn out_of_order(alloc: Global, periods: &[Period]) -> Result<String, AllocError> {
     let mut before: Option<u32> = None;
     for (index, period) in periods.iter().enumerate() {
@@ -132,8 +135,8 @@ fn out_of_order(alloc: Global, periods: &[Period]) -> Result<String, AllocError>
     Ok(String::new(alloc))
 }
 
-/// Warns of an operator's TxProfile without a transactionId, which the point may take for the next
-/// car.
+/// Warns, for `check` or `call`, of an operator's TxProfile without a transactionId, which the
+/// point may take for the next car.
 // The call may wait for the point until the transaction has ended, which doesn't cancel it.
 fn warn_transaction(report: &mut Report, profile: &Profile) {
     if matches!(profile.purpose, Purpose::TxProfile) && profile.transaction.is_none() {
@@ -145,7 +148,8 @@ fn warn_transaction(report: &mut Report, profile: &Profile) {
     }
 }
 
-/// Warns of a profile in a line of a script that never lowers a limit at the line's point.
+/// Warns, for `check`, of a profile in a line of a script that never lowers a limit at the line's
+/// point.
 pub(crate) fn warn_ceiling_at(
     report: &mut Report,
     text: &LineMessage<'_>,
@@ -157,7 +161,8 @@ pub(crate) fn warn_ceiling_at(
     }
 }
 
-/// Warns of a profile that never lowers a limit, since the ceilings of the site file are below it.
+/// Warns, for `check`, of a profile that never lowers a limit, since the ceilings of the site file
+/// are below it.
 fn warn_ceiling(report: &mut Report, point: SitePoint<'_>, connector: u32, profile: &Profile) {
     let ceiling = highest_ceiling(point, connector, profile.purpose);
     let periods = profile.schedule.periods.as_slice();
@@ -167,8 +172,8 @@ fn warn_ceiling(report: &mut Report, point: SitePoint<'_>, connector: u32, profi
     }
 }
 
-/// Describes, for a warning, a profile whose limits are all above this ceiling of the site file, in
-/// tenths.
+/// Describes, for a warning of `check`, a profile whose limits are all above this ceiling of the
+/// site file, in tenths.
 fn ceiling_message(alloc: Global, ceiling: u32) -> Result<String, AllocError> {
     let ceiling = tenths_text(alloc, u64::from(ceiling))?;
     format!(in alloc;
@@ -176,9 +181,9 @@ fn ceiling_message(alloc: Global, ceiling: u32) -> Result<String, AllocError> {
     )
 }
 
-/// Returns the highest ceiling of the site file that a profile could lower, in tenths. For a
-/// ChargePointMaxProfile it is the point's, otherwise the lower of the point's and the connector's.
-/// For a profile at connector 0 the highest ceiling of a connector counts.
+/// Returns the highest ceiling of the site file that a profile could lower, in tenths, for a
+/// warning of `check`. A ChargePointMaxProfile could lower the point's ceiling, any other the lower
+/// of the point's and the connector's. At connector 0 the highest ceiling of a connector counts.
 fn highest_ceiling(point: SitePoint<'_>, connector: u32, purpose: Purpose) -> u32 {
     if matches!(purpose, Purpose::ChargePointMaxProfile) {
         return point.ceiling;
@@ -192,8 +197,8 @@ fn highest_ceiling(point: SitePoint<'_>, connector: u32, purpose: Purpose) -> u3
     highest.min(point.ceiling)
 }
 
-/// Warns of a charging profile in a script that never sets a limit, or sets none at times that
-/// probably weren't meant.
+/// Warns, for `check`, of a charging profile in a script that never sets a limit, or sets none at
+/// times that probably weren't meant.
 pub(crate) fn warn_rates(report: &mut Report, moment: Instant, profile: &Profile) {
     if let Some(why) = never_rated(profile) {
         return report.warn_text_of(profile.purpose, profile.id, never_sentence(why));
@@ -219,8 +224,8 @@ fn over_message(alloc: Global, end: Instant) -> Result<String, AllocError> {
     )
 }
 
-/// Warns of a profile's chargingSchedulePeriod that starts when the duration of the schedule is
-/// over.
+/// Warns, for `check`, of a profile's chargingSchedulePeriod that starts when the duration of the
+/// schedule is over.
 fn warn_duration(report: &mut Report, profile: &Profile) {
     let Some(duration) = profile.schedule.duration else {
         return;
@@ -234,7 +239,7 @@ fn warn_duration(report: &mut Report, profile: &Profile) {
 }
 
 /// Returns the index and the start of a profile's first chargingSchedulePeriod that starts at this
-/// offset or later, in seconds.
+/// offset or later, in seconds, for a warning of `check`.
 fn first_past(profile: &Profile, end: u64) -> Option<(usize, u32)> {
     for (index, period) in profile.schedule.periods.as_slice().iter().enumerate() {
         if u64::from(period.start) >= end {
@@ -244,7 +249,8 @@ fn first_past(profile: &Profile, end: u64) -> Option<(usize, u32)> {
     None
 }
 
-/// Warns of the parts of a Daily or Weekly schedule after its day or week, and of its gaps.
+/// Warns, for `check`, of the parts of a Daily or Weekly schedule after its day or week, and of its
+/// gaps.
 fn warn_recurrence(report: &mut Report, profile: &Profile, recurrency: Recurrency) {
     let length = recurrency.length();
     let unit = match recurrency {
@@ -268,8 +274,8 @@ fn warn_recurrence(report: &mut Report, profile: &Profile, recurrency: Recurrenc
     warn_gaps(report, profile, recurrency);
 }
 
-/// Warns of the gaps of a Daily or Weekly schedule: after its duration, and before its first
-/// period.
+/// Warns, for `check`, of the gaps of a Daily or Weekly schedule: after its duration, and before
+/// its first period.
 fn warn_gaps(report: &mut Report, profile: &Profile, recurrency: Recurrency) {
     let length = recurrency.length();
     let end = profile.schedule.duration.map_or(length, u64::from);
@@ -284,7 +290,8 @@ fn warn_gaps(report: &mut Report, profile: &Profile, recurrency: Recurrency) {
     }
 }
 
-/// Warns that a Daily or Weekly profile sets no limit between two offsets of its day or week.
+/// Warns, for `check`, that a Daily or Weekly profile sets no limit between two offsets of its day
+/// or week.
 fn warn_gap(report: &mut Report, profile: &Profile, recurrency: Recurrency, from: u64, to: u64) {
     let Ok(when) = gap_text(report.alloc, profile, recurrency, from, to) else {
         return report.fail();
@@ -295,8 +302,8 @@ fn warn_gap(report: &mut Report, profile: &Profile, recurrency: Recurrency, from
     report.warn_of(profile.purpose, profile.id, message);
 }
 
-/// Describes the time of each day or week in which a Recurring profile sets no limit. Writes times
-/// of the clock if those are known, otherwise offsets in seconds.
+/// Describes, for a warning of `check`, the time of each day or week in which a Recurring profile
+/// sets no limit. Writes times of the clock if those are known, otherwise offsets in seconds.
 fn gap_text(
     alloc: Global,
     profile: &Profile,
@@ -315,8 +322,8 @@ fn gap_text(
     }
 }
 
-/// Describes the time of each day in which a Daily profile sets no limit, by two offsets from its
-/// startSchedule. None if one of them lies after the calendar.
+/// Describes, for a warning of `check`, the time of each day in which a Daily profile sets no
+/// limit, by two offsets from its startSchedule. None if one of them lies after the calendar.
 fn clock_text(
     alloc: Global,
     start: Instant,
@@ -339,7 +346,7 @@ fn clock_text(
 }
 
 /// Returns the hour and the minute in the text of an instant, and the second unless 0, for a
-/// warning of a Daily profile.
+/// warning of `check`.
 fn time_in(instant: &str) -> Option<&str> {
     let (_, time) = instant.split_once('T')?;
     let time = time.strip_suffix('Z')?;

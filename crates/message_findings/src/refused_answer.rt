@@ -23,7 +23,8 @@ pub fn answer_sentence(alloc: Global, answer: &str) -> Result<Option<String>, Al
     }
 }
 
-/// Explains the refusal in the answer to an operator's CALL, if it is a refusal.
+/// Explains, for `central call`, the refusal in the answer to an operator's CALL, if it is a
+/// refusal.
 fn sentence_of(
     alloc: Global,
     answer: Option<RejectedAnswer<'_>>,
@@ -41,8 +42,8 @@ fn sentence_of(
     }
 }
 
-/// Explains the refusal of this name in the answer to an operator's CALL. None if there is no such
-/// refusal.
+/// Explains, for `central call`, the refusal of this name in the answer to an operator's CALL. None
+/// if there is no such refusal.
 fn refusal_sentence(alloc: Global, name: &str) -> Result<Option<String>, AllocError> {
     let Some(refusal) = refusal_of(name) else {
         return Ok(None);
@@ -54,8 +55,8 @@ fn refusal_sentence(alloc: Global, name: &str) -> Result<Option<String>, AllocEr
     Ok(Some(format!(in alloc; "{refusal}: {why}")?))
 }
 
-/// Explains the CALLERROR of this code in answer to an operator's CALL, with the field that the
-/// description names.
+/// Explains, for `central call`, the CALLERROR of this code in answer to an operator's CALL, with
+/// the field that the description names.
 fn fault_sentence(alloc: Global, code: &str, field: &str) -> Result<Option<String>, AllocError> {
     let Some(fault) = fault_of(code) else {
         return Ok(None);

@@ -12,8 +12,8 @@ use ocpp_scalars::Refusal;
 use profile::{Profile, ProfileParts, Purpose};
 use std::alloc::{AllocError, Global};
 
-/// Checks a RemoteStartTransaction in a line of a script, whose fields are right: its refusal and
-/// its profile.
+/// Checks, for `check`, a RemoteStartTransaction in a line of a script, whose fields are right: its
+/// refusal and its profile.
 pub(crate) fn check_remote_start(
     report: &mut Report,
     text: &LineMessage<'_>,
@@ -40,8 +40,8 @@ pub(crate) fn check_remote_start(
     warn_rates(report, text.moment, &profile);
 }
 
-/// Checks the profile of an operator's RemoteStartTransaction by itself, without the site or a
-/// moment.
+/// Checks the profile of an operator's RemoteStartTransaction by itself before `call` sends it,
+/// without the site or a moment.
 pub(crate) fn check_sent_start(report: &mut Report, start: RemoteStartTransaction) {
     let RemoteStartTransaction { profile, .. } = start;
     let Some(parts) = profile else {
@@ -52,8 +52,8 @@ pub(crate) fn check_sent_start(report: &mut Report, start: RemoteStartTransactio
     }
 }
 
-/// Makes the charging profile of a RemoteStartTransaction, or reports its refusal. Warns of fields
-/// without an effect.
+/// Makes the charging profile of a RemoteStartTransaction, or reports its refusal. Warns, for
+/// `check` or `call`, of fields without an effect.
 fn check_start_profile(report: &mut Report, parts: ProfileParts) -> Option<Profile> {
     if parts.transaction.is_some() {
         let message =
@@ -68,8 +68,8 @@ fn check_start_profile(report: &mut Report, parts: ProfileParts) -> Option<Profi
     check_parts(report, parts)
 }
 
-/// Reports why a RemoteStartTransaction in a script is rejected, unless that depends on the point's
-/// state.
+/// Reports, for `check`, why a RemoteStartTransaction in a script is rejected, unless that depends
+/// on the point's state.
 fn refuse_start(
     report: &mut Report,
     text: &LineMessage<'_>,
@@ -94,7 +94,8 @@ fn refuse_start(
     }
 }
 
-/// Reports a RemoteStartTransaction in a script at a connector at which no transaction can start.
+/// Reports, for `check`, a RemoteStartTransaction in a script at a connector at which no
+/// transaction can start.
 fn reject_connector(report: &mut Report, text: &LineMessage<'_>, connector: u32) {
     let count = connector_count(text);
     let found = format!(in report.alloc;
@@ -103,8 +104,8 @@ fn reject_connector(report: &mut Report, text: &LineMessage<'_>, connector: u32)
     reject_found(report, Refusal::UnknownConnector, found);
 }
 
-/// Warns of a transaction in a script without the profile of the remote start that waited at its
-/// connector.
+/// Warns, for `check`, of a transaction in a script without the profile of the remote start that
+/// waited at its connector.
 pub(crate) fn check_ended_start(report: &mut Report, ended: &EndedStart) {
     report.warn(ended_start_message(report.alloc, ended));
 }

@@ -9,8 +9,8 @@ use std::alloc::{AllocError, Global};
 // A long script may name an unknown point in each line, and a site may have 1,000 points.
 const MAX_HINTS: u32 = 1_000;
 
-/// The findings so far, and the current line. After a failed allocation findings may be missing, and
-/// `into_findings` returns the error.
+/// The findings so far, and the current line. After a failed allocation findings may be missing,
+/// and `into_findings` returns the error.
 // A `?` behind each finding would say the same, but each costs the prover what it costs a reader: a
 // way out, with all that has to be dropped there.
 #[derive(Drop)]
@@ -26,7 +26,7 @@ pub(crate) struct Report {
 }
 
 impl Report {
-    /// Begins the findings in a script or an operator's message, without any.
+    /// Begins the findings of `check` or `call` in a script or an operator's message, without any.
     pub(crate) fn new(alloc: Global) -> Report {
         Report {
             alloc,
@@ -37,7 +37,8 @@ impl Report {
         }
     }
 
-    /// Returns all findings in a script or an operator's message, unless an allocation failed.
+    /// Returns all findings of `check` or `call` in a script or an operator's message, unless an
+    /// allocation failed.
     pub(crate) fn into_findings(self) -> Result<Vec<Finding>, AllocError> {
         let Report {
             findings,
@@ -51,7 +52,7 @@ impl Report {
         }
     }
 
-    /// Returns the error if an allocation for the findings in a script failed so far.
+    /// Returns the error if an allocation for the findings of `check` in a script failed so far.
     pub(crate) fn outcome(&self) -> Result<(), AllocError> {
         if self.is_short {
             Err(AllocError)
@@ -60,19 +61,19 @@ impl Report {
         }
     }
 
-    /// Notes that an allocation for a finding in a script or an operator's message failed
-    /// elsewhere.
+    /// Notes that an allocation for a finding of `check` or `call` in a script or an operator's
+    /// message failed elsewhere.
     pub(crate) fn fail(&mut self) {
         self.is_short = true;
     }
 
-    /// Goes to the line of this number in a script, which the next findings are in.
+    /// Goes to the line of this number in a script, which the next findings of `check` are in.
     pub(crate) fn go_to(&mut self, line: u64) {
         self.line = line;
     }
 
-    /// Returns whether one more unknown identity in a script may be compared with all those of the
-    /// site, and counts it.
+    /// Returns whether `check` may compare one more unknown identity in a script with all those of
+    /// the site, and counts it.
     pub(crate) fn takes_hint(&mut self) -> bool {
         if self.hints == 0 {
             return false;
@@ -81,18 +82,20 @@ impl Report {
         true
     }
 
-    /// Adds a fault to the findings in a script or an operator's message, on the current line.
+    /// Adds a fault to the findings of `check` or `call` in a script or an operator's message, on
+    /// the current line.
     pub(crate) fn fault(&mut self, message: Result<String, AllocError>) {
         self.add(Severity::Fault, self.line, message);
     }
 
-    /// Adds a warning to the findings in a script or an operator's message, on the current line.
+    /// Adds a warning to the findings of `check` or `call` in a script or an operator's message, on
+    /// the current line.
     pub(crate) fn warn(&mut self, message: Result<String, AllocError>) {
         self.add(Severity::Warning, self.line, message);
     }
 
-    /// Adds a warning of a charging profile to the findings in a script or an operator's message.
-    /// It names the purpose and the chargingProfileId.
+    /// Adds a warning of a charging profile to the findings of `check` or `call` in a script or an
+    /// operator's message. It names the purpose and the chargingProfileId.
     pub(crate) fn warn_of(
         &mut self,
         purpose: Purpose,
@@ -105,31 +108,31 @@ impl Report {
         }
     }
 
-    /// Adds a warning of a charging profile to the findings, as `warn_of` does, with a copy of this
-    /// message about it.
+    /// Adds a warning of a charging profile to the findings of `check` or `call`, as `warn_of`
+    /// does, with a copy of this message about it.
     pub(crate) fn warn_text_of(&mut self, purpose: Purpose, id: i32, message: &str) {
         let purpose = purpose_name(purpose);
         self.warn(format!(in self.alloc; "{purpose} {id}: {message}"));
     }
 
-    /// Adds a remark to the findings in a script, on the line of this number.
+    /// Adds a remark to the findings of `check` in a script, on the line of this number.
     pub(crate) fn remark_at(&mut self, line: u64, message: Result<String, AllocError>) {
         self.add(Severity::Remark, line, message);
     }
 
-    /// Adds a remark to the findings in a script, on the current line.
+    /// Adds a remark to the findings of `check` in a script, on the current line.
     pub(crate) fn remark(&mut self, message: Result<String, AllocError>) {
         self.remark_at(self.line, message);
     }
 
-    /// Adds a warning to the findings in a script, on the current line, with a copy of this
-    /// message.
+    /// Adds a warning to the findings of `check` in a script, on the current line, with a copy of
+    /// this message.
     pub(crate) fn warn_text(&mut self, message: &str) {
         self.warn(String::from_str(self.alloc, message));
     }
 
-    /// Adds a finding in a script or an operator's message, on the line of this number. A failed
-    /// allocation of its message counts as one of the report.
+    /// Adds a finding of `check` or `call` in a script or an operator's message, on the line of
+    /// this number. A failed allocation of its message counts as one of the report.
     fn add(&mut self, severity: Severity, line: u64, message: Result<String, AllocError>) {
         let Ok(message) = message else {
             return self.fail();

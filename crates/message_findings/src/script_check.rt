@@ -60,16 +60,16 @@ impl ScriptCheck {
         self.report.outcome()
     }
 
-    /// Keeps a request that the `hold` line of this number took, for a remark if it is still held
-    /// at the end.
+    /// Keeps a request that the `hold` line of this number took, for a remark of `check` if it is
+    /// still held when the script ends.
     fn hold(&mut self, request: u64, line: u64) {
         if self.held.push(HeldRequest { request, line }).is_err() {
             self.report.fail();
         }
     }
 
-    /// Checks the script's line played last: its message, the number that it releases, or its
-    /// fault.
+    /// Checks, for `check`, the script's line played last: its message, the number that it
+    /// releases, or its fault.
     fn check_line(&mut self, playing: &Playing<'_>, played: &PlayedLine<'_>) {
         let site = playing.machine().site();
         match &played.said {
@@ -91,7 +91,8 @@ impl ScriptCheck {
         }
     }
 
-    /// Checks the message in a line of a script, and the remote start that ended with it.
+    /// Checks, for `check`, the message in a line of a script, and the remote start that ended with
+    /// it.
     fn check_sent(&mut self, playing: &Playing<'_>, played: &PlayedLine<'_>, sent: &SentText<'_>) {
         let Ok(starts) = self.starts.follow(playing, played, sent.point()) else {
             return self.report.fail();
@@ -115,8 +116,8 @@ impl ScriptCheck {
         self.report.into_findings()
     }
 
-    /// Adds a remark on the `hold` line that took the request of this number, which is still held
-    /// when the script ends.
+    /// Adds a remark of `check` on the `hold` line that took the request of this number, which is
+    /// still held when the script ends.
     fn remark_held(&mut self, number: u64) {
         for line in &self.held {
             if line.request == number {
@@ -129,7 +130,7 @@ impl ScriptCheck {
     }
 }
 
-/// Reports a `release` line of a script with the number of no held request.
+/// Reports, for `check`, a `release` line of a script with the number of no held request.
 fn unknown_request(report: &mut Report, number: u64) {
     let sentence = line_sentence(ScriptLineFault::UnknownRequest);
     report.fault(format!(in report.alloc;

@@ -45,8 +45,8 @@ pub fn check_sent(alloc: Global, text: &str) -> Result<SentCheck, AllocError> {
     }
 }
 
-/// Checks an operator's message by itself before it is sent. Returns none if the text is no message
-/// of OCPP-J.
+/// Checks an operator's message by itself before `call` sends it. Returns none if the text is no
+/// message of OCPP-J.
 fn check_message(
     alloc: Global,
     memory: &mut ReadingMemory,
@@ -61,7 +61,7 @@ fn check_message(
     }
 }
 
-/// Checks the frame of an operator's message before it is sent, which has to be a CALL of an
+/// Checks the frame of an operator's message before `call` sends it, which has to be a CALL of an
 /// operator's action.
 fn check_frame(alloc: Global, text: &str, frame: Frame<'_>) -> Result<SentCheck, AllocError> {
     match frame {
@@ -92,7 +92,8 @@ pub fn json_break(alloc: Global, text: &str) -> Result<Option<String>, AllocErro
     Ok(Some(format!(in alloc; "{place}: {found}")?))
 }
 
-/// Returns the check of a CALL to be sent whose action an operator doesn't have.
+/// Returns the findings of `call` in a CALL that it is to send, whose action an operator doesn't
+/// have.
 fn no_operators_action(alloc: Global, name: &str) -> Result<SentCheck, AllocError> {
     let mut report = Report::new(alloc);
     refuse_action(&mut report, Side::Operator, name);
@@ -103,8 +104,8 @@ fn no_operators_action(alloc: Global, name: &str) -> Result<SentCheck, AllocErro
     })
 }
 
-/// Returns a check of an operator's message without findings, and with the reason why it is no CALL
-/// if it isn't one.
+/// Returns the check by `call` of an operator's message without findings, and with the reason why
+/// it is no CALL if it isn't one.
 fn nothing_said(alloc: Global, no_call: Option<String>) -> SentCheck {
     SentCheck {
         no_call,
@@ -113,7 +114,7 @@ fn nothing_said(alloc: Global, no_call: Option<String>) -> SentCheck {
     }
 }
 
-/// Checks the fields of an operator's CALL, and then its request, before it is sent.
+/// Checks the fields of an operator's CALL, and then its request, before `call` sends it.
 fn check_fields(
     alloc: Global,
     text: &str,
@@ -136,8 +137,8 @@ fn check_fields(
     })
 }
 
-/// Checks an operator's CALL before it is sent, whose fields are right. Returns whether it clears
-/// everything by mistake.
+/// Checks an operator's CALL, whose fields are right, before `call` sends it. Returns whether it
+/// clears everything by mistake.
 fn check_read(
     report: &mut Report,
     text: &str,
@@ -167,8 +168,8 @@ fn check_read(
     }
 }
 
-/// Reports a field of an operator's CALL that isn't right, and its unknown fields, before it is
-/// sent.
+/// Reports a field of an operator's CALL that isn't right, and its unknown fields, before `call`
+/// sends it.
 fn check_fault(
     report: &mut Report,
     text: &str,
@@ -183,7 +184,7 @@ fn check_fault(
     warn_unknown(report, text, kind);
 }
 
-/// Warns of an operator's ClearChargingProfile before it is sent. Returns whether it clears
+/// Warns of an operator's ClearChargingProfile before `call` sends it. Returns whether it clears
 /// everything by mistake.
 // An empty payload isn't a mistake here: OCPP lets it clear everything, and nothing is misspelled.
 fn check_clear(

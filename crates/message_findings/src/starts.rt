@@ -54,7 +54,8 @@ pub(crate) struct PendingRemoteStarts {
 }
 
 impl PendingRemoteStarts {
-    /// Begins before the first line of a script, with no remote start that waits at a point.
+    /// Begins, for `check`, before the first line of a script, with no remote start that waits at a
+    /// point.
     pub(crate) fn new(alloc: Global) -> PendingRemoteStarts {
         PendingRemoteStarts {
             alloc,
@@ -62,8 +63,8 @@ impl PendingRemoteStarts {
         }
     }
 
-    /// Follows the effect of the script's line played last on the remote starts that wait at its
-    /// point.
+    /// Follows, for `check`, the effect of the script's line played last on the remote starts that
+    /// wait at its point.
     pub(crate) fn follow(
         &mut self,
         playing: &Playing<'_>,
@@ -80,8 +81,8 @@ impl PendingRemoteStarts {
         known.follow(alloc, playing, played, point)
     }
 
-    /// Returns the remote starts that wait at the point at this index of the site, as known so far
-    /// from a script.
+    /// Returns the remote starts that wait at the point at this index of the site, as `check` knows
+    /// them so far from a script.
     fn known(&mut self, place: usize) -> Result<Option<&mut PointStarts>, AllocError> {
         for _place in self.points.len()..place.saturating_add(1) {
             self.points.push(PointStarts {
@@ -94,7 +95,8 @@ impl PendingRemoteStarts {
 }
 
 impl StartsChange {
-    /// Returns the change by a script's line without an effect on the remote starts of its point.
+    /// Returns, for `check`, the change by a script's line without an effect on the remote starts
+    /// of its point.
     fn none() -> StartsChange {
         StartsChange {
             replies_to: None,
@@ -104,8 +106,8 @@ impl StartsChange {
 }
 
 impl PointStarts {
-    /// Follows the effect of the script's line played last on the remote starts that wait at this
-    /// point.
+    /// Follows, for `check`, the effect of the script's line played last on the remote starts that
+    /// wait at this point.
     fn follow(
         &mut self,
         alloc: Global,
@@ -132,7 +134,7 @@ impl PointStarts {
         Ok(change)
     }
 
-    /// Notes the action of the call that a script's line sent to its point.
+    /// Notes, for `check`, the action of the call that a script's line sent to its point.
     fn follow_calls(&mut self, played: &PlayedLine<'_>) {
         for line in &played.outcome.printed {
             if let PrintedLine::Call { call, .. } = line {
@@ -142,7 +144,8 @@ impl PointStarts {
     }
 }
 
-/// Returns the remote starts that wait at a point after the script's line played last.
+/// Returns, for `check`, the remote starts that wait at a point after the script's line played
+/// last.
 fn known_starts(
     alloc: Global,
     playing: &Playing<'_>,
@@ -161,7 +164,7 @@ fn known_starts(
 }
 
 /// Returns the remote start that a transaction ended at its point, if it had a profile that isn't
-/// installed.
+/// installed, for a warning of `check`.
 fn ended_start(
     alloc: Global,
     known: &PointStarts,
@@ -188,13 +191,15 @@ fn ended_start(
     }
 }
 
-/// Returns whether the idTags of a remote start and of the transaction after it are the same.
+/// Returns whether the idTags of a remote start and of the transaction after it are the same, for a
+/// warning of `check`.
 // An idTag is a CiString, whose case doesn't count. Here that holds for ASCII letters.
 fn is_same_tag(tag: &IdTag, other: &IdTag) -> bool {
     tag.as_str().eq_ignore_ascii_case(other.as_str())
 }
 
 /// Returns whether a connector has the TxProfile of this id, which came with a remote start.
+/// Otherwise `check` warns.
 fn has_tx_profile(book: &PointBook, connector: u32, id: i32) -> bool {
     book.view().rows.iter().any(|row| {
         row.connector == connector

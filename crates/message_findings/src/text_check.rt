@@ -32,7 +32,8 @@ pub(crate) fn check_text(report: &mut Report, memory: &mut ReadingMemory, text: 
     }
 }
 
-/// Checks the frame in a line of a script, and returns whether it is a message of OCPP-J.
+/// Checks, for `check`, the frame in a line of a script, and returns whether it is a message of
+/// OCPP-J.
 fn check_message(
     report: &mut Report,
     memory: &mut ReadingMemory,
@@ -47,7 +48,7 @@ fn check_message(
     Reading::Checked
 }
 
-/// Checks a frame in a line of a script: a CALL by its action, a reply by its status.
+/// Checks, for `check`, a frame in a line of a script: a CALL by its action, a reply by its status.
 fn check_frame(report: &mut Report, text: &LineMessage<'_>, frame: Frame<'_>) {
     match frame {
         Frame::Call {
@@ -71,8 +72,8 @@ fn check_frame(report: &mut Report, text: &LineMessage<'_>, frame: Frame<'_>) {
     }
 }
 
-/// Returns the status in a point's reply to a call of this action, if the call isn't done by it, for
-/// a warning of `check`.
+/// Returns, for a warning of `check`, the status in a point's reply to a call of this action, if
+/// the call isn't done by it.
 fn unaccepted_status<'memory>(
     action: ActionKind,
     payload: Node<'_, 'memory>,
@@ -88,8 +89,9 @@ fn unaccepted_status<'memory>(
     }
 }
 
-/// Checks a reply in a line of a script. Warns of an operator's reply, and of a point that doesn't
-/// accept the call in flight or isn't in step. A point's reply that confirms no call is ignored.
+/// Checks, for `check`, a reply in a line of a script. Warns of an operator's reply, and of a point
+/// that doesn't accept the call in flight or isn't in step by an audit. Ignores a point's reply
+/// that confirms no call.
 fn check_reply(report: &mut Report, text: &LineMessage<'_>, id: &str, status: Option<&str>) {
     if text.sender != Sender::Point {
         return report.warn_text(
@@ -126,12 +128,13 @@ fn not_accepted_message(
     format!(in alloc; "the point answers call \"{id}\" with {status}: {effect}")
 }
 
-/// Reports a `hold` line of a script that is no request for a composite schedule.
+/// Reports, for `check`, a `hold` line of a script that is no request for a composite schedule.
 pub(crate) fn not_composite(report: &mut Report, text: &LineMessage<'_>, why: &str) {
     report.fault(not_composite_message(report.alloc, text.frame, why));
 }
 
-/// Describes the frame in a `hold` line of a script that is no request for a composite schedule.
+/// Describes, for `check`, the frame in a `hold` line of a script that is no request for a
+/// composite schedule.
 fn not_composite_message(alloc: Global, frame: &str, why: &str) -> Result<String, AllocError> {
     let fault = ScriptLineFault::NotComposite;
     let rule = line_sentence(fault);
@@ -139,7 +142,8 @@ fn not_composite_message(alloc: Global, frame: &str, why: &str) -> Result<String
     format!(in alloc; "{fault}: {rule}, and {why}: {frame}")
 }
 
-/// Reports a CALL in a line of a script whose action is no string or whose payload is no object.
+/// Reports, for `check`, a CALL in a line of a script whose action is no string or whose payload is
+/// no object.
 fn check_malformed(report: &mut Report, text: &LineMessage<'_>) {
     if text.sender == Sender::Hold {
         return not_composite(report, text, "it is malformed");
@@ -154,7 +158,8 @@ fn malformed_message(alloc: Global, frame: &str) -> Result<String, AllocError> {
     format!(in alloc; "FormationViolation: {sentence}: {frame}")
 }
 
-/// Reports a frame in a line of a script that is no message of OCPP-J, with the reason.
+/// Reports, for `check`, a frame in a line of a script that is no message of OCPP-J, with the
+/// reason.
 fn check_dropped(report: &mut Report, memory: &mut ReadingMemory, text: &LineMessage<'_>) {
     let before = character_count(text.line).saturating_sub(character_count(text.frame));
     let Ok(why) = why_dropped(report.alloc, memory, text.frame, before) else {
@@ -172,8 +177,8 @@ fn dropped_message(alloc: Global, frame: &str, why: &str) -> Result<String, Allo
     format!(in alloc; "this is no message and is discarded without an answer: {why}: {frame}")
 }
 
-/// Describes why a frame in a script, or one to be sent, is no message of OCPP-J. `before` is the
-/// number of characters before it in its line.
+/// Describes, for `check` or `call`, why a frame in a script, or one to be sent, is no message of
+/// OCPP-J. `before` is the number of characters before it in its line.
 pub(crate) fn why_dropped(
     alloc: Global,
     memory: &mut ReadingMemory,
@@ -187,8 +192,8 @@ pub(crate) fn why_dropped(
     }
 }
 
-/// Describes the character at which a frame of OCPP-J stops being JSON, with its column in the
-/// line.
+/// Describes, for `check` or `call`, the character at which a frame of OCPP-J stops being JSON,
+/// with its column in the line.
 fn broken_at(
     alloc: Global,
     frame: &str,
@@ -206,7 +211,8 @@ fn broken_at(
     format!(in alloc; "its JSON breaks at column {column}, where {found}")
 }
 
-/// Returns the reason why a JSON text is no message of OCPP-J, such as a wrong first element or id.
+/// Returns, for `check` or `call`, the reason why a JSON text is no message of OCPP-J, such as a
+/// wrong first element or id.
 fn why_no_message(root: Node<'_, '_>) -> &'static str {
     let Some(entries) = root.list() else {
         return "a frame is a list such as [2,\"id\",\"Action\",{}]";

@@ -5,7 +5,8 @@ use crate::report::Report;
 use messages::{FieldKind, FieldRow};
 use ocppj_frame::{Field, text_field};
 
-/// Adds a remark for each instant without a zone in an operator's payload, which counts as UTC.
+/// Adds a remark of `check` for each instant without a zone in an operator's payload, which counts
+/// as UTC.
 // A local time that counts as UTC shifts a schedule by hours. RFC 3339 requires an offset.
 pub(crate) fn remark_unzoned(report: &mut Report, payload: PayloadObject<'_, '_>) {
     let mut object = payload;
@@ -18,7 +19,7 @@ pub(crate) fn remark_unzoned(report: &mut Report, payload: PayloadObject<'_, '_>
     }
 }
 
-/// Adds a remark for each instant without a zone in one object of an operator's payload.
+/// Adds a remark of `check` for each instant without a zone in one object of an operator's payload.
 fn remark_fields(report: &mut Report, object: PayloadObject<'_, '_>) {
     for row in object.fields {
         if row.kind() == FieldKind::Time {
@@ -27,8 +28,8 @@ fn remark_fields(report: &mut Report, object: PayloadObject<'_, '_>) {
     }
 }
 
-/// Adds a remark if the instant in this field of an operator's payload has no zone, so that it
-/// counts as UTC.
+/// Adds a remark of `check` if the instant in this field of an operator's payload has no zone, so
+/// that it counts as UTC.
 fn remark_field(report: &mut Report, object: PayloadObject<'_, '_>, row: FieldRow) {
     let name = row.name().text();
     match text_field(object.node, name) {
@@ -39,8 +40,8 @@ fn remark_field(report: &mut Report, object: PayloadObject<'_, '_>, row: FieldRo
     }
 }
 
-/// Returns whether an instant in an operator's payload has `Z` or an offset after its `T`. Without
-/// a `T`, returns true.
+/// Returns whether an instant in an operator's payload has `Z` or an offset after its `T`; if not,
+/// `check` remarks on it. Without a `T`, returns true.
 // A date has hyphens too, so only the part after the `T` is searched.
 fn has_zone(text: &str) -> bool {
     match text.split_once(['T', 't']) {

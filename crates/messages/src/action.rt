@@ -205,8 +205,8 @@ fn read_remote_start(alloc: Global, payload: Node<'_, '_>) -> Result<Action, Cal
     }))
 }
 
-/// Reads AuditPoint, an action of our own, from the payload of an operator's CALL, or returns its
-/// first fault.
+/// Reads AuditPoint, our own action to compare a point's composite schedule, from the payload of an
+/// operator's CALL, or returns its first fault.
 #[tactic(auto, unfolding(crate::specs::Action::audit_point_of))]
 fn read_audit_point(payload: Node<'_, '_>) -> Result<Action, CallFault>
     ensures { result ≡ audit_point_of (tree_at payload.entry) }

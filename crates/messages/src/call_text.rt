@@ -275,8 +275,8 @@ enum Criterion {
     StackLevel(u32),
 }
 
-/// Appends the given criteria of a ClearChargingProfile call, for pages that show calls: with
-/// commas between them, or `every profile` if there is none.
+/// Appends the given criteria of a ClearChargingProfile call with commas between them, or
+/// `every profile` if there is none, for pages such as `central show`'s.
 fn push_criteria(out: &mut String, criteria: &Criteria) -> Result<(), AllocError>
     ensures { Appends result (string_bytes out.old) (string_bytes out.new)
         (criteria_text (criteria_given criteria.now)) }
@@ -292,8 +292,8 @@ fn push_criteria(out: &mut String, criteria: &Criteria) -> Result<(), AllocError
     )
 }
 
-/// Appends those criteria of a ClearChargingProfile call that are given, in words and with commas
-/// between them, or `every profile`.
+/// Appends in words those criteria of a ClearChargingProfile call that are given, or
+/// `every profile`, for pages such as that of `central show`.
 fn push_given(out: &mut String, criteria: &[Option<Criterion>]) -> Result<(), AllocError>
     ensures { Appends result (string_bytes out.old) (string_bytes out.new)
         (criteria_text criteria.now) }
@@ -316,7 +316,7 @@ fn push_given(out: &mut String, criteria: &[Option<Criterion>]) -> Result<(), Al
 }
 
 /// Appends one criterion of a ClearChargingProfile call in words, such as `connector 1`, for pages
-/// that show calls.
+/// such as that of `central show`.
 fn push_criterion(out: &mut String, criterion: &Criterion) -> Result<(), AllocError>
     ensures { Appends result (string_bytes out.old) (string_bytes out.new)
         (criterion_words criterion.now) }
@@ -331,8 +331,8 @@ fn push_criterion(out: &mut String, criterion: &Criterion) -> Result<(), AllocEr
     }
 }
 
-/// Appends words and a number to the description of a call to a charge point, such as `stack level
-/// 3`.
+/// Appends words and a number, such as `stack level 3`, to the description of a call on pages such
+/// as that of `central show`.
 fn push_words(out: &mut String, words: &str, number: FieldValue) -> Result<(), AllocError>
     ensures { Appends result (string_bytes out.old) (string_bytes out.new)
         (words.now ++ value_text number) }
@@ -341,8 +341,8 @@ fn push_words(out: &mut String, words: &str, number: FieldValue) -> Result<(), A
     push_value(out, number)
 }
 
-/// Appends the description of a SetChargingProfile call: its profile's purpose and id, and the
-/// connector, as in `TxProfile 7 at connector 1`.
+/// Appends the description of a SetChargingProfile call, as in `TxProfile 7 at connector 1`, for
+/// pages such as that of `central show`.
 fn push_profile_at(out: &mut String, connector: u32, profile: &Profile) -> Result<(), AllocError>
     ensures { Appends result (string_bytes out.old) (string_bytes out.new)
         (profile_words profile.now.purpose profile.now.id
@@ -352,8 +352,8 @@ fn push_profile_at(out: &mut String, connector: u32, profile: &Profile) -> Resul
     push_words(out, " at connector ", FieldValue::Whole(connector))
 }
 
-/// Appends a charging profile's purpose and id to the description of a call to a charge point, as
-/// in `TxProfile 7`.
+/// Appends a charging profile's purpose and id, as in `TxProfile 7`, to a call's description on
+/// pages such as that of `central show`.
 fn push_profile_words(out: &mut String, profile: &Profile) -> Result<(), AllocError>
     ensures { Appends result (string_bytes out.old) (string_bytes out.new)
         (profile_words profile.now.purpose profile.now.id) }
@@ -362,8 +362,8 @@ fn push_profile_words(out: &mut String, profile: &Profile) -> Result<(), AllocEr
     push_words(out, " ", FieldValue::Signed(profile.id))
 }
 
-/// Appends the description of a call that audits a charge point: its connector and its duration, as
-/// in `connector 1 for 60 s`.
+/// Appends the description of a GetCompositeSchedule call (an audit), as in `connector 1 for 60 s`,
+/// for pages such as that of `central show`.
 fn push_audit_words(out: &mut String, connector: u32, duration: u32) -> Result<(), AllocError>
     ensures { Appends result (string_bytes out.old) (string_bytes out.new)
         (audit_words connector duration) }
@@ -373,8 +373,8 @@ fn push_audit_words(out: &mut String, connector: u32, duration: u32) -> Result<(
     out.push_str(" s")
 }
 
-/// Appends the description of a RemoteStartTransaction call: its idTag, its connector, and its
-/// profile if there is one.
+/// Appends the description of a RemoteStartTransaction call, for pages such as that of
+/// `central show`: its idTag, connector, and profile if there is one.
 fn push_remote_start_words(
     out: &mut String,
     connector: u32,
@@ -389,8 +389,8 @@ fn push_remote_start_words(
     Ok(())
 }
 
-/// Appends the idTag and the connector to the description of a RemoteStartTransaction call, as in
-/// `idTag T1 at connector 1`.
+/// Appends the idTag and the connector of a RemoteStartTransaction call, as in
+/// `idTag T1 at connector 1`, for pages such as that of `central show`.
 fn push_tag_words(out: &mut String, connector: u32, id_tag: &str) -> Result<(), AllocError>
     ensures { Appends result (string_bytes out.old) (string_bytes out.new)
         (tag_words connector id_tag.now) }
@@ -400,8 +400,8 @@ fn push_tag_words(out: &mut String, connector: u32, id_tag: &str) -> Result<(), 
     push_words(out, " at connector ", FieldValue::Whole(connector))
 }
 
-/// Appends the profile of a RemoteStartTransaction call to its description, as in ` with TxProfile
-/// 7`, if it has one.
+/// Appends the profile of a RemoteStartTransaction call, if it has one, as in ` with TxProfile 7`,
+/// for pages such as that of `central show`.
 fn push_profile_suffix(out: &mut String, profile: &Option<Profile>) -> Result<(), AllocError>
     ensures { Appends result (string_bytes out.old) (string_bytes out.new)
         (words_of_profile profile.now) }

@@ -96,7 +96,7 @@ fn push_rejected(out: &mut String, id: &str, refusal: Refusal) -> Result<(), All
     push_frame_end(out)
 }
 
-/// Returns whether a refusal is for lack of memory, and so answered by a CALLERROR.
+/// Returns whether a CALL is refused for lack of memory, and so answered by a CALLERROR.
 fn is_out_of_memory(refusal: Refusal) -> bool
     ensures { result ≡ is_out_of_memory refusal }
 {
@@ -261,8 +261,8 @@ fn push_point_status_result(
     push_frame_end(out)
 }
 
-/// Appends the payload that answers PointStatus: the version, the number of unconfirmed calls, and
-/// the outcome of the last audit.
+/// Appends the payload that answers PointStatus: the version of the site's book, the number of
+/// unconfirmed calls, and the last GetCompositeSchedule audit's outcome.
 fn push_point_status(out: &mut String, status: PointStatus) -> Result<(), AllocError>
     ensures { Appends result (string_bytes out.old) (string_bytes out.new)
         (point_status_text status) }

@@ -104,7 +104,8 @@ pub fn object_field<'tree, 'memory>(
     }
 }
 
-/// Returns the field of this name in an object of an OCPP payload, if it is present and not null.
+/// Returns the field of this name in a JSON object, such as an OCPP payload, if it is present and
+/// not null.
 fn present_field<'tree, 'memory>(
     node: Node<'tree, 'memory>,
     name: &str,

@@ -76,7 +76,8 @@ fn frame_of_tree(alloc: Global, tree: Payload<'_>) -> Result<Frame<'_>, FrameFau
     frame_by(arena, kind, id, third, fourth)
 }
 
-/// Makes the OCPP-J message of this type and id from its third and fourth element, or refuses it.
+/// Makes the OCPP-J message of this type and id from the third and fourth element of its list, or
+/// returns the message's fault.
 fn frame_by<'a>(
     arena: &'a Bump,
     kind: Option<MessageType>,

@@ -37,8 +37,8 @@ fn mark_bytes(text: &[u8], room: &mut Vec<u8>) -> Result<(), AllocError>
     Ok(())
 }
 
-/// Appends a byte outside strings and numbers of a JSON text, with the marked string or number that
-/// it begins. Returns the rest of the others.
+/// Appends a byte outside strings and numbers of a JSON text, such as an OCPP-J message, with the
+/// marked string or number that it begins. Returns the bytes that are left.
 fn push_outside<'a>(out: &mut Vec<u8>, byte: u8, others: &'a [u8]) -> &'a [u8]
     requires { vec_len out.old + 4 * (length others.now + 1) ≤ vec_capacity out.old }
     ensures marked { out.new.items ++ marked_from outside result.now
@@ -63,8 +63,8 @@ fn push_outside<'a>(out: &mut Vec<u8>, byte: u8, others: &'a [u8]) -> &'a [u8]
     }
 }
 
-/// Appends the bytes of a JSON text after the opening quote of a marked string, up to its closing
-/// quote. Returns the rest.
+/// Appends a string of a JSON text, such as an OCPP-J message, from after its opening quote to its
+/// closing quote. Returns the bytes that are left.
 fn push_string<'a>(out: &mut Vec<u8>, text: &'a [u8]) -> &'a [u8]
     requires { vec_len out.old + length text.now ≤ vec_capacity out.old }
     ensures marked { out.new.items ++ marked_from outside result.now
@@ -90,8 +90,8 @@ fn push_string<'a>(out: &mut Vec<u8>, text: &'a [u8]) -> &'a [u8]
     left
 }
 
-/// Appends the bytes of a JSON number after its first one, and the closing quote of its marked
-/// string. Returns the rest.
+/// Appends a number of a JSON text, such as an OCPP-J message, from its second byte on, and its
+/// marked string's closing quote. Returns the bytes that are left.
 fn push_number<'a>(out: &mut Vec<u8>, text: &'a [u8]) -> &'a [u8]
     requires { vec_len out.old + length text.now + 1 ≤ vec_capacity out.old }
     ensures marked { out.new.items ++ marked_from outside result.now

@@ -29,7 +29,8 @@ pub fn check_installed_profiles(
     Ok(findings)
 }
 
-/// Returns a warning for each TxDefaultProfile at connector 0 that may prevail at no connector.
+/// Returns a warning of `check` or `call` for each installed TxDefaultProfile at connector 0 that
+/// may prevail at no connector.
 fn hidden_defaults(
     alloc: Global,
     point: &str,
@@ -45,8 +46,8 @@ fn hidden_defaults(
     Ok(findings)
 }
 
-/// Returns a warning for each ChargePointMaxProfile of a point that one of a higher stack level may
-/// exceed, with the first such one.
+/// Returns a warning of `check` or `call` for each ChargePointMaxProfile of a point that one of a
+/// higher stack level may exceed. It names the first such one.
 fn lifted_limits(
     alloc: Global,
     unit: Unit,
@@ -63,8 +64,9 @@ fn lifted_limits(
     Ok(findings)
 }
 
-/// Returns whether a ChargePointMaxProfile may allow more than one that it overrides: where both
-/// have a limit, only the higher stack level counts (OCPP 1.6, chapter 3.13).
+/// Returns whether a ChargePointMaxProfile may allow more than one that it overrides, for a warning
+/// of `check`. Where both have a limit, only the higher stack level counts (OCPP 1.6, chapter
+/// 3.13).
 // Only the extremes are compared, so the two profiles needn't have a limit at the same time.
 fn lifts(high: &Row, low: &Row) -> bool {
     high.profile.purpose == Purpose::ChargePointMaxProfile
@@ -73,7 +75,8 @@ fn lifts(high: &Row, low: &Row) -> bool {
         && highest_limit(high) > lowest_limit(low)
 }
 
-/// Returns the highest limit in the periods of a point's charging profile, in tenths.
+/// Returns the highest limit in the periods of an installed charging profile, in tenths, for a
+/// finding of `check` or `call`.
 pub(crate) fn highest_limit(row: &Row) -> u32 {
     let mut highest = 0;
     for period in row.profile.schedule.periods.as_slice() {
@@ -82,7 +85,8 @@ pub(crate) fn highest_limit(row: &Row) -> u32 {
     highest
 }
 
-/// Returns the lowest limit in the periods of a point's charging profile, in tenths.
+/// Returns the lowest limit in the periods of an installed charging profile, in tenths, for a
+/// finding of `check` or `call`.
 fn lowest_limit(row: &Row) -> u32 {
     let mut lowest = u32::MAX;
     for period in row.profile.schedule.periods.as_slice() {
@@ -91,7 +95,7 @@ fn lowest_limit(row: &Row) -> u32 {
     lowest
 }
 
-/// Makes the finding that a point's connectors may draw more together than its
+/// Makes the finding of `check` or `call` that a point's connectors may draw more together than its
 /// ChargePointMaxProfile allows, if they may.
 fn excess_finding(
     alloc: Global,
@@ -114,7 +118,8 @@ fn excess_finding(
     Ok(Some(finding_at_end(alloc, severity, point, message)?))
 }
 
-/// Makes a finding in the profiles that the point of this identity has when a script ends.
+/// Makes a finding of `check` or `call` in the profiles that the point of this identity has after
+/// the lines that were played.
 fn finding_at_end(
     alloc: Global,
     severity: Severity,
@@ -128,8 +133,8 @@ fn finding_at_end(
     })
 }
 
-/// Describes a TxDefaultProfile at connector 0 that counts nowhere, since each connector has its
-/// own one.
+/// Describes, for a warning of `check` or `call`, a TxDefaultProfile at connector 0 that counts
+/// nowhere, since each connector has its own one.
 fn hidden_message(alloc: Global, row: &Row) -> Result<String, AllocError> {
     let id = row.profile.id;
     let level = row.profile.stack_level;
@@ -138,7 +143,8 @@ fn hidden_message(alloc: Global, row: &Row) -> Result<String, AllocError> {
     )
 }
 
-/// Describes a ChargePointMaxProfile that allows more than another one of a lower stack level.
+/// Describes, for a warning of `check` or `call`, a ChargePointMaxProfile that allows more than
+/// another one of a lower stack level.
 fn lifted_message(alloc: Global, unit: Unit, high: &Row, low: &Row) -> Result<String, AllocError> {
     let unit = unit_name(unit);
     let (above, below) = (high.profile.id, low.profile.id);
@@ -149,8 +155,8 @@ fn lifted_message(alloc: Global, unit: Unit, high: &Row, low: &Row) -> Result<St
     )
 }
 
-/// Describes connectors that may draw more together than the ChargePointMaxProfile of their point
-/// allows.
+/// Describes, for a finding of `check` or `call`, connectors that may draw more together than the
+/// ChargePointMaxProfile of their point allows.
 fn excess_message(alloc: Global, unit: Unit, excess: &Excess<'_>) -> Result<String, AllocError> {
     let what = if excess.is_scheduled {
         "schedules"

@@ -68,8 +68,9 @@ struct Week<'a> {
     duration: u32,
 }
 
-/// Returns the first instant of the week after the last install at which the connectors' schedules
-/// together exceed the prevailing ChargePointMaxProfile most (OCPP 1.6, chapter 3.13).
+/// Returns, for a finding of `check`, the first worst instant of the week after a point's last
+/// install. There the connectors' schedules together exceed the prevailing ChargePointMaxProfile
+/// most (OCPP 1.6, chapter 3.13).
 pub(crate) fn worst_excess(
     alloc: Global,
     book: &PointBook,
@@ -87,8 +88,8 @@ pub(crate) fn worst_excess(
     Ok(excess_of(&week, overrun))
 }
 
-/// Returns the week from a point's last install on, to compare its connectors' limits with its
-/// ChargePointMaxProfile. None without one.
+/// Returns the week from a point's last install on, in which `check` compares its connectors'
+/// limits with its ChargePointMaxProfile. None if it has no such profile.
 fn week_of(book: &PointBook) -> Option<Week<'_>> {
     let mut last = None;
     let mut is_bounded = false;
@@ -109,7 +110,8 @@ fn week_of(book: &PointBook) -> Option<Week<'_>> {
     })
 }
 
-/// Appends the changes of a point's prevailing ChargePointMaxProfile in the checked week.
+/// Appends the changes of a point's prevailing ChargePointMaxProfile in the week that `check`
+/// examines.
 fn push_most_turns<'a>(turns: &mut Vec<WeekTurn<'a>>, week: &Week<'a>) -> Result<(), AllocError> {
     let mut second = 0;
     // Each change is at least a second after the last, so this range ends the loop without a proof.
@@ -127,13 +129,14 @@ fn push_most_turns<'a>(turns: &mut Vec<WeekTurn<'a>>, week: &Week<'a>) -> Result
     Ok(())
 }
 
-/// Returns the instant at this second of the checked week, which begins at a point's last install.
+/// Returns the instant at this second of the week that `check` examines, which begins at a point's
+/// last install.
 fn later_by(asked: Instant, second: u32) -> Option<Instant> {
     Instant::try_new(asked.seconds().saturating_add(u64::from(second)))
 }
 
-/// Returns the ChargePointMaxProfile that prevails at an instant: of those with a limit the one of
-/// the highest stack level.
+/// Returns the ChargePointMaxProfile that prevails at an instant of the week that `check` examines.
+/// Of those with a limit it is the one of the highest stack level.
 fn most_at(book: &PointBook, asked: Instant, instant: Instant) -> Option<Most<'_>> {
     for row in book.candidates(Purpose::ChargePointMaxProfile, 0) {
         if let Some(limit) = rate_at(&row.profile, row.base(None, asked), instant) {
@@ -143,8 +146,8 @@ fn most_at(book: &PointBook, asked: Instant, instant: Instant) -> Option<Most<'_
     None
 }
 
-/// Returns the next second of the checked week at which the limit of a ChargePointMaxProfile may
-/// change.
+/// Returns the next second of the week that `check` examines at which the limit of a
+/// ChargePointMaxProfile may change.
 fn next_most_turn(week: &Week<'_>, instant: Instant) -> Option<u32> {
     let mut next = None;
     for row in week.book.view().rows {
@@ -157,7 +160,8 @@ fn next_most_turn(week: &Week<'_>, instant: Instant) -> Option<u32> {
     u32::try_from(second).ok()
 }
 
-/// Appends the changes of all connectors' limits in the checked week, which are to be added up.
+/// Appends the changes of all connectors' limits in the week that `check` examines, which are to be
+/// added up.
 // Connectors that are alike change together, so one schedule serves up to 64 of them.
 fn push_limit_turns<'a>(
     alloc: Global,
@@ -175,8 +179,8 @@ fn push_limit_turns<'a>(
     Ok(())
 }
 
-/// Returns whether no connector before this one has the same limits, so that this one's schedule is
-/// computed.
+/// Returns whether no connector before this one has the same limits, so that `check` computes this
+/// one's schedule.
 fn is_first_alike(view: &View<'_>, connector: u32) -> bool {
     for before in 1..connector {
         if are_alike(view, before, connector) {
@@ -186,7 +190,8 @@ fn is_first_alike(view: &View<'_>, connector: u32) -> bool {
     true
 }
 
-/// Returns the number of a point's connectors with the same limits as this one, itself included.
+/// Returns the number of a point's connectors with the same limits as this one, itself included,
+/// for which `check` computes one schedule.
 fn count_alike(view: &View<'_>, connector: u32) -> u64 {
     let mut count: u64 = 0;
     for before in 0..view.ceilings.len() {
@@ -197,8 +202,9 @@ fn count_alike(view: &View<'_>, connector: u32) -> u64 {
     count
 }
 
-/// Returns whether two connectors have the same limits: they are one, or they have the same ceiling
-/// and no profiles of their own. Their transactions began at the same moment, or they have none.
+/// Returns whether two connectors have the same limits, so that `check` computes one schedule for
+/// both. They are one, or have equal ceilings, no profiles of their own, and transactions since the
+/// same moment or none.
 fn are_alike(view: &View<'_>, one: u32, other: u32) -> bool {
     if one == other {
         return true;
@@ -212,8 +218,8 @@ fn are_alike(view: &View<'_>, one: u32, other: u32) -> bool {
             .any(|row| row.connector == one || row.connector == other)
 }
 
-/// Appends the changes of a connector's limit in the checked week, times the number of connectors
-/// like it.
+/// Appends the changes of a connector's limit in the week that `check` examines, times the number
+/// of connectors like it.
 fn push_turns_of<'a>(
     alloc: Global,
     turns: &mut Vec<WeekTurn<'a>>,
@@ -238,8 +244,8 @@ fn push_turns_of<'a>(
     Ok(())
 }
 
-/// Returns the second at which the connectors' limits together exceed the prevailing
-/// ChargePointMaxProfile most. The changes are sorted by second.
+/// Returns, for a finding of `check`, the second at which the connectors' limits together exceed
+/// the prevailing ChargePointMaxProfile most. The changes are sorted by second.
 fn worst_of<'a>(turns: &[WeekTurn<'a>]) -> Option<Overrun<'a>> {
     let mut worst: Option<Overrun<'a>> = None;
     let mut together: u64 = 0;
@@ -260,8 +266,8 @@ fn worst_of<'a>(turns: &[WeekTurn<'a>]) -> Option<Overrun<'a>> {
     worst
 }
 
-/// Returns the overrun at a second, if the connectors' limits together exceed the prevailing
-/// ChargePointMaxProfile.
+/// Returns the overrun at a second of the week that `check` examines, if the connectors' limits
+/// together exceed the prevailing ChargePointMaxProfile.
 fn overrun_of(second: u32, together: u64, most: Option<Most<'_>>) -> Option<Overrun<'_>> {
     let most = most?;
     if together <= u64::from(most.limit) {
@@ -274,8 +280,8 @@ fn overrun_of(second: u32, together: u64, most: Option<Most<'_>>) -> Option<Over
     })
 }
 
-/// Returns the worse of an overrun of the ChargePointMaxProfile and a later one, and the first if
-/// both are equal.
+/// Returns the worse of an overrun of the ChargePointMaxProfile and a later one, for a finding of
+/// `check`, and the first if both are equal.
 fn worse<'a>(first: Option<Overrun<'a>>, later: Option<Overrun<'a>>) -> Option<Overrun<'a>> {
     match (first, later) {
         (Some(first), Some(later)) if later.beyond() <= first.beyond() => Some(first),
@@ -286,13 +292,14 @@ fn worse<'a>(first: Option<Overrun<'a>>, later: Option<Overrun<'a>>) -> Option<O
 
 impl Overrun<'_> {
     /// Returns the excess of the connectors' limits together over that of the
-    /// ChargePointMaxProfile, in tenths.
+    /// ChargePointMaxProfile, in tenths, to find the worst overrun for `check`.
     fn beyond(&self) -> u64 {
         self.together.saturating_sub(u64::from(self.most.limit))
     }
 }
 
-/// Makes the `Excess` for a finding from an overrun of the ChargePointMaxProfile, with its instant.
+/// Makes the `Excess` for a finding of `check` from an overrun of the ChargePointMaxProfile, with
+/// its instant.
 fn excess_of<'a>(week: &Week<'a>, overrun: Overrun<'a>) -> Option<Excess<'a>> {
     let instant = later_by(week.asked, overrun.second)?;
     Some(Excess {
@@ -305,7 +312,7 @@ fn excess_of<'a>(week: &Week<'a>, overrun: Overrun<'a>) -> Option<Excess<'a>> {
 }
 
 /// Returns whether a profile other than a ChargePointMaxProfile prevails at a connector at an
-/// instant, not only the site file's ceilings.
+/// instant of overrun. Then `check` warns; with the site file's ceilings alone it remarks.
 fn is_scheduled(view: &View<'_>, asked: Instant, instant: Instant) -> bool {
     for (place, row) in view.rows.iter().enumerate() {
         if row.profile.purpose != Purpose::ChargePointMaxProfile
@@ -317,8 +324,8 @@ fn is_scheduled(view: &View<'_>, asked: Instant, instant: Instant) -> bool {
     false
 }
 
-/// Returns whether the charging profile at this index prevails at a connector of its point at an
-/// instant.
+/// Returns whether the charging profile at this index prevails at a connector at an instant, for
+/// the severity of a finding of `check`.
 fn prevails_somewhere(view: &View<'_>, asked: Instant, instant: Instant, place: usize) -> bool
     requires within { place < length view.now.rows.now }
 {

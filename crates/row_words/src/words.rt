@@ -70,13 +70,13 @@ impl<'a> KeyedWords<'a> {
         }
     }
 
-    /// Returns whether each value looked up so far in words of test data could be read or is
-    /// absent.
+    /// Returns whether each value looked up so far in a test's words such as `id=1 level=3` could
+    /// be read or is absent.
     pub(crate) fn is_read(&self) -> bool {
         self.is_read
     }
 
-    /// Returns the text after a key such as `level=`, in the first word of test data that begins
+    /// Returns the text after a key such as `level=`, in the first of a test's words that begins
     /// with the key.
     pub(crate) fn value(&self, key: &str) -> Option<&'a str> {
         for word in self.words.split(' ') {
@@ -87,7 +87,8 @@ impl<'a> KeyedWords<'a> {
         None
     }
 
-    /// Notes whether a value in words of test data could be read, and returns it.
+    /// Notes whether a value in a test's words such as `id=1 level=3` could be read, and returns
+    /// it.
     fn noted<T: Copy>(&mut self, read: Option<T>) -> Option<T> {
         // An unreadable value and an absent one are both `None`: this flag distinguishes them.
         self.is_read = self.is_read && read.is_some();

@@ -62,8 +62,8 @@ impl<'a> Pace<'a> {
         ended.set_counted(false);
     }
 
-    /// Counts the session's client among those that send faster than they are served, or no longer.
-    /// Repeats have no effect.
+    /// Counts the session's client among the server's clients that send faster than they are
+    /// served, or removes it from them. Repeats have no effect.
     fn set_counted(&mut self, is_ahead: bool) {
         if is_ahead == self.is_counted {
             return;

@@ -30,7 +30,8 @@ impl Model for Present {
 }
 
 impl Present {
-    /// Returns the entry of a charge point that got no link yet. Links are numbered from 1 on.
+    /// Returns the entry of a charge point that got no link yet, for the server's list of the
+    /// points' present connections. Links are numbered from 1 on.
     fn new() -> Present
         ensures { result ≡ never_connected }
     {
@@ -40,8 +41,9 @@ impl Present {
         }
     }
 
-    /// Enters a link of the point, with the stream of its connection. Returns the stream to shut,
-    /// if there is one: of two streams the one with the earlier link.
+    /// Enters a link of a charge point in the server's list of present connections, with its
+    /// stream. Returns the stream to shut, if there is one: of two streams the one with the earlier
+    /// link.
     fn enter(&mut self, link: u64, stream: SharedStream) -> Option<SharedStream>
         ensures later { self.new ≡ entered self.old link }
         ensures shut { link < self.old.link → IsSome result }
@@ -55,8 +57,8 @@ impl Present {
         self.stream.replace(stream)
     }
 
-    /// Removes the stream of a point's link whose connection has ended, and returns it. Returns
-    /// none if a later connection has entered.
+    /// Removes the stream of a charge point's ended connection from the server's list of present
+    /// connections, and returns it. Returns none if a later connection has entered.
     fn leave(&mut self, link: u64) -> Option<SharedStream>
         ensures { self.new ≡ left self.old link }
     {

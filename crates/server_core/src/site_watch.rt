@@ -255,8 +255,8 @@ fn no_counts() -> SiteCounts {
     }
 }
 
-/// Returns why a point's reply rejects a call, if it does. A status that leaves nothing undone
-/// rejects nothing.
+/// Returns why a point's reply rejects a call, if it does, for the server's observations of the
+/// site. A reply's status that leaves nothing undone rejects nothing.
 fn rejection_of(sent: Option<SentMoment>, call: u64, rejection: Option<String>) -> Option<String> {
     let reason = rejection?;
     match (sent, ReplyStatus::named(reason.as_str())) {

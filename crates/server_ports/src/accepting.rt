@@ -97,7 +97,7 @@ fn accept_next<R: Wait + Clock>(
     }
 }
 
-/// Reports in the log that all seats of the server are taken.
+/// Reports in the server's log that all its seats are taken.
 fn say_full<R: Wait + Clock>(seats: &Seats<R>, full: &mut LineThrottle) {
     if full.is_due(&seats.rt) {
         seats.notices.say(&seats.rt, &seats.clock, "seats", FULL);

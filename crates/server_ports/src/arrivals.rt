@@ -43,8 +43,8 @@ pub fn note_operator<R: Wait + Clock>(
     say_from(seats, from, what);
 }
 
-/// Appends, for the log, why a connection is refused after its handshake: no such point or no OCPP
-/// 1.6, with its path.
+/// Appends, for the server's log, why a connection is refused after its handshake: no such point or
+/// no OCPP 1.6, with its path.
 fn push_unknown(what: &mut String, asked: &ClientRequest) -> Result<(), AllocError> {
     what.push_str(if asked.offers_ocpp {
         "refused, no such point: "
@@ -55,7 +55,7 @@ fn push_unknown(what: &mut String, asked: &ClientRequest) -> Result<(), AllocErr
 }
 
 /// Counts a connection that the server refused, for the status of the site, and reports it in the
-/// log.
+/// server's log.
 fn note_refused<R: Wait + Clock>(
     seats: &Seats<R>,
     from: Option<SocketAddr>,
@@ -65,7 +65,7 @@ fn note_refused<R: Wait + Clock>(
     say_from(seats, from, what);
 }
 
-/// Reports an event of the connecting client with this address in the log.
+/// Reports an event of the connecting client with this address in the server's log.
 fn say_from<R: Wait + Clock>(
     seats: &Seats<R>,
     from: Option<SocketAddr>,
@@ -82,7 +82,7 @@ fn say_from<R: Wait + Clock>(
     }
 }
 
-/// Returns the text of a client's address in a line of the log.
+/// Returns the text of a connecting client's address in a line of the server's log.
 fn name_of(alloc: Global, from: Option<SocketAddr>) -> Result<String, AllocError> {
     match from {
         Some(from) => format!(in alloc; "{from}"),

@@ -18,8 +18,8 @@ const SECONDS_BETWEEN: u64 = 1;
 
 /// A place that keeps the boots of points.
 pub trait BootKeeper {
-    /// Keeps the boots of the site's points over a restart, in place of the earlier ones, each at
-    /// the place of its point in the site.
+    /// Keeps the last BootNotifications of the site's points over a restart, in place of the
+    /// earlier ones, each at the place of its point.
     fn keep(&self, boots: &[Option<Boot>]) -> io::Result<()>;
 }
 
@@ -37,8 +37,8 @@ pub fn begin_boots<R: Threads + Wait + Clock + Shareable, K: BootKeeper + Send +
     }
 }
 
-/// Keeps the boots of the site's points over a restart, forever. A failure is reported once until
-/// they are kept again, and the next change is the next try.
+/// Keeps the last BootNotifications of the site's points over a restart of the server, forever. A
+/// failure is reported once until they are kept again, and the next change is the next try.
 fn keep_boots<R: Wait + Clock, K: BootKeeper>(seats: &Seats<R>, keeper: &K) {
     let mut is_said = false;
     for _change in seats.rt.forever() {
@@ -55,14 +55,14 @@ fn keep_boots<R: Wait + Clock, K: BootKeeper>(seats: &Seats<R>, keeper: &K) {
     }
 }
 
-/// Keeps the last boot of each point, so that a restart warns of the same points. Nothing is locked
-/// meanwhile.
+/// Keeps the last BootNotification of each point, so that a restart of the server warns of the same
+/// points. Nothing is locked meanwhile.
 fn save_boots<R: Wait, K: BootKeeper>(seats: &Seats<R>, keeper: &K) -> io::Result<()> {
     let boots = seats.watch.boots(&seats.rt, seats.alloc)?;
     keeper.keep(boots.as_slice())
 }
 
-/// Reports in the log that the boots of points can't be kept over a restart.
+/// Reports in the server's log that the BootNotifications of points can't be kept over a restart.
 fn say_unkept<R: Wait + Clock>(seats: &Seats<R>, error: &io::Error) {
     let what = format!(in seats.alloc; "they can't be kept over a restart: {error}");
     seats

@@ -102,7 +102,8 @@ fn accepted(
     response
 }
 
-/// Returns whether OCPP 1.6 is among the WebSocket subprotocols of all headers that offer any.
+/// Returns whether a client's handshake offers OCPP 1.6 as a WebSocket subprotocol, in any of the
+/// headers for them.
 fn offers_ocpp(headers: &HeaderMap<HeaderValue>) -> bool {
     headers
         .get_all(SUBPROTOCOLS)

@@ -211,7 +211,7 @@ impl<'a, R: Clock + Wait> IncomingStream<'a, R> {
         Ok(bytes)
     }
 
-    /// Records that this many bytes of a message came from the client just now.
+    /// Records that this many bytes of a message came on a client's connection just now.
     fn hear(&mut self, bytes: usize) -> io::Result<()> {
         let now = Instant::now(self.rt)?;
         self.heard = now;
@@ -243,13 +243,13 @@ impl<R: Clock + Wait> Watched for IncomingStream<'_, R> {
         self.stream.set_read_timeout(Some(tick)).is_ok()
     }
 
-    /// Notes that the message being read is complete.
+    /// Notes that the message being read from a client's connection is complete.
     fn end_message(&mut self) {
         self.unfinished = None;
     }
 
-    /// Notes a control frame, perhaps within a message, and takes its bytes off those of the
-    /// message.
+    /// Notes a control frame on a client's connection, perhaps within a message, and takes its
+    /// bytes off those of the message.
     fn end_control(&mut self, payload: usize) {
         let Some(message) = self.unfinished else {
             return;
@@ -281,8 +281,9 @@ impl<R: Clock + Wait> Read for IncomingStream<'_, R> {
 }
 
 impl<R: Clock> Write for IncomingStream<'_, R> {
-    /// Writes with one deadline for a write and its continuations. If the client doesn't read, a
-    /// write waits and sends a part, and the next one would wait as long again.
+    /// Writes to a client's connection, with one deadline for a write and its continuations. If the
+    /// client doesn't read, a write waits and sends a part, and the next one would wait as long
+    /// again.
     fn write(&mut self, buf: &[u8]) -> io::Result<usize> {
         let begun = match self.untaken {
             None => Instant::now(self.rt)?,

@@ -32,8 +32,9 @@ pub fn is_own_host(host: &str, address: &str) -> bool {
         || name.eq_ignore_ascii_case(name_of(address))
 }
 
-/// Returns the name or the address of the host in a request to the status port, or in the port's
-/// own address. Leaves out the port and the brackets of an IPv6 address (RFC 3986, section 3.2.2).
+/// Returns the name or the IP address of the host in an HTTP request to the server, or in the
+/// address at which it listens. Leaves out the port and the brackets of an IPv6 address (RFC 3986,
+/// section 3.2.2).
 fn name_of(host: &str) -> &str {
     if let Some(bracketed) = host.strip_prefix('[') {
         return match bracketed.split_once(']') {

@@ -71,8 +71,8 @@ fn push_user(said: &mut String, user: &Option<String>) -> Result<(), AllocError>
     Ok(())
 }
 
-/// Returns whether the user in a request has the length of a key and only hexadecimal digits, so
-/// that it isn't logged.
+/// Returns whether the user that a connecting client gives has the length of a key and only
+/// hexadecimal digits. Then the server doesn't log it.
 fn is_like_a_key(text: &str) -> bool {
     text.len() == KEY_DIGITS && text.bytes().all(|byte| byte.is_ascii_hexdigit())
 }

@@ -65,8 +65,8 @@ impl<
     }
 }
 
-/// Returns a copy of the present state of a site's book, which shares its contents. The book is
-/// locked meanwhile.
+/// Returns a copy of the present state of the book of the server's site, which shares its contents.
+/// The book is locked meanwhile.
 fn copy_of<C: Ledger, A: Ledger, N: ListName, R: Wait>(
     rt: &R,
     shared: &Shared<C, A, N>,

@@ -145,7 +145,7 @@ impl SessionCore {
         }
     }
 
-    /// Returns the side that sends the session's messages.
+    /// Returns the side that sends a session's messages: the operator or the charge point.
     pub(crate) fn side(&self) -> Side
         ensures { result ≡ side_of self.now.peer }
     {
@@ -166,7 +166,8 @@ impl SessionCore {
         }
     }
 
-    /// Returns the text of a session's answer to the CALL of this id, if there is one.
+    /// Returns the text of the frame that a session sends as its answer to the CALL of this id, if
+    /// there is one.
     fn response_text(
         &self,
         id: &MessageId,
@@ -186,7 +187,7 @@ impl SessionCore {
     }
 }
 
-/// Returns the text of a session's answer to the CALL of this id.
+/// Returns the text of the frame that a session sends as its answer to the CALL of this id.
 fn text_of_response(alloc: Global, id: &str, response: &Response) -> Result<String, AllocError>
     ensures { IfOk result (λ text. string_bytes text ≡ response_text id.now response.now) }
 {

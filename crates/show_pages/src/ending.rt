@@ -45,7 +45,8 @@ fn push_held(page: &mut Page, trace: &Trace<'_>) {
     }
 }
 
-/// Returns the line of a script that held a request of this number, if there is one.
+/// Returns the line of a script that held a schedule request of this number, if there is one, for
+/// `check`'s sentence.
 fn line_of_request(lines: &[HeldLine], request: u64) -> Option<&HeldLine> {
     lines.iter().find(|line| line.request == request)
 }
@@ -112,7 +113,8 @@ fn push_waiting(page: &mut Page, id: &str, calls: &PointCalls) {
     write!(page, " never went out, waiting since line {line}: {why}\n");
 }
 
-/// Returns the first line of a script that added one of these calls that never went out.
+/// Returns the first line of a script that added one of these calls that never went out, for
+/// `check`'s sentence.
 fn first_line(waiting: &[UnsentCall]) -> Option<u64> {
     waiting.iter().find_map(|added| added.line)
 }

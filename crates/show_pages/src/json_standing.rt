@@ -99,7 +99,8 @@ fn push_transaction(page: &mut JsonPage, connector: u32, active: &Transaction) {
     page.end_object();
 }
 
-/// Appends the last audit of a point and its outcome to `show`'s JSON, or null if there was none.
+/// Appends to `show`'s JSON the point's last audit, a GetCompositeSchedule that is compared, and
+/// its outcome, or null if there was none.
 fn push_audit(page: &mut JsonPage, audit: Option<&PointAudit>) {
     let Some(audit) = audit else {
         return page.null("audit");

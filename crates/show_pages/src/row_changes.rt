@@ -31,15 +31,16 @@ pub(crate) struct RowDifference {
 }
 
 impl PointRows {
-    /// Returns a charge point's recorded profiles before the first line of a script: none.
+    /// Returns a charge point's recorded charging profiles before the first line of a script that
+    /// `check` or `show` plays: none.
     pub(crate) fn new(alloc: Global) -> PointRows {
         PointRows {
             named: Vec::new(alloc),
         }
     }
 
-    /// Records the profiles that the charge point has after a line of a script. Returns which came
-    /// and which are gone, if any.
+    /// Records the charging profiles that the point has after a line of a script that `check` or
+    /// `show` plays. Returns which came and which are gone, if any.
     pub(crate) fn follow(
         &mut self,
         alloc: Global,
@@ -67,8 +68,8 @@ impl PointRows {
         Ok(Some(RowDifference { came, gone }))
     }
 
-    /// Returns whether a charge point's profiles have the names that were recorded after an earlier
-    /// line of the script, in their order.
+    /// Returns whether a charge point's profiles have the names recorded after an earlier line of
+    /// the script that `check` or `show` plays, in their order.
     fn are(&self, rows: &[Row]) -> bool {
         self.named.len() == rows.len()
             && self
@@ -79,8 +80,8 @@ impl PointRows {
     }
 }
 
-/// Returns the values that name a charging profile of a point: its id, purpose, stack level and
-/// connector.
+/// Returns the values that name a point's charging profile after a line of a script: its id,
+/// purpose, stack level and connector.
 fn name_of(row: &Row) -> PrevailingProfile {
     PrevailingProfile {
         id: row.profile.id,

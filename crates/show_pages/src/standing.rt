@@ -117,7 +117,8 @@ fn push_transactions(page: &mut Page, book: &PointBook) {
     table.push_to(page, 4);
 }
 
-/// Appends the point's last audit and its outcome to `show`'s text page.
+/// Appends to `show`'s text page the point's last audit, a GetCompositeSchedule that is compared,
+/// and its outcome, or that there is none.
 fn push_audit(page: &mut Page, audit: Option<&PointAudit>) {
     let Some(audit) = audit else {
         return page.push_str("  no audit\n");

@@ -182,8 +182,8 @@ impl<'a> Trace<'a> {
         Ok(())
     }
 
-    /// Records the effect of a script's message on its charge point: the change, the calls that
-    /// went out, and the requests that were held.
+    /// Records a script message's effect on its charge point, for `check` and `show`: the change,
+    /// the calls that went out, and the held requests.
     fn follow(&mut self, sent: &SentText<'_>, played: &PlayedLine<'a>) -> Result<(), AllocError> {
         self.follow_change(sent, played)?;
         for line in &played.outcome.printed {
@@ -205,8 +205,8 @@ impl<'a> Trace<'a> {
         Ok(())
     }
 
-    /// Records the change that a message of a script made to the calls and the profiles of its
-    /// charge point.
+    /// Records the change that a message of a script made to its charge point's calls and profiles,
+    /// for `check` and `show`.
     fn follow_change(
         &mut self,
         sent: &SentText<'_>,
@@ -235,8 +235,8 @@ impl<'a> Trace<'a> {
         self.follow_rows(place, sent, played.number)
     }
 
-    /// Records which charging profiles a line of a script brought to the point at a place, and
-    /// which are gone.
+    /// Records which charging profiles a line of a script that `check` or `show` plays brought to a
+    /// point, and which are gone.
     fn follow_rows(
         &mut self,
         place: usize,
@@ -297,7 +297,8 @@ impl<'a> Trace<'a> {
         }
     }
 
-    /// Returns the identity of the charge point for which a line of a script held a request.
+    /// Returns the identity of the charge point for which a line of a script held a request, for
+    /// the table of `check --trace`.
     fn point_of_request(&self, request: u64) -> Result<Option<String>, AllocError> {
         for held in &self.held {
             if held.request == request {

@@ -78,7 +78,8 @@ impl PointCalls {
         Ok(())
     }
 
-    /// Records that a call to the charge point went out after a line of a script or a journal.
+    /// Records that a call to the charge point went out after a line of a script or a journal, for
+    /// `show` and `check`.
     pub(crate) fn sent(&mut self, alloc: Global, call: &Call, line: u64) -> Result<(), AllocError> {
         let number = call.number;
         let action = call.body.kind();

@@ -53,8 +53,8 @@ pub fn answer_action(
     }
 }
 
-/// Returns the row of the charging profile that these fields make, installed now in a simulated
-/// point's book.
+/// Returns a row with the charging profile of a SetChargingProfile to a simulated point, at this
+/// connector and moment, or its refusal.
 fn row_made(now: Instant, connector: u32, parts: ProfileParts) -> Result<Row, Refusal>
     ensures { result ≡ row_made now connector (profile_of_parts parts) }
 {
@@ -94,8 +94,8 @@ fn install(
     }
 }
 
-/// Returns why a simulated point refuses the charging profile of a row, apart from a lack of
-/// memory.
+/// Returns why a simulated point refuses a row, a charging profile at a connector, apart from a
+/// lack of memory.
 fn row_refusal(unit: Unit, book: &PointBook, row: &Row) -> Option<Refusal>
     ensures refusal { result ≡ row_refusal unit book.now row.now }
     ensures has_connector { result ≡ None → row.now.connector ≤ length book.now.ceilings }

@@ -25,7 +25,7 @@ pub(crate) fn ask_at(unit: Unit, book: &PointBook, take: &Take) -> Result<Ask, R
     Ask::try_new(take.connector, take.start, take.duration)
 }
 
-/// Whether a request for a composite schedule asks for another unit than that of the site.
+/// Whether a request for a composite schedule asks for another unit (A or W) than that of the site.
 fn is_other_unit(asked: Option<Unit>, unit: Unit) -> bool
     ensures { result ≡ is_other_unit asked unit }
 {

@@ -49,7 +49,8 @@ impl PointAudit {
         &self.asked
     }
 
-    /// Copies a charge point's audit (the check of the schedule that it reports), sharing the book.
+    /// Copies a charge point's audit, the comparison of the composite schedule that it reports with
+    /// its book. The copy shares the book.
     pub(crate) fn copy(&self) -> Result<PointAudit, AllocError>
         ensures { IfOk result (λ copy. copy ≡ self.now) }
     {
@@ -82,8 +83,8 @@ impl PointAudit {
         }
     }
 
-    /// Whether the book of a charge point's audit has the same transactions as this one. Otherwise
-    /// a verdict on the schedules becomes Unsettled.
+    /// Whether the book with which the charge point's reported composite schedule is compared has
+    /// the same transactions as this one. Otherwise a verdict on the schedules becomes Unsettled.
     fn has_transactions_of(&self, now: &PointBook) -> bool
         ensures { result
             ≡ same_transactions self.now.asked.book.transactions now.now.transactions }

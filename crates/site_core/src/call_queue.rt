@@ -139,7 +139,8 @@ impl CallQueue {
     }
 }
 
-/// Appends copies of the gathered calls of a charge point's queue to a list.
+/// Appends copies of unconfirmed calls of a charge point's outbox to a list. These are in the part
+/// of the outbox that its copies share.
 fn copy_slice(
     alloc: Global,
     copies: &mut Vec<CallBody>,
@@ -153,8 +154,8 @@ fn copy_slice(
     Ok(())
 }
 
-/// Appends copies of the calls that joined a charge point's queue after the gathered ones to a
-/// list.
+/// Appends copies of unconfirmed calls of a charge point's outbox to a list. These are behind the
+/// part of the outbox that its copies share.
 fn copy_list(
     alloc: Global,
     copies: &mut Vec<CallBody>,
@@ -168,8 +169,8 @@ fn copy_list(
     Ok(())
 }
 
-/// Copies the calls that joined a charge point's queue after the gathered ones, for a copy of the
-/// queue.
+/// Copies the calls of a charge point's outbox that are behind the part that its copies share, for
+/// a copy of the outbox.
 fn copy_of_bodies(bodies: &LinkedList<CallBody>) -> Result<LinkedList<CallBody>, AllocError>
     ensures { IfOk result (λ copy. copy ≡ bodies.now) }
 {

@@ -241,8 +241,8 @@ impl ChargePoint {
         }
     }
 
-    /// Installs a copy of a row in the charge point's book, and adds the SetChargingProfile call to
-    /// its outbox.
+    /// Installs a copy of a row (a charging profile at a connector) in the charge point's book, and
+    /// adds the SetChargingProfile call to its outbox.
     fn install(
         &mut self,
         site: &Site,
@@ -344,8 +344,9 @@ impl ChargePoint {
     }
 
     /// Begins a transaction at a charge point's connector with the next number and a copy of
-    /// `begin`, or answers a retransmitted start. A remote start that waits at the connector ends.
-    /// If it is for this idTag, the transaction begins with its profile.
+    /// `begin`, or answers a retransmitted start. A remote start that waits there ends, if its call
+    /// has gone out. If that remote start is for this idTag, the transaction begins with its
+    /// profile.
     fn start(
         &mut self,
         numbers: &Numbers,
@@ -371,8 +372,8 @@ impl ChargePoint {
         }
     }
 
-    /// Copies the profile with which a transaction begins at a connector: that of the remote start
-    /// which it ends, if that is for its idTag.
+    /// Copies the profile with which a charge point's transaction begins: that of the remote start
+    /// which the transaction ends, if both have the same idTag.
     fn profile_at_start(&self, connector: u32, begin: &Begin) -> Result<Option<Profile>, AllocError>
         ensures { IfOk result
             (λ profile. profile ≡ profile_at_start self.now connector begin.now) }
@@ -409,7 +410,8 @@ impl ChargePoint {
         }
     }
 
-    /// Whether the call of this number to the charge point is confirmed or in flight.
+    /// Whether the call of this number, such as a RemoteStartTransaction, is in flight to the
+    /// charge point or confirmed.
     fn has_gone_out(&self, call: u64) -> bool
         ensures { result ≡ has_gone_out self.now.outbox call }
     {
@@ -433,7 +435,8 @@ impl ChargePoint {
         }
     }
 
-    /// Ends the charge point's transaction of this number, if it is active.
+    /// Ends the transaction of this number in the charge point's book, if it is active. Otherwise
+    /// the answer is NoSuch.
     fn stop(&mut self, numbers: &Numbers, point: &PointId, number: i32) -> Result<Reply, Refusal>
         ensures { IsMadeAt (stops numbers.now number self.old)
             (steps.Stop point.now number) self.old result self.new }
@@ -459,8 +462,8 @@ impl ChargePoint {
         }
     }
 
-    /// Gives the charge point a new link, as it connects. A call in flight over the one before
-    /// waits again.
+    /// Gives a charge point that connects a new link. A call in flight over the link before it
+    /// waits in the outbox again.
     fn attach(&mut self, numbers: &Numbers, point: &PointId) -> Result<Reply, Refusal>
         requires { AreNumbers numbers.now }
         ensures { IsMadeAt (attaches numbers.now self.old) (steps.Attach point.now)
@@ -476,7 +479,7 @@ impl ChargePoint {
         }
     }
 
-    /// Removes the lost link to the charge point. A call in flight waits again.
+    /// Removes the lost link to the charge point. A call in flight waits in the outbox again.
     fn lose(&mut self, point: &PointId, link: u64) -> Reply
         ensures { IsMadeAt (loses self.old) (steps.Lost point.now link)
             self.old (Ok result) self.new }
@@ -499,8 +502,8 @@ impl ChargePoint {
         }
     }
 
-    /// Sends the first call of the charge point's outbox, unless one is in flight. Only its copy
-    /// needs memory.
+    /// Sends the first call of the charge point's outbox, unless one is in flight. Only the copy of
+    /// the call needs memory.
     fn send(&mut self, point: &PointId, link: u64) -> Result<Reply, Refusal>
         ensures { IsMadeAt (sends self.old) (steps.Send point.now link) self.old result self.new }
     {
@@ -522,8 +525,8 @@ impl ChargePoint {
         }
     }
 
-    /// Records that the charge point has answered the call of this number. If the answer isn't
-    /// Accepted, a remote start that came with the call is dropped.
+    /// Removes the call of this number, which the charge point has answered, from its outbox. If
+    /// the answer isn't Accepted, a remote start that came with the call is dropped.
     fn confirm(
         &mut self,
         point: &PointId,
@@ -570,8 +573,9 @@ impl ChargePoint {
         }
     }
 
-    /// Begins an audit of the charge point: adds the GetCompositeSchedule call to its outbox, and
-    /// keeps its present book, in place of an earlier audit.
+    /// Begins an audit of the charge point, in place of an earlier one: adds the
+    /// GetCompositeSchedule call to its outbox, and keeps its present book to compare the reply
+    /// with.
     fn begin_audit(
         &mut self,
         site: &Site,
@@ -602,9 +606,9 @@ impl ChargePoint {
         }
     }
 
-    /// Checks whether the verdict on a charge point's audit is kept. The refusals are
-    /// `UnknownRequest`, if the audit of this number isn't the present one or has its verdict, and
-    /// then `StrangerInput`.
+    /// Checks whether the verdict on a charge point's reply to its audit's GetCompositeSchedule is
+    /// kept. The refusals are `UnknownRequest`, if the audit of this number isn't the present one
+    /// or has its verdict, and then `StrangerInput`.
     fn check_judged(&self, call: u64, judged: &Judged) -> Result<(), Refusal>
         ensures kept { OnOk result (judges call judged.now self.now ≡ Ok Reply.VerdictKept) }
         ensures refused { IfErr result (λ refusal. judges call judged.now self.now ≡ Err refusal) }
@@ -620,8 +624,8 @@ impl ChargePoint {
         Ok(())
     }
 
-    /// Decides whether the verdict on the charge point's audit whose call has this number is kept,
-    /// or returns the refusal.
+    /// Decides whether the verdict on a charge point's reply to its audit's GetCompositeSchedule,
+    /// whose call has this number, is kept, or returns the refusal.
     fn decide_judge(&self, call: u64, judged: &Judged) -> Result<Decision, Refusal>
         ensures { result ≡ decision_of (judges call judged.now self.now) }
     {
@@ -631,7 +635,8 @@ impl ChargePoint {
         }
     }
 
-    /// Keeps the verdict on the charge point's audit whose call has this number.
+    /// Keeps the verdict on a charge point's reply to its audit's GetCompositeSchedule, whose call
+    /// has this number, or returns the refusal.
     fn judge(&mut self, point: &PointId, call: u64, judged: &Judged) -> Result<Reply, Refusal>
         ensures made { IsMadeAt (judges call judged.now self.old)
             (steps.Judge point.now call judged.now) self.old result self.new }
@@ -647,8 +652,9 @@ impl ChargePoint {
         }
     }
 
-    /// Stores the verdict on the charge point's audit. A verdict on the schedules becomes Unsettled
-    /// if the point's transactions have changed since.
+    /// Stores the verdict on a charge point's reply to its audit's GetCompositeSchedule. A verdict
+    /// on the schedules becomes Unsettled if the point's transactions have changed since the
+    /// request.
     fn keep_verdict(&mut self, verdict: Verdict)
         ensures audit { self.new.audit
             ≡ judged_audit self.old.book.transactions verdict self.old.audit }
@@ -676,8 +682,8 @@ impl ChargePoint {
         }
     }
 
-    /// Whether the call of the charge point's audit is still unconfirmed, so that no other audit
-    /// may begin.
+    /// Whether the GetCompositeSchedule call of the charge point's audit is still unconfirmed, so
+    /// that no other audit may begin.
     fn is_audit_open(&self) -> bool
         ensures { result ≡ is_open_among self.now.outbox.calls self.now.audit }
     {
@@ -789,8 +795,8 @@ impl ChargePoint {
         None
     }
 
-    /// Returns the reason why the call of a change of profiles can't be added to the charge point's
-    /// outbox, if there is one.
+    /// Returns the reason why a call that changes profiles, such as SetChargingProfile, can't be
+    /// added to the charge point's outbox, if there is one.
     fn refusal_to_call(&self, numbers: &Numbers) -> Option<Refusal>
         ensures refusal { result ≡ refusal_to_call numbers.now self.now }
         ensures room { IfNone result (length self.now.outbox.calls < max_calls) }
@@ -803,7 +809,8 @@ impl ChargePoint {
     }
 }
 
-/// Makes the SetChargingProfile call that installs a row at a charge point.
+/// Makes the SetChargingProfile call that installs a row (a charging profile at a connector) at a
+/// charge point.
 fn call_of(alloc: Global, row: &Row) -> Result<PreparedCall, AllocError>
     ensures { IfOk result (λ call. call ≡ CallBody.Set row.now.connector row.now.profile) }
 {
@@ -817,7 +824,8 @@ fn call_of(alloc: Global, row: &Row) -> Result<PreparedCall, AllocError>
     }
 }
 
-/// Makes the GetCompositeSchedule call that requests a charge point's schedule for an audit.
+/// Makes the GetCompositeSchedule call that requests a charge point's composite schedule for an
+/// audit, which compares it with the book.
 fn audit_call(
     alloc: Global,
     connector: u32,
@@ -871,7 +879,8 @@ fn refusal_of_profile(site: &Site, profile: &Option<Profile>) -> Option<Refusal>
     }
 }
 
-/// Copies the audit of a charge point, if it was audited, sharing the audited book.
+/// Copies the audit of a charge point's reported composite schedule, if there is one, sharing the
+/// book with which it is compared.
 fn copy_of_audit(audit: &Option<PointAudit>) -> Result<Option<PointAudit>, AllocError>
     ensures { IfOk result (λ copy. copy ≡ audit.now) }
 {

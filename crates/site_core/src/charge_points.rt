@@ -34,7 +34,8 @@ pub(crate) fn copy_of_points(
     Ok(copies)
 }
 
-/// Gathers the calls in each charge point's outbox, if memory lasts, so that copies share them.
+/// Gathers the calls in each charge point's outbox, if memory lasts, so that copies of the site's
+/// state share them.
 pub(crate) fn gather_calls(points: &mut Vec<ChargePoint>)
     ensures { points.new.items ≡ points.old.items }
 {
@@ -43,7 +44,7 @@ pub(crate) fn gather_calls(points: &mut Vec<ChargePoint>)
     }
 }
 
-/// Returns the charge point at a place in the site file.
+/// Returns the state of the charge point at a place in the site file.
 pub(crate) fn point_at(points: &Vec<ChargePoint>, place: usize) -> &ChargePoint
     requires { place < length points.now.items }
     ensures { result.now ≡ point_in points.now.items place }

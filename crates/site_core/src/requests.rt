@@ -63,9 +63,9 @@ pub(crate) fn compile_request(
     Ok(())
 }
 
-/// Answers a kept request for a composite schedule with a brought answer, and returns a second copy
-/// of it. The refusals are `UnknownRequest`, `AlreadyAnswered` and `StrangerInput`; then the
-/// brought answer comes back.
+/// Answers a kept request for a composite schedule with an answer compiled elsewhere, and returns a
+/// second copy of it. The refusals are `UnknownRequest`, `AlreadyAnswered` and `StrangerInput`;
+/// then the compiled answer comes back.
 pub(crate) fn post_answer(
     requests: &mut Vec<KeptRequest>,
     number: u64,

@@ -62,8 +62,8 @@ impl SharedBook {
         self.book
     }
 
-    /// Installs a row that may be installed (chapter 5.16) in a charge point's book, which is
-    /// copied first if it is shared.
+    /// Installs a row (a charging profile at a connector) in a charge point's book, which is copied
+    /// first if it is shared. The row must be one that may be installed (chapter 5.16).
     pub(crate) fn install(&mut self, row: Row) -> Result<(), AllocError>
         requires connector { row.connector ≤ length self.old.ceilings }
         requires allowed { install_refusal self.old row ≡ None }

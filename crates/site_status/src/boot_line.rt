@@ -38,7 +38,8 @@ pub fn read_boot_line(text: &str) -> Option<BootLine<'_>> {
     })
 }
 
-/// Reads the word for the number of a call in a line of the file of boots.
+/// Reads the number of a point's first unconfirmed call in a line of the file of boots, beside the
+/// journal.
 fn read_number(word: &str) -> Option<u64> {
     word.parse::<u64>().ok()
 }

@@ -29,7 +29,8 @@ pub fn metrics_text(alloc: Global, report: &SiteReport<'_>) -> Result<String, Al
     Ok(out)
 }
 
-/// Appends the sample of a Prometheus metric for the charge point at a place, if it has one.
+/// Appends the sample of a Prometheus metric of the status port for the charge point at a place, if
+/// it has one.
 fn push_of_point(
     out: &mut String,
     figure: PointFigure,
@@ -46,13 +47,13 @@ fn push_of_point(
     }
 }
 
-/// Appends the head of a Prometheus metric family: its help and its type.
+/// Appends the head of a Prometheus metric family of the status port: its help and its type.
 fn push_head(out: &mut String, name: &str, help: &str, is_counter: bool) -> Result<(), AllocError> {
     let kind = if is_counter { "counter" } else { "gauge" };
     write!(out, "# HELP {name} {help}\n# TYPE {name} {kind}\n")
 }
 
-/// Appends a sample of a Prometheus metric with one label.
+/// Appends a sample with one label of a Prometheus metric of the status port.
 fn push_sample(
     out: &mut String,
     name: &str,
@@ -65,7 +66,8 @@ fn push_sample(
     write!(out, "\"}} {value}\n")
 }
 
-/// Appends the value of a Prometheus metric's label, with backslash, quote and line feed escaped.
+/// Appends the value of a label in the status port's Prometheus metrics, with backslash, quote and
+/// line feed escaped.
 fn push_label(out: &mut String, text: &str) -> Result<(), AllocError> {
     for character in text.chars() {
         match character {
@@ -203,7 +205,7 @@ fn healthy(report: &SiteReport<'_>) -> u64 {
     }
 }
 
-/// Appends a sample of a Prometheus metric in seconds with six decimals.
+/// Appends a sample of a Prometheus metric of the status port in seconds with six decimals.
 fn push_seconds(out: &mut String, name: &str, microseconds: u64) -> Result<(), AllocError> {
     let (seconds, rest) = (microseconds / MILLION, microseconds % MILLION);
     // Prometheus' unit of time is the second; two whole numbers print the microseconds exactly.
@@ -305,7 +307,8 @@ impl PointFigure {
     }
 }
 
-/// Returns how many seconds ago a moment was, if there is one, as the value of a Prometheus metric.
+/// Returns how many seconds ago a moment was, if there is one, as the value of a Prometheus metric
+/// of the status port.
 fn seconds_since(moment: Option<Instant>, now: Instant) -> Option<u64> {
     Some(now.seconds().saturating_sub(moment?.seconds()))
 }

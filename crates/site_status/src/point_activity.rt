@@ -196,8 +196,8 @@ impl PointActivity {
         self.rejection = rejected.last;
     }
 
-    /// Returns the action of the call to a charge point of this number, if it is the last one that
-    /// was sent.
+    /// Returns, for the site's status, the action of the call of this number to a charge point, if
+    /// it is the last one sent.
     fn action_of(&self, call: u64) -> Option<ActionKind>
         ensures { result ≡ action_of self.now.sent call }
     {

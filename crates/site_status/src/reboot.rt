@@ -35,8 +35,8 @@ pub fn may_have_forgotten(reboot: Reboot) -> bool
     reboot.has_profiles && is_before(reboot.installed, first) && is_before(reboot.agreed, first)
 }
 
-/// Returns whether there is no such call, or the charge point had confirmed it before it booted and
-/// may have forgotten it since.
+/// Returns whether a charge point has confirmed no such install or audit since the boot with this
+/// first unconfirmed call, for the status port's warning.
 pub(crate) fn is_before(call: Option<u64>, first: u64) -> bool
     ensures { result ≡ is_before call first }
 {
@@ -68,7 +68,8 @@ impl Reboot {
     }
 }
 
-/// Returns the first call that a charge point hadn't confirmed when it last booted, if it did.
+/// Returns the first call that a charge point hadn't confirmed at its last boot, if it booted, for
+/// the status port's warning.
 fn first_call_at(boot: Option<Boot>) -> Option<u64>
     ensures { result ≡ first_call_at boot }
 {
@@ -78,8 +79,8 @@ fn first_call_at(boot: Option<Boot>) -> Option<u64>
     }
 }
 
-/// Returns whether a charge point should have a profile whose install isn't in its outbox, so that
-/// it could have forgotten it.
+/// Returns whether a charge point should have a profile whose install isn't in its outbox, for the
+/// status port's warning after a boot.
 fn has_profiles(alloc: Global, book: &PointBook, outbox: &Outbox) -> Result<bool, AllocError>
     ensures { IfOk result (λ has.
         has ≡ has_installed book.now.rows (waiting_bodies outbox.now)) }
@@ -89,8 +90,8 @@ fn has_profiles(alloc: Global, book: &PointBook, outbox: &Outbox) -> Result<bool
     Ok(has_installed(book.view().rows, bodies.as_slice()))
 }
 
-/// Returns the call of a charge point's last audit, if the point agreed in that: it had its
-/// profiles then.
+/// Returns the number of a charge point's last audit (GetCompositeSchedule), if the point agreed in
+/// it, for the status port's warning after a boot.
 fn agreed_in(audit: Option<&PointAudit>) -> Option<u64>
     ensures { result ≡ agreed_in (option_map (λ asked. asked.now) audit.entry) }
 {
@@ -102,22 +103,23 @@ fn agreed_in(audit: Option<&PointAudit>) -> Option<u64>
 }
 
 /// Returns whether a charge point should have a profile whose install is none of these waiting
-/// calls.
+/// calls, for the status port's warning after a boot.
 fn has_installed(rows: &[Row], calls: &[CallBody]) -> bool
     ensures { result ≡ has_installed rows.now calls.now }
 {
     rows.iter().any(|row| !is_installed_by(calls, row))
 }
 
-/// Returns whether the install of a charging profile is one of these calls that the charge point
-/// hasn't confirmed.
+/// Returns whether one of these unconfirmed calls to a charge point installs a row's charging
+/// profile, for the status port's warning after a boot.
 fn is_installed_by(calls: &[CallBody], row: &Row) -> bool
     ensures { result ≡ is_installed_by calls.now row.now }
 {
     calls.iter().any(|call| is_install_of(row, call))
 }
 
-/// Returns whether a call to a charge point installs the charging profile of a row.
+/// Returns whether a call to a charge point installs a row's charging profile, for the status
+/// port's warning after a boot.
 fn is_install_of(row: &Row, call: &CallBody) -> bool
     ensures { result ≡ is_install_of row.now call.now }
 {

@@ -104,7 +104,8 @@ fn push_steps(page: &mut Page, intervals: &[Interval], most: u64, beginning: &st
     }
 }
 
-/// Returns the row of a limit in a connector's strip of the status page, counted from the top.
+/// Returns the picture row of a limit in a connector's strip of the status page, counted from the
+/// top.
 fn row_of(limit: u32, most: u64) -> u64 {
     let height = u64::from(limit) * (ROWS - TOP) / most.max(1);
     ROWS.saturating_sub(height)

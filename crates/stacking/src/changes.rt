@@ -6,7 +6,8 @@ ghost use Rattle.profile.specs.Changes.{is_purpose, has_key_of, is_replaced_by, 
 
 use profile::{Criteria, Purpose, Row};
 
-/// Returns the number of a charge point's rows that a newly installed one doesn't replace.
+/// Returns the number of a charge point's rows (installed charging profiles) that a newly installed
+/// one doesn't replace.
 pub(crate) fn staying(rows: &[Row], new: &Row) -> usize
     ensures { result ≡ length (rows_beside rows.now new.now) }
 {
@@ -14,14 +15,16 @@ pub(crate) fn staying(rows: &[Row], new: &Row) -> usize
     rows.iter().filter(|row| !is_replaced_by(new, row)).count()
 }
 
-/// Whether any row of a charge point matches each given criterion of a ClearChargingProfile.
+/// Whether any row (installed charging profile) of a charge point matches each given criterion of a
+/// ClearChargingProfile.
 pub(crate) fn has_match(rows: &[Row], criteria: &Criteria) -> bool
     ensures { result ≡ list_any (matches criteria.now) rows.now }
 {
     rows.iter().any(|row| matches(criteria, row))
 }
 
-/// Removes the rows of a charge point that a newly installed one replaces.
+/// Removes the rows (installed charging profiles) of a charge point that a newly installed one
+/// replaces.
 pub(crate) fn drop_replaced(rows: &mut Vec<Row>, new: &Row)
     ensures rows { rows.new.items ≡ rows_beside rows.old.items new.now }
     ensures bound { vec_len rows.new ≤ vec_len rows.old }
@@ -30,7 +33,8 @@ pub(crate) fn drop_replaced(rows: &mut Vec<Row>, new: &Row)
     rows.retain(|row| !is_replaced_by(new, row));
 }
 
-/// Removes the rows of a charge point that match each given criterion of a ClearChargingProfile.
+/// Removes the rows (installed charging profiles) of a charge point that match each given criterion
+/// of a ClearChargingProfile.
 pub(crate) fn drop_cleared(rows: &mut Vec<Row>, criteria: &Criteria)
     ensures rows { rows.new.items ≡ cleared rows.old.items criteria.now }
     ensures bound { vec_len rows.new ≤ vec_len rows.old }
@@ -55,8 +59,8 @@ fn is_replaced_by(new: &Row, row: &Row) -> bool
     row.profile.id == new.profile.id || has_key_of(new, row)
 }
 
-/// Whether a row has the connector, purpose and stack level of a newly installed one, which then
-/// replaces it.
+/// Whether a row (an installed charging profile) has the connector, purpose and stack level of a
+/// newly installed one, which then replaces it.
 fn has_key_of(new: &Row, row: &Row) -> bool
     ensures { result ≡ has_key_of new.now row.now }
 {
@@ -65,14 +69,15 @@ fn has_key_of(new: &Row, row: &Row) -> bool
         && row.profile.stack_level == new.profile.stack_level
 }
 
-/// Whether two purposes of charging profiles are equal.
+/// Whether two purposes of charging profiles are equal, as rows of a charge point are compared.
 pub(crate) fn is_purpose(purpose: Purpose, other: Purpose) -> bool
     ensures { result ≡ is_purpose purpose other }
 {
     purpose == other
 }
 
-/// Whether a row of a charge point matches each given criterion of a ClearChargingProfile.
+/// Whether a row (an installed charging profile) matches each given criterion of a
+/// ClearChargingProfile.
 fn matches(criteria: &Criteria, row: &Row) -> bool
     ensures { result ≡ matches criteria.now row.now }
 {

@@ -67,8 +67,8 @@ impl InForce {
     }
 }
 
-/// Gives a stack level a rate in the list of the profiles' rates in force, which is sorted by
-/// level.
+/// Gives a stack level a rate in the sweep compiler's list of the profiles' rates in force, which
+/// is sorted by level.
 fn set_rate(rates: &mut Vec<(u32, u32)>, level: u32, rate: u32) -> Result<(), Refusal>
     requires rising { AreRising rates.old.items }
     ensures set { OnOk result (IsSet rates.old.items level (Some rate) rates.new.items) }
@@ -87,7 +87,8 @@ fn set_rate(rates: &mut Vec<(u32, u32)>, level: u32, rate: u32) -> Result<(), Re
     }
 }
 
-/// Removes the rate of a stack level from the list of the profiles' rates in force, if it has one.
+/// Removes the rate of a stack level from the sweep compiler's list of the profiles' rates in
+/// force, if it has one.
 fn remove_rate(rates: &mut Vec<(u32, u32)>, level: u32)
     requires rising { AreRising rates.old.items }
     ensures set { IsSet rates.old.items level None rates.new.items }
@@ -99,8 +100,8 @@ fn remove_rate(rates: &mut Vec<(u32, u32)>, level: u32)
     }
 }
 
-/// Returns the index, in the list of the profiles' rates in force, of the first stack level that
-/// isn't below this one.
+/// Returns the index, in the sweep compiler's list of the profiles' rates in force, of the first
+/// stack level that isn't below this one.
 fn place_of(rates: &[(u32, u32)], level: u32) -> usize
     requires rising { AreRising rates.now }
     ensures { IsPlaceOf rates.now level result }
@@ -112,8 +113,8 @@ fn place_of(rates: &[(u32, u32)], level: u32) -> usize
     rates.partition_point(|entry| entry.0 < level)
 }
 
-/// Returns a stack level's index in the list of rates in force if each level from the lowest up to
-/// it has a rate. This saves the search.
+/// Returns a stack level's index in the sweep compiler's list of rates in force, if each level from
+/// the lowest up to it has one. This saves the search.
 fn likely_place(rates: &[(u32, u32)], level: u32) -> usize {
     match rates.first() {
         Some(lowest) => level.saturating_sub(lowest.0) as usize,
@@ -121,7 +122,8 @@ fn likely_place(rates: &[(u32, u32)], level: u32) -> usize {
     }
 }
 
-/// Whether the entry at an index of the list of the profiles' rates in force has this stack level.
+/// Whether the entry at an index of the sweep compiler's list of the profiles' rates in force has
+/// this stack level.
 fn has_level_at(rates: &[(u32, u32)], level: u32, place: usize) -> bool
     ensures { result ≡ has_level_at rates.now level place }
 {

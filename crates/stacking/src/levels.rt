@@ -20,8 +20,9 @@ pub(crate) type RowIndexes = [u8; LEVELS];
 /// An index past the last row.
 const NO_ROW: u8 = u8::MAX;
 
-/// Returns, for each stack level, the index of the row of a purpose that applies to a connector
-/// (chapter 3.13). A row at the connector itself takes precedence over one that applies to all.
+/// Returns, for each stack level, the index of the row (installed profile) of a purpose that
+/// applies to a connector (chapter 3.13). A row at the connector itself takes precedence over one
+/// that applies to all.
 pub(crate) fn candidate_row_indexes(rows: &[Row], purpose: Purpose, connector: u32) -> RowIndexes
     requires few { length rows.now ≤ 255 }
     ensures { AreCandidatePlaces purpose rows.now connector result }
@@ -35,8 +36,8 @@ pub(crate) fn candidate_row_indexes(rows: &[Row], purpose: Purpose, connector: u
     places
 }
 
-/// Returns, for each stack level, the index of the first row of a purpose at a connector of a
-/// charge point.
+/// Returns, for each stack level, the index of the first row (installed profile) of a purpose at a
+/// connector of a charge point.
 fn first_row_indexes(rows: &[Row], purpose: Purpose, connector: u32) -> RowIndexes
     requires few { length rows.now ≤ 255 }
     ensures { AreFirstPlaces purpose rows.now connector result }
@@ -46,8 +47,8 @@ fn first_row_indexes(rows: &[Row], purpose: Purpose, connector: u32) -> RowIndex
     places
 }
 
-/// Stores, for each stack level without an index, that of the first row of a purpose at a connector
-/// of a charge point.
+/// Stores, for each stack level without an index, that of the first row (installed profile) of a
+/// purpose at a connector of a charge point.
 fn add_first_places(places: &mut RowIndexes, rows: &[Row], purpose: Purpose, connector: u32)
     requires few { length rows.now ≤ 255 }
     ensures { AreFirstAdded purpose rows.now connector rows.now places.old places.new }
@@ -59,7 +60,8 @@ fn add_first_places(places: &mut RowIndexes, rows: &[Row], purpose: Purpose, con
     }
 }
 
-/// Stores the index of a charge point's row in the table of stack levels, unless its level has one.
+/// Stores the index of a charge point's row (installed profile) in the table of stack levels,
+/// unless its level has one.
 fn add_place(places: &mut RowIndexes, rows: &[Row], place: usize)
     requires few { length rows.now ≤ 255 }
     requires inside { place < length rows.now }
@@ -78,7 +80,8 @@ fn no_places() -> RowIndexes
     [NO_ROW; LEVELS]
 }
 
-/// Stores the index of a charge point's row at its stack level in the table of levels.
+/// Stores the index of a charge point's row (installed profile) at its stack level in the table of
+/// levels.
 fn set_place(places: &mut RowIndexes, level: usize, place: u8)
     requires level { level < 100 }
     ensures here { slice_index places.new level ≡ place }
@@ -88,14 +91,16 @@ fn set_place(places: &mut RowIndexes, level: usize, place: u8)
     places[level] = place;
 }
 
-/// Whether a row of a charge point is of a purpose and at a connector.
+/// Whether a row (an installed charging profile) is of a purpose and at a connector of a charge
+/// point.
 fn is_row_at(purpose: Purpose, connector: u32, row: &Row) -> bool
     ensures { result ≡ is_row_at purpose connector row.now }
 {
     is_purpose(purpose, row.profile.purpose) && row.connector == connector
 }
 
-/// Returns the row that applies to a connector at a stack level, from the table of levels.
+/// Returns the row (installed profile) that applies to a connector at a stack level, from the table
+/// of levels.
 pub(crate) fn row_at<'a>(rows: &'a [Row], places: &RowIndexes, level: u32) -> Option<&'a Row>
     requires { level < 100 }
     ensures { option_copied result ≡ slice_get rows.now (slice_index places.now level) }
@@ -124,8 +129,8 @@ fn shared_connector(purpose: Purpose, connector: u32) -> u32
     }
 }
 
-/// Returns the lowest stack level above those of all rows of a charge point: 0 if there are no
-/// rows.
+/// Returns the lowest stack level above those of all rows (installed profiles) of a charge point: 0
+/// if there are no rows.
 pub(crate) fn level_above(rows: &[Row]) -> u32
     ensures above { All (λ row. row.profile.stack_level < result) rows.now }
     ensures level { result ≤ 100 }

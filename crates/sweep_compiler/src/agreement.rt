@@ -45,8 +45,8 @@ struct PeriodInterval {
 }
 
 impl PeriodInterval {
-    /// Makes the interval of a composite schedule's period: up to the next one, or to the end of
-    /// the schedule.
+    /// Makes the interval of a period, up to the next one or the end, to compare two composite
+    /// schedules in an audit.
     fn of(schedule: &Composite, start: Instant, place: usize) -> PeriodInterval
         requires inside { place < length schedule.now.periods }
         ensures { IsPeriodInterval schedule.now start place result }
@@ -59,8 +59,8 @@ impl PeriodInterval {
         }
     }
 
-    /// Whether an interval of another schedule shares an instant with this one and has another
-    /// limit, so that the schedules don't agree.
+    /// Whether an interval of another composite schedule shares an instant with this one and has
+    /// another limit. Then the two schedules of an audit don't agree.
     fn contradicts(&self, other: &PeriodInterval) -> bool
         ensures { result ≡ contradict self.now other.now }
     {
@@ -68,8 +68,8 @@ impl PeriodInterval {
     }
 }
 
-/// Returns the second at which the period at an index of a composite schedule begins, or after the
-/// last one the schedule's end.
+/// Returns the second at which a period of a compared composite schedule begins, or the schedule's
+/// end for the index after the last period.
 fn begin_of(schedule: &Composite, place: usize) -> u32
     ensures { result ≡ begin_of schedule.now place }
 {

@@ -36,8 +36,8 @@ impl<'a> Model for Bounded<'a> {
 }
 
 impl<'a> Bounded<'a> {
-    /// Makes the bound of a connector in the sweep of a composite schedule from rows, whose limits
-    /// are put in force, and a ceiling.
+    /// Makes a connector's or the point's bound in a composite schedule's sweep from a ceiling and
+    /// profiles' rows, and puts their limits in force.
     pub(crate) fn new(
         alloc: Global,
         connector: u32,
@@ -61,32 +61,32 @@ impl<'a> Bounded<'a> {
         })
     }
 
-    /// Returns the number of a connector's rows (charging profiles) in the sweep of a composite
-    /// schedule.
+    /// Returns the number of charging profiles' rows in the bound of a connector or the point, in
+    /// the sweep of a composite schedule.
     pub(crate) fn len(&self) -> usize
         ensures { result ≡ length self.now.runs }
     {
         self.runs.len()
     }
 
-    /// Returns a connector's limit at the sweep's instant: the least of its ceiling and the limit
-    /// that prevails.
+    /// Returns a connector's or the point's limit at the instant of a composite schedule's sweep:
+    /// the lesser of its ceiling and the prevailing profile's.
     pub(crate) fn limit(&self) -> u32
         ensures { result ≡ bound_now self.now }
     {
         at_most(self.ceiling, self.in_force.top())
     }
 
-    /// Returns the charging profile that prevails for a connector at the sweep's instant, with its
-    /// limit.
+    /// Returns the charging profile that prevails for a connector or the point, with its limit, at
+    /// the instant of a composite schedule's sweep.
     fn prevailing(&self) -> Option<ProfileLimit>
         ensures { result ≡ first_profile_limit self.now.runs }
     {
         first_profile_limit(self.runs.as_slice())
     }
 
-    /// Returns a connector's own limit at the sweep's instant, with its cause: the charging profile
-    /// that prevails, or the ceiling.
+    /// Returns a connector's own limit at the instant of a composite schedule's sweep, with its
+    /// cause: the prevailing charging profile or the ceiling.
     pub(crate) fn own_bound(&self) -> Bound
         ensures { result ≡ own_bound_now self.now }
     {
@@ -97,8 +97,8 @@ impl<'a> Bounded<'a> {
         lesser_of(self.prevailing(), ceiling)
     }
 
-    /// Returns the connector's share in the sum of the active connectors' limits at the sweep's
-    /// instant.
+    /// Returns the connector's share in the sum of the active connectors' limits, at the instant of
+    /// a composite schedule's sweep.
     pub(crate) fn share(&self) -> Share
         ensures { result ≡ share_now self.now }
     {
@@ -110,8 +110,8 @@ impl<'a> Bounded<'a> {
         }
     }
 
-    /// Returns the least of the whole charge point's bound at the sweep's instant and a given one,
-    /// with its cause.
+    /// Returns the lesser of the whole charge point's bound and a given one, with its cause, at the
+    /// instant of a composite schedule's sweep.
     pub(crate) fn or_below(&self, other: Bound) -> Bound
         ensures { result ≡ below_now self.now other }
     {
@@ -122,8 +122,8 @@ impl<'a> Bounded<'a> {
         lesser_of(self.prevailing(), other.or_less(ceiling))
     }
 
-    /// Returns the least of the whole charge point's bound at the sweep's instant and the sum of
-    /// the connectors' limits, which may exceed every limit.
+    /// Returns the lesser of the whole charge point's bound and the sum of the connectors' limits,
+    /// at the instant of a composite schedule's sweep. The sum may not fit a limit's 32 bits.
     pub(crate) fn or_sum(&self, sum: u64) -> Bound
         ensures { result ≡ below_now self.now (bound_of Sum sum) }
     {
@@ -142,8 +142,8 @@ impl<'a> Bounded<'a> {
         self.or_below(shared)
     }
 
-    /// Returns the instant of the next place of a connector's row in the sweep, at which its limit
-    /// can change.
+    /// Returns the instant of the next place of a charging profile's row in a composite schedule's
+    /// sweep, at which its limit can change.
     pub(crate) fn due(&self, index: usize) -> Option<Instant>
         requires within { index < length self.now.runs }
         ensures { result ≡ due_at self.now.runs index }
@@ -151,7 +151,8 @@ impl<'a> Bounded<'a> {
         self.runs[index].due()
     }
 
-    /// Moves a connector's row past its next place in the sweep, and puts its limit there in force.
+    /// Moves a charging profile's row past its next place in a composite schedule's sweep, and puts
+    /// its limit there in force.
     pub(crate) fn pass(&mut self, index: usize) -> Result<(), Refusal>
         requires within { index < length self.old.runs }
         ensures passed { IfOk result (λ _. self.new ≡ bound_passed index self.old) }
@@ -165,8 +166,8 @@ impl<'a> Bounded<'a> {
     }
 }
 
-/// Returns the first charging profile that has a limit at the sweep's instant, by falling rank,
-/// with its limit.
+/// Returns the first charging profile, by falling rank, that has a limit at the instant of a
+/// composite schedule's sweep, with that limit.
 fn first_profile_limit(runs: &[Run<'_>]) -> Option<ProfileLimit>
     ensures { result ≡ first_profile_limit runs.now }
 {
@@ -179,8 +180,8 @@ fn first_profile_limit(runs: &[Run<'_>]) -> Option<ProfileLimit>
     None
 }
 
-/// Returns the limits of a connector's rows at the sweep's instant, each at its rank among the
-/// purposes and stack levels.
+/// Returns the limits of charging profiles' rows at the instant of a composite schedule's sweep,
+/// each at its rank by purpose and stack level.
 fn rates_of(alloc: Global, runs: &[Run<'_>]) -> Result<InForce, Refusal>
     requires falling { AreFalling runs.now }
     ensures rates { IfOk result (λ rates. AreInForce runs.now rates) }
@@ -198,8 +199,8 @@ fn rates_of(alloc: Global, runs: &[Run<'_>]) -> Result<InForce, Refusal>
     Ok(rates)
 }
 
-/// Returns the lesser of a ceiling and the limit of the charging profile that prevails, if there is
-/// one.
+/// Returns the lesser of a ceiling and the prevailing charging profile's limit, if there is one, in
+/// the sweep of a composite schedule.
 fn at_most(limit: u32, other: Option<u32>) -> u32
     ensures { result ≡ at_most limit other }
 {

@@ -51,8 +51,8 @@ pub fn explain(
     }
 }
 
-/// Explains the limits of a requested schedule along its curve, in intervals of one reason each. It
-/// takes one turn at the first second and at each place.
+/// Explains the limits of a requested composite schedule along its curve, in intervals of one
+/// reason each. It takes one turn at the first second and at each place.
 fn explain_along(
     alloc: Global,
     curve: &mut LimitCurve<'_>,

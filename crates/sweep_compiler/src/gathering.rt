@@ -122,8 +122,8 @@ impl<'a> Gathering<'a> {
         Ok(())
     }
 
-    /// Returns the bound of the whole charge point at a request's start: its ceiling, and its
-    /// ChargePointMaxProfile rows.
+    /// Returns the bound of the whole charge point at the start of a composite schedule: its
+    /// ceiling, and its ChargePointMaxProfile rows.
     fn point(&self) -> Result<Bounded<'a>, Refusal>
         ensures bound { IfOk result (λ bound.
             IsPointAtStart (point_state self.now.view) self.now.asked self.now.last bound) }
@@ -133,8 +133,8 @@ impl<'a> Gathering<'a> {
         Bounded::new(self.alloc, 0, runs, self.view.ceiling)
     }
 
-    /// Returns the bound of a connector at a request's start: its ceiling, and the TxProfile and
-    /// TxDefaultProfile rows that apply to it.
+    /// Returns the bound of a connector at the start of a composite schedule: its ceiling, and the
+    /// TxProfile and TxDefaultProfile rows that apply to it.
     fn connector(&self, connector: u32) -> Result<Bounded<'a>, Refusal>
         requires above { 0 < connector }
         requires has_connector { connector ≤ length self.now.view.ceilings.now }
@@ -149,8 +149,8 @@ impl<'a> Gathering<'a> {
         Bounded::new(self.alloc, connector, runs, ceiling)
     }
 
-    /// Returns the rows of a purpose that count for a connector in a composite schedule, by falling
-    /// stack level, each at its start.
+    /// Returns the charging profiles' rows of a purpose that count for a connector, by falling
+    /// stack level, each at the start of a composite schedule.
     fn runs_of(&self, purpose: Purpose, connector: u32) -> Result<Vec<Run<'a>>, AllocError>
         ensures { IfOk result (λ runs. AreRunsOf purpose (point_state self.now.view) connector
             self.now.asked self.now.last runs.items) }
@@ -164,8 +164,8 @@ impl<'a> Gathering<'a> {
         Ok(runs)
     }
 
-    /// Adds the rows that an iterator yields to those that count for a connector in a composite
-    /// schedule.
+    /// Adds the charging profiles' rows that an iterator yields to those that count for a connector
+    /// in a composite schedule.
     fn add(
         &self,
         runs: &mut Vec<Run<'a>>,
@@ -182,7 +182,7 @@ impl<'a> Gathering<'a> {
         Ok(())
     }
 
-    /// Returns a charge point's row that counts for a connector, as it is at the start of a
+    /// Returns a charging profile's row that counts for a connector, as it is at the start of a
     /// composite schedule.
     fn run(&self, row: &'a Row, connector: usize) -> Run<'a>
         ensures { result ≡ running_from (point_state self.now.view) connector
@@ -193,8 +193,8 @@ impl<'a> Gathering<'a> {
     }
 }
 
-/// Returns the sum of the connectors' limits at a request's start. Their bounds follow the first
-/// one, which is the whole charge point's.
+/// Returns the sum of the connectors' limits at the start of a composite schedule. Their bounds
+/// follow the first one, which is the whole charge point's.
 fn shared(bounds: &[Bounded<'_>]) -> u64
     requires small { AllByRecursion (λ (bound : RunningBound). bound.ceiling < 2 ^ 32) bounds.now }
     requires few { length bounds.now ≤ 2 ^ 32 }
@@ -207,8 +207,8 @@ fn shared(bounds: &[Bounded<'_>]) -> u64
     sum
 }
 
-/// Makes the queue for the sweep of a composite schedule: the next place of each row of some
-/// bounds.
+/// Makes the queue for the sweep of a composite schedule: the next place of each charging profile's
+/// row in some bounds.
 fn queue_of(alloc: Global, bounds: &[Bounded<'_>]) -> Result<Queue, AllocError>
     ensures { IfOk result (λ queue. AreWaiting bounds.now (length bounds.now) 0 queue) }
 {
@@ -219,7 +219,8 @@ fn queue_of(alloc: Global, bounds: &[Bounded<'_>]) -> Result<Queue, AllocError>
     Ok(queue)
 }
 
-/// Adds the next place of each row of a bound to the queue for the sweep of a composite schedule.
+/// Adds the next place of each charging profile's row in a bound to the queue for the sweep of a
+/// composite schedule.
 fn add_rows(queue: &mut Queue, bounds: &[Bounded<'_>], bound: usize) -> Result<(), AllocError>
     requires has_bound { bound < length bounds.now }
     requires before { AreWaiting bounds.now bound 0 queue.old }
@@ -231,7 +232,8 @@ fn add_rows(queue: &mut Queue, bounds: &[Bounded<'_>], bound: usize) -> Result<(
     Ok(())
 }
 
-/// Adds the next place of a row, if it has one, to the queue for the sweep of a composite schedule.
+/// Adds the next place of a charging profile's row, if it has one, to the queue for the sweep of a
+/// composite schedule.
 fn add_row(
     queue: &mut Queue,
     bounds: &[Bounded<'_>],

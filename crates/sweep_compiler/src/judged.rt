@@ -97,7 +97,8 @@ impl Judged {
     }
 }
 
-/// Returns the verdict on a charge point's reply to the GetCompositeSchedule of an audit.
+/// Returns an audit's verdict on a point's reply to GetCompositeSchedule: whether its schedule
+/// agrees with the one that the point should have.
 fn verdict_of(alloc: Global, job: &AuditJob, said: Said) -> Result<Verdict, AllocError>
     ensures verdict { IfOk result (λ verdict. IsVerdict job.now said verdict) }
     ensures short { OnErr result (MayNeedMemory job.now said) }
@@ -120,8 +121,8 @@ fn verdict_of(alloc: Global, job: &AuditJob, said: Said) -> Result<Verdict, Allo
     }
 }
 
-/// Returns the schedule that a charge point reports in an audit over a number of seconds, if it is
-/// one in the requested unit.
+/// Returns the composite schedule that a charge point reports to an audit's GetCompositeSchedule,
+/// if its periods make one in the requested unit.
 fn comparable(job: &AuditJob, duration: u32, unit: Unit, periods: SaidPeriods) -> Option<Composite>
     ensures said { IfSome result
         (λ schedule. schedule ≡ record { duration = duration; periods = periods }) }
@@ -137,8 +138,8 @@ fn comparable(job: &AuditJob, duration: u32, unit: Unit, periods: SaidPeriods) -
     }
 }
 
-/// Returns an audit's verdict on the schedule that a charge point reports from a start on, by
-/// comparison with the exact one.
+/// Returns an audit's verdict on the composite schedule that a charge point reports from a start
+/// on, by comparison with the exact one.
 fn compared(
     alloc: Global,
     job: &AuditJob,

@@ -41,7 +41,8 @@ pub(crate) struct LimitCurve<'a> {
 }
 
 impl LimitCurve<'_> {
-    /// Returns the limit of the requested connector at the sweep's instant, in tenths.
+    /// Returns the limit of the requested connector at the instant of a composite schedule's sweep,
+    /// in tenths.
     pub(crate) fn limit_here(&self) -> u32
         requires ready { IsReadyCurve self.now }
         requires within { self.now.at ≤ self.now.last }
@@ -53,7 +54,8 @@ impl LimitCurve<'_> {
         u64::from(point).min(self.sum) as u32
     }
 
-    /// Returns the limit of the requested connector at the sweep's instant, with its cause.
+    /// Returns the limit of the requested connector at the instant of a composite schedule's sweep,
+    /// with its cause.
     fn bound_here(&self) -> Bound
         requires ready { IsReadyCurve self.now }
         requires within { self.now.at ≤ self.now.last }
@@ -68,8 +70,8 @@ impl LimitCurve<'_> {
         }
     }
 
-    /// Returns the limit of the requested connector at the sweep's instant, with its cause, and the
-    /// shares if that is a sum.
+    /// Returns the requested connector's limit at the instant of a composite schedule's sweep, with
+    /// its cause, and the connectors' shares if that is a sum.
     pub(crate) fn reason_here(&self, alloc: Global) -> Result<Reason, AllocError>
         requires ready { IsReadyCurve self.now }
         requires within { self.now.at ≤ self.now.last }
@@ -88,8 +90,8 @@ impl LimitCurve<'_> {
         })
     }
 
-    /// Returns the share of each active connector in the sum at the sweep's instant, in a request
-    /// for the whole charge point.
+    /// Returns each active connector's share in the sum at the instant of a composite schedule's
+    /// sweep, in a request for the whole charge point.
     fn shares_here(&self, alloc: Global) -> Result<Shares, AllocError>
         requires ready { IsReadyCurve self.now }
         requires within { self.now.at ≤ self.now.last }
@@ -100,8 +102,8 @@ impl LimitCurve<'_> {
         shares_of(alloc, &self.bounds)
     }
 
-    /// Moves the sweep to a later place, up to which the limit and its reason are the same as here,
-    /// and returns it. Returns `None` if they are the same to the end.
+    /// Moves a composite schedule's sweep to its next place, and returns that. Up to there the
+    /// limit and its reason are the same. Returns `None` if they are the same to the end.
     pub(crate) fn go_to_next(&mut self) -> Result<Option<u32>, Refusal>
         requires ready { IsReadyCurve self.old }
         requires within { self.old.at ≤ self.old.last }
@@ -127,8 +129,8 @@ impl LimitCurve<'_> {
         Ok(Some(second as u32))
     }
 
-    /// Moves the sweep of a composite schedule to its next place: each row that is due there passes
-    /// it.
+    /// Moves the sweep of a composite schedule to its next place: each charging profile's row that
+    /// is due there passes it.
     fn go_to(&mut self, next: Instant) -> Result<(), Refusal>
         requires ready { IsReadyCurve self.old }
         requires soonest { IsSoonestOf self.old.queue next }
@@ -144,8 +146,8 @@ impl LimitCurve<'_> {
         Ok(())
     }
 
-    /// Moves the first row that is due at the sweep's instant past its place, and updates the
-    /// queue.
+    /// Moves the first charging profile's row that is due at the instant of a composite schedule's
+    /// sweep past its place, and updates the queue.
     fn pass_soonest(&mut self) -> Result<(), Refusal>
         requires swept { IsSweptCurve self.old }
         requires here { IsSoonestOf self.old.queue self.old.at }
@@ -177,8 +179,8 @@ impl LimitCurve<'_> {
     }
 }
 
-/// Returns each connector's share in the sum that limits the whole charge point. The connectors'
-/// bounds follow the first one, which is the point's.
+/// Returns each connector's share in the sum that limits the whole charge point in a composite
+/// schedule. The connectors' bounds follow the first one, which is the point's.
 fn shares_of(alloc: Global, bounds: &[Bounded<'_>]) -> Result<Shares, AllocError>
     ensures { IfOk result (λ shares. shares ≡ shares_now bounds.now) }
 {
@@ -189,8 +191,8 @@ fn shares_of(alloc: Global, bounds: &[Bounded<'_>]) -> Result<Shares, AllocError
     Ok(Shares::new(shares))
 }
 
-/// Moves a row of a bound past its next place in the sweep, and updates the sum of the connectors'
-/// limits. Returns the instant at which the row is due again.
+/// Moves a charging profile's row past its next place in a composite schedule's sweep, and updates
+/// the sum of the connectors' limits. Returns the instant at which the row is due again.
 fn pass_row(
     bounds: &mut Vec<Bounded<'_>>,
     sum: &mut u64,

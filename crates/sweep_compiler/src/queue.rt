@@ -86,8 +86,8 @@ impl Model for Queue {
 impl Queue {
     ghost use Rattle.sweep_compiler.specs.ByCases.Queue.{Due, IsSoonest, IsSoonestOf};
 
-    /// Makes an empty queue of the rows that wait for their next places in a sweep. Allocates
-    /// nothing.
+    /// Makes an empty queue of the charging profiles' rows that wait for their next places in a
+    /// composite schedule's sweep. Allocates nothing.
     pub(crate) fn new(alloc: Global) -> Queue
         ensures { result ≡ [] }
     {
@@ -96,7 +96,8 @@ impl Queue {
         }
     }
 
-    /// Adds a row of a bound to the sweep's queue, with the instant of its next place.
+    /// Adds a charging profile's row to the queue of a composite schedule's sweep, with the instant
+    /// of its next place.
     pub(crate) fn push(&mut self, due: Due) -> Result<(), AllocError>
         ensures { IfOk result (λ _. IsPermutation (due ∷ self.old) self.new) }
     {
@@ -104,8 +105,8 @@ impl Queue {
         Ok(())
     }
 
-    /// Returns the earliest instant at which a row in the sweep's queue is due, which is the next
-    /// place of the sweep.
+    /// Returns the earliest instant at which a charging profile's row in the queue is due, the next
+    /// place of a composite schedule's sweep.
     pub(crate) fn soonest(&self) -> Option<Instant>
         ensures { IsSoonest self.now result }
     {
@@ -115,7 +116,8 @@ impl Queue {
         }
     }
 
-    /// Returns the row in the sweep's queue that is due the soonest.
+    /// Returns the charging profile's row that is due the soonest in the queue of a composite
+    /// schedule's sweep.
     pub(crate) fn first(&self) -> Option<Due>
         ensures empty { IfNone result (self.now ≡ []) }
         ensures first { IfSome result (λ due. self.now ≡ due ∷ drop 1 self.now) }
@@ -128,7 +130,8 @@ impl Queue {
         }
     }
 
-    /// Replaces the first row in the sweep's queue. Allocates nothing.
+    /// Replaces the row that is due the soonest in the queue of a composite schedule's sweep.
+    /// Allocates nothing.
     pub(crate) fn replace_first(&mut self, due: Due)
         requires some { 0 < length self.old }
         ensures { IsPermutation (due ∷ drop 1 self.old) self.new }
@@ -138,7 +141,7 @@ impl Queue {
         *first = due;
     }
 
-    /// Removes the first row from the sweep's queue.
+    /// Removes the row that is due the soonest from the queue of a composite schedule's sweep.
     pub(crate) fn remove_first(&mut self)
         requires some { 0 < length self.old }
         ensures { IsPermutation (drop 1 self.old) self.new }

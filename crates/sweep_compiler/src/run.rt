@@ -41,8 +41,8 @@ impl<'a> Model for Run<'a> {
 }
 
 impl<'a> Run<'a> {
-    /// Makes a row (a charging profile) of a sweep, counted from a base, at an instant, with its
-    /// places up to a last one.
+    /// Makes a charging profile's row of a composite schedule's sweep at an instant, counted from a
+    /// base, with its places up to a last one.
     pub(crate) fn new(row: &'a Row, base: Instant, start: Instant, last: Instant) -> Run<'a>
         ensures { result ≡ record { row = row.now; base = base; since = start; last = last } }
     {
@@ -71,15 +71,16 @@ impl<'a> Run<'a> {
         }
     }
 
-    /// Returns the limit that the row's charging profile has had since the last of its places that
-    /// the sweep passed.
+    /// Returns the limit of the row's charging profile since the last of its places that the sweep
+    /// of a composite schedule passed.
     pub(crate) fn rate(&self) -> Option<u32>
         ensures { result ≡ rate_running self.now }
     {
         self.rate
     }
 
-    /// Returns the row's charging profile with its limit at the sweep's instant, if it has one.
+    /// Returns the row's charging profile with its limit, if it has one, at the instant of a
+    /// composite schedule's sweep.
     pub(crate) fn profile_limit(&self) -> Option<ProfileLimit>
         ensures { result ≡ option_map profile_limit_of (row_running self.now) }
     {
@@ -87,8 +88,8 @@ impl<'a> Run<'a> {
         Some(ProfileLimit::of(self.row, limit))
     }
 
-    /// Returns the limit of the row's charging profile from its next place on, or its present limit
-    /// if there is no next place.
+    /// Returns the limit of the row's charging profile from its next place in a composite
+    /// schedule's sweep on, or its present limit without one.
     pub(crate) fn next_rate(&self) -> Option<u32>
         ensures { result ≡ rate_running (passed self.now) }
     {
@@ -98,14 +99,16 @@ impl<'a> Run<'a> {
         }
     }
 
-    /// Returns the instant of the row's next place in the sweep, at which its limit can change.
+    /// Returns the instant of the row's next place in a composite schedule's sweep, at which its
+    /// charging profile's limit can change.
     pub(crate) fn due(&self) -> Option<Instant>
         ensures { result ≡ due self.now }
     {
         Some(self.next?.instant)
     }
 
-    /// Moves the row past its next place in the sweep, if there is one.
+    /// Moves a charging profile's row past its next place in the sweep of a composite schedule, if
+    /// there is one.
     pub(crate) fn pass(&mut self)
         ensures { self.new ≡ passed self.old }
     {

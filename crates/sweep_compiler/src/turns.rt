@@ -49,7 +49,8 @@ impl Turns {
         self.count += 1;
     }
 
-    /// Evaluates the requested limit at the instant of a sweep, in tenths, which is one turn.
+    /// Evaluates the requested limit at the instant of a composite schedule's sweep, in tenths,
+    /// which is one turn.
     // The counter evaluates the limit itself, so that a caller can't forget to count.
     pub(crate) fn limit_of(&mut self, curve: &LimitCurve<'_>) -> u32
         requires room { self.old + 1 < 2 ^ 64 }
@@ -63,7 +64,8 @@ impl Turns {
         curve.limit_here()
     }
 
-    /// Evaluates the requested limit with its cause at the instant of a sweep, which is one turn.
+    /// Evaluates the requested limit with its cause at the instant of a composite schedule's sweep,
+    /// which is one turn.
     pub(crate) fn reason_of(
         &mut self,
         alloc: Global,

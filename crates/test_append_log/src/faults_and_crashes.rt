@@ -62,8 +62,8 @@ fn a_crash_leaves_a_first_part_and_opening_its_whole_lines(rt: HostRuntime) {
     }
 }
 
-/// Plays a row on an append-only log: adds each text, tries once to write and sync it, lets the
-/// file crash, and opens it again.
+/// Plays a line of a test of the append-only log. Adds each text and tries once to write and sync
+/// it, lets the file crash, and opens it again.
 fn play(rt: &impl Abort, alloc: Global, texts: &[&str], row: &str) {
     let (letters, rest) = row.split_once('|').expect(rt, row);
     let (behind, wanted) = rest.split_once('|').expect(rt, row);
@@ -81,8 +81,8 @@ fn play(rt: &impl Abort, alloc: Global, texts: &[&str], row: &str) {
     assert!(rt; found.as_str() == wanted, "{row}: {found}");
 }
 
-/// Opens an append-only log in a file in memory with this text. The file's later calls have the
-/// outcomes of these letters.
+/// Opens a test's append-only log in a file in memory with this text. The file's later calls have
+/// the outcomes of these letters.
 fn log_in(rt: &impl Abort, alloc: Global, text: &str, letters: &str) -> Log<MemoryFile> {
     let bytes = text.as_bytes().to_vec(alloc).expect(rt, "error");
     let answers = answers_of(alloc, letters).expect(rt, "error");
@@ -91,8 +91,8 @@ fn log_in(rt: &impl Abort, alloc: Global, text: &str, letters: &str) -> Log<Memo
     Log::open(alloc, file, end).ok().expect(rt, "it is opened")
 }
 
-/// Returns the outcomes of calls on a log's file by their letters, the last one first. Then comes
-/// that of the cut at opening.
+/// In the tests of the append-only log: returns the outcomes of calls of its file by their letters,
+/// the last one first. Then comes that of the cut at opening.
 fn answers_of(alloc: Global, letters: &str) -> Result<Vec<FileAnswer>, AllocError> {
     let mut answers = Vec::new(alloc);
     for letter in letters.as_bytes().iter().rev() {
@@ -107,8 +107,8 @@ fn answers_of(alloc: Global, letters: &str) -> Result<Vec<FileAnswer>, AllocErro
     Ok(answers)
 }
 
-/// Tries once to write and sync what was added to an append-only log, and returns the letter of the
-/// outcome.
+/// In a test, tries once to write and sync the texts added to an append-only log, and returns the
+/// letter of the outcome.
 fn trial(log: &mut Log<MemoryFile>) -> &'static str {
     match log.write_and_sync() {
         Ok(()) => "k",
@@ -118,8 +118,8 @@ fn trial(log: &mut Log<MemoryFile>) -> &'static str {
     }
 }
 
-/// Returns the text that a crash leaves of an append-only log's file, with `behind` bytes after
-/// those on disk.
+/// In a test, returns the text that a crash leaves of an append-only log's file, with `behind`
+/// bytes after those on disk.
 fn text_left(rt: &impl Abort, alloc: Global, log: &Log<MemoryFile>, behind: usize) -> String {
     let left = log.file().crash(alloc, behind).expect(rt, "error");
     String::from_utf8(left).ok().expect(rt, "ASCII")

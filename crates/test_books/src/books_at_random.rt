@@ -5,25 +5,25 @@ use crate::scripted_books::play;
 use std::alloc::Global;
 use std::process::Abort;
 
-/// Returns the next number of the pseudorandom sequence from which charging profiles are made: a
-/// linear congruential generator.
+/// Returns the next number of the pseudorandom sequence from which the profiles of a test's random
+/// books are made: a linear congruential generator.
 fn next_number(number: u32) -> u32 {
     number.wrapping_mul(1_664_525).wrapping_add(1_013_904_223)
 }
 
-/// Draws a value for a point's random book: one of `count` numbers from `least` on, from the bits
-/// of `number` without its last `but`.
+/// Draws a value for a test's random book: one of `count` numbers from `least` on, from the bits of
+/// `number` without its last `but`.
 fn drawn(number: u32, but: u32, count: u32, least: u32) -> u32 {
     (number.wrapping_shr(but) % count.max(1)).saturating_add(least)
 }
 
-/// Appends the words of a field in a random book's lines, such as ` level=`, and its number.
+/// Appends words, such as ` level=`, and a number to the lines of a test's random book of a point.
 fn put(rt: &impl Abort, text: &mut String, words: &str, number: u32) {
     write!(text, "{words}{number}").expect(rt, "error");
 }
 
-/// Returns the purpose of a random charging profile in words, and its connector, from the bits of a
-/// number.
+/// Returns the purpose of a random charging profile of a test in words, and its connector, from the
+/// bits of a number.
 fn purpose_of(number: u32) -> (&'static str, u32) {
     match drawn(number, 8, 4, 0) {
         0 => (" purpose=ChargePointMaxProfile connector=", 0),
@@ -35,8 +35,8 @@ fn purpose_of(number: u32) -> (&'static str, u32) {
     }
 }
 
-/// Returns the kind of a random charging profile in words, ending with the name of its first
-/// second, from the bits of a number.
+/// Returns the kind of a test's random profile in words, ending with the name of its first second,
+/// from the bits of a number.
 fn kind_of(number: u32) -> &'static str {
     match drawn(number, 12, 4, 0) {
         0 => " kind=Absolute start=",
@@ -61,8 +61,8 @@ const DRAWN: [(&str, u32, u32, u32); 10] = [
     (":", 9, 300, 60),
 ];
 
-/// Appends the line that installs a random charging profile of an id, made from the bits of a
-/// number.
+/// Appends the line of a test's random book that installs a charging profile of an id, made from
+/// the bits of a number.
 fn put_row(rt: &impl Abort, text: &mut String, id: u32, number: u32) {
     put(rt, text, "\nrow id=", id);
     let (purpose, connector) = purpose_of(number);
@@ -73,8 +73,8 @@ fn put_row(rt: &impl Abort, text: &mut String, id: u32, number: u32) {
     }
 }
 
-/// Appends lines that install random charging profiles with the ids from 0 on, from the next
-/// numbers, and returns the last number.
+/// Appends a test's lines that install random charging profiles with the ids from 0 on, from the
+/// next numbers, and returns the last number.
 fn put_rows(rt: &impl Abort, text: &mut String, count: u32, before: u32) -> u32 {
     let mut number = before;
     for id in 0..count {
@@ -84,9 +84,9 @@ fn put_rows(rt: &impl Abort, text: &mut String, count: u32, before: u32) -> u32 
     number
 }
 
-/// Plays a random book of a point with two transactions and up to nine profiles. Each connector is
-/// requested from the second from which the profiles change. They are made from the numbers after
-/// `before`; the last one is returned.
+/// Plays a test's random book of a point with two transactions and up to nine profiles. Each
+/// connector's schedule is requested from the second from which the profiles change. The profiles
+/// are made from the numbers after `before`; the last one is returned.
 fn play_one(rt: &impl Abort, alloc: Global, (verb, seed): (&str, u32), before: u32) -> u32 {
     let mut text = String::new(alloc);
     put(rt, &mut text, "point ", drawn(seed, 0, 600, 120));

@@ -18,8 +18,8 @@ use std::process::Abort;
 use std::sync::Arc;
 use sweep_compiler::{AuditJob, Judged, Verdict};
 
-/// Parses a period of the schedule that an audited charge point reports, such as `30:80`: its start
-/// and its limit.
+/// In the tests of audits: parses a period of the schedule that the audited charge point reports,
+/// such as `30:80`: its start and its limit.
 fn period_of(rt: &impl Abort, word: &str) -> CompositePeriod {
     let (start, limit) = word.split_once(':').expect(rt, word);
     CompositePeriod {
@@ -28,8 +28,8 @@ fn period_of(rt: &impl Abort, word: &str) -> CompositePeriod {
     }
 }
 
-/// Parses the periods of the schedule that an audited charge point reports: of `0:160 30:80`, or of
-/// `each=4096`.
+/// In the tests of audits: parses the periods of the schedule that the charge point reports, of
+/// `0:160 30:80`, or of `each=4096`.
 fn periods_of(rt: &impl Abort, alloc: Global, words: &str) -> SaidPeriods {
     let mut periods = Vec::new(alloc);
     if let Some(count) = words.strip_prefix("each=") {
@@ -45,14 +45,14 @@ fn periods_of(rt: &impl Abort, alloc: Global, words: &str) -> SaidPeriods {
     SaidPeriods::new(periods)
 }
 
-/// Parses the charging rate unit, `A` or `W`, of an audit or of the schedule that the point
-/// reports.
+/// In the tests of audits: parses the charging rate unit, `A` or `W`, of an audit or of the
+/// schedule that the point reports.
 fn unit_of(rt: &impl Abort, word: &str) -> Unit {
     Unit::named(word).expect(rt, word)
 }
 
-/// Parses the reply of a charge point to an audit: a rejection, a reply that can't be read, or a
-/// schedule.
+/// Parses the reply of a test's charge point to an audit, a GetCompositeSchedule: a rejection, a
+/// reply that can't be read, or a schedule.
 fn said_of(rt: &impl Abort, alloc: Global, words: &str) -> Said {
     let mut words = Words::of(words);
     match words.word() {
@@ -67,8 +67,8 @@ fn said_of(rt: &impl Abort, alloc: Global, words: &str) -> Said {
     }
 }
 
-/// Makes the audit of words such as `1 60 A`: a connector, which the point's book has, a number of
-/// seconds, and a unit.
+/// Makes a test's audit of words such as `1 60 A`: a connector, which the point's book has, a
+/// number of seconds, and a unit.
 fn job_of(rt: &impl Abort, book: &Arc<PointBook>, words: &mut Words<'_>) -> AuditJob {
     let connector = words.number().expect(rt, "a connector");
     let duration = words.number().expect(rt, "a duration");
@@ -82,8 +82,8 @@ fn job_of(rt: &impl Abort, book: &Arc<PointBook>, words: &mut Words<'_>) -> Audi
     )
 }
 
-/// Checks the verdict of a line on a charge point's reply to an audit, and that memory sufficed for
-/// it.
+/// Checks the verdict of a test's line on a charge point's reply to an audit, a
+/// GetCompositeSchedule, and that memory sufficed for it.
 fn expect(rt: &impl Abort, alloc: Global, book: &Arc<PointBook>, line: &str) {
     let (asked, wanted) = line.split_once(" = ").expect(rt, line);
     let mut words = Words::of(asked);
@@ -106,7 +106,8 @@ fn name_of(verdict: Verdict) -> &'static str {
     }
 }
 
-/// Checks the verdicts of lines on replies to audits of a charge point whose book has these rows.
+/// Checks the verdicts of lines on replies to audits of a charge point, whose book is made by the
+/// lines `rows`.
 fn expect_all(rt: &impl Abort, alloc: Global, rows: &str, lines: &str) {
     let book = Arc::new(alloc, play(rt, alloc, rows)).expect(rt, "error");
     for line in lines.lines() {
@@ -176,15 +177,16 @@ const LONG: &str = "\
 1 1769473 A schedule 0 432 A 0:60 = Unsettled
 1 1769473 A schedule 0 433 A 0:60 = Unsettled";
 
-/// Checks the verdicts on a charge point's replies to audits against those found by hand.
+/// Checks the verdicts on a charge point's replies to audits, which are GetCompositeSchedule calls,
+/// against those found by hand.
 #[test]
 fn judges_what_is_said(rt: HostRuntime) {
     expect_all(&rt, rt.alloc(), ROWS, COMPARED);
     expect_all(&rt, rt.alloc(), MOST_PERIODS, LONG);
 }
 
-/// Makes a point's book with a Relative profile: 16 A for half a minute from the start of an
-/// audit's request, and then 8 A.
+/// Makes a point's book for a test of audits. Its Relative profile has 16 A for half a minute from
+/// the start of an audit's request, and then 8 A.
 fn relative(rt: &impl Abort, alloc: Global) -> Arc<PointBook> {
     let ceilings = Vec::from_slice(alloc, &[320]).expect(rt, "error");
     let mut book = PointBook::try_new(alloc, 630, ceilings).expect(rt, "error");

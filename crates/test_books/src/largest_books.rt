@@ -58,7 +58,7 @@ fn turns_at_places_alone(rt: HostRuntime) {
     play(&rt, rt.alloc(), TURNS);
 }
 
-/// Appends a line of a scripted point's book for each number of a range. The line is made of pieces
+/// Appends a test's line for a point's book for each number of a range. The line is made of pieces
 /// between `|`: `@` becomes the number, `%` 200 times the number, and `&` 200 times the difference
 /// from 200.
 fn put_each(rt: &impl Abort, lines: &mut String, (first, end): (u32, u32), line: &str) {
@@ -67,7 +67,7 @@ fn put_each(rt: &impl Abort, lines: &mut String, (first, end): (u32, u32), line:
     }
 }
 
-/// Appends a line of a scripted point's book, made of the pieces of `put_each` for one number.
+/// Appends a test's line for a point's book, made of the pieces of `put_each` for one number.
 fn put_one(rt: &impl Abort, lines: &mut String, number: u32, line: &str) {
     for word in line.split('|') {
         match word {
@@ -112,8 +112,8 @@ reasons 0 64 120
 alike 64 64 120
 counts 64 64 120 = 2 2";
 
-/// Checks the schedule and the reasons for a point of the most connectors, 64, each with a
-/// transaction.
+/// Checks the compiled schedule and the explained reasons for a point of the most connectors, 64,
+/// each with a transaction.
 #[test]
 fn shares_among_the_most_connectors(rt: HostRuntime) {
     let mut lines = String::from_str(rt.alloc(), "point 1000000 64 320\n").expect(&rt, "error");
@@ -132,8 +132,8 @@ alike 1 19700 200
 explained 1 0 40000 = 199 199
 reasons 1 0 40000";
 
-/// Checks the schedules of a point whose profiles are at all 100 stack levels, which come into
-/// force and end in turn.
+/// Checks the compiled schedules of a point whose profiles are at all 100 stack levels, which come
+/// into force and end in turn.
 #[test]
 fn goes_through_the_most_levels(rt: HostRuntime) {
     let begin = "point 630 2 320\nstart 1 ann 100 1\n";
@@ -192,8 +192,8 @@ fn has_room_for_its_connectors_and_rows(rt: HostRuntime) {
     holds(&rt, copy.same_transactions(&book), "its transactions");
 }
 
-/// Compiles a request, whose answer is kept twice, and returns the number of periods of both. It
-/// returns 0 if both are ResultTooLong.
+/// In a test of the compiler of schedules: compiles a schedule's request, whose answer is kept
+/// twice, and returns the number of periods of both. It returns 0 if both are ResultTooLong.
 fn periods_twice(rt: &impl Abort, alloc: Global, book: &Arc<PointBook>, duration: u32) -> usize {
     let start = instant_at(0).expect(rt, "error");
     let ask = Ask::try_new(1, start, duration).expect(rt, "error");
@@ -215,8 +215,8 @@ fn periods_twice(rt: &impl Abort, alloc: Global, book: &Arc<PointBook>, duration
     }
 }
 
-/// Checks that a compiled request has two equal answers, with the most periods of a schedule and
-/// with one more.
+/// Checks that a compiled request for a schedule has two equal answers, with the most periods of a
+/// schedule and with one more.
 #[test]
 fn keeps_its_answer_twice(rt: HostRuntime) {
     let lines = "point 630 1 320\nrow kind=Recurring recurrency=Daily start=0 turns=432";

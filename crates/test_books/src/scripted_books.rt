@@ -32,8 +32,8 @@ struct Line<'a> {
     words: Words<'a>,
 }
 
-/// Plays the lines of a script on a point's book of charging profiles, which the first line makes,
-/// and returns the book.
+/// Plays a test's lines on a point's book of charging profiles, which the first line makes, and
+/// returns the book.
 pub(crate) fn play(rt: &impl Abort, alloc: Global, lines: &str) -> PointBook {
     let mut book = PointBook::try_new(alloc, 0, Vec::new(alloc)).expect(rt, "error");
     for line in lines.lines() {
@@ -42,7 +42,7 @@ pub(crate) fn play(rt: &impl Abort, alloc: Global, lines: &str) -> PointBook {
     book
 }
 
-/// Plays a line of a script on a point's book, and checks that its result is the one after ` =`.
+/// Plays a test's line on a point's book, and checks that its result is the one after ` =`.
 fn play_line(rt: &impl Abort, alloc: Global, book: &mut PointBook, whole: &str) {
     let (said, wanted) = whole.split_once(" =").unwrap_or((whole, ""));
     let mut words = Words::of(said);
@@ -56,7 +56,7 @@ fn play_line(rt: &impl Abort, alloc: Global, book: &mut PointBook, whole: &str) 
     same_text(rt, found.as_str(), wanted.trim_start(), whole);
 }
 
-/// Plays a line of a script on a point's book, by the line's first word, and returns the result.
+/// Plays a test's line on a point's book, by the line's first word, and returns the result.
 fn outcome(rt: &impl Abort, book: &mut PointBook, verb: &str, line: Line<'_>) -> String {
     match verb {
         "point" => begin_anew(rt, book, line),
@@ -67,7 +67,7 @@ fn outcome(rt: &impl Abort, book: &mut PointBook, verb: &str, line: Line<'_>) ->
     }
 }
 
-/// Returns the result of a script's line that requests a schedule, or an explanation of one, from a
+/// Returns the result of a test's line that requests a schedule, or an explanation of one, from a
 /// point's book.
 fn answer(rt: &impl Abort, book: &PointBook, verb: &str, mut line: Line<'_>) -> String {
     let ask = ask_of(rt, book, &mut line);
@@ -81,8 +81,8 @@ fn answer(rt: &impl Abort, book: &PointBook, verb: &str, mut line: Line<'_>) -> 
     String::new(line.alloc)
 }
 
-/// Replaces the book by the new one of a script's line: a point with a ceiling, and connectors with
-/// one each.
+/// Replaces a point's book by the new one of a test's line: a point with a ceiling, and connectors
+/// with one each.
 fn begin_anew(rt: &impl Abort, book: &mut PointBook, mut line: Line<'_>) -> String {
     let ceiling = line.words.number().expect(rt, line.whole);
     let connectors = line.words.number().expect(rt, line.whole);
@@ -95,8 +95,8 @@ fn begin_anew(rt: &impl Abort, book: &mut PointBook, mut line: Line<'_>) -> Stri
     String::new(line.alloc)
 }
 
-/// Installs a charging profile in a point's book, and returns the refusal's name, or an empty text.
-/// A refused row comes back to the caller.
+/// Installs a test's charging profile in a point's book, and returns the refusal's name, or an
+/// empty text. Checks that a refused profile comes back.
 fn refusal_of(rt: &impl Abort, book: &mut PointBook, row: Row) -> &'static str {
     let id = row.profile.id;
     assert!(rt; row.connector <= book.connectors());
@@ -109,8 +109,8 @@ fn refusal_of(rt: &impl Abort, book: &mut PointBook, row: Row) -> &'static str {
     }
 }
 
-/// Installs the charging profile of a script's line in a point's book, and returns the refusal's
-/// name, or an empty text. A refused one changes nothing.
+/// Installs the charging profile of a test's line in a point's book, and returns the refusal's
+/// name, or an empty text. Checks that a refused one changes nothing.
 fn install(rt: &impl Abort, book: &mut PointBook, line: Line<'_>) -> String {
     let row = row_of(line.alloc, line.words.rest()).expect(rt, line.whole);
     let before = book.copy().expect(rt, line.whole);
@@ -119,8 +119,8 @@ fn install(rt: &impl Abort, book: &mut PointBook, line: Line<'_>) -> String {
     String::from_str(line.alloc, refusal).expect(rt, line.whole)
 }
 
-/// Parses the profile with which the transaction of a script's line begins from the remaining
-/// words, if there are any.
+/// Parses the profile with which the transaction of a test's line begins from the remaining words,
+/// if there are any.
 fn own_profile(rt: &impl Abort, line: Line<'_>) -> Option<Profile> {
     if line.words.rest().is_empty() {
         return None;
@@ -128,7 +128,7 @@ fn own_profile(rt: &impl Abort, line: Line<'_>) -> Option<Profile> {
     Some(profile_of(line.alloc, line.words.rest()).expect(rt, line.whole))
 }
 
-/// Begins the transaction of a script's line in a point's book, with a profile if the line has one.
+/// Begins the transaction of a test's line in a point's book, with a profile if the line has one.
 fn start(rt: &impl Abort, book: &mut PointBook, mut line: Line<'_>) -> String {
     let connector = line.words.number().expect(rt, line.whole);
     let tag = line.words.word();
@@ -139,8 +139,8 @@ fn start(rt: &impl Abort, book: &mut PointBook, mut line: Line<'_>) -> String {
     String::new(line.alloc)
 }
 
-/// Begins a transaction at a connector of a point's book, and checks that it has the given number
-/// there.
+/// In a test, begins a transaction at a connector of a point's book, and checks that it has the
+/// given number there.
 fn begin_at(
     rt: &impl Abort,
     book: &mut PointBook,
@@ -156,7 +156,7 @@ fn begin_at(
     holds(rt, number == Some(next), "its number");
 }
 
-/// Makes the request for a composite schedule in a script's line, for a connector that the point's
+/// Makes the request for a composite schedule in a test's line, for a connector that the point's
 /// book has.
 fn ask_of(rt: &impl Abort, book: &PointBook, line: &mut Line<'_>) -> Ask
     ensures { result.connector ≤ length book.now.ceilings }
@@ -169,8 +169,8 @@ fn ask_of(rt: &impl Abort, book: &PointBook, line: &mut Line<'_>) -> Ask
     ask
 }
 
-/// Checks that this compiler and the plain one, which goes second by second, give a request the
-/// same periods.
+/// Checks that the compiler of schedules and the plain one, which goes second by second, give a
+/// request the same periods.
 fn expect_alike(rt: &impl Abort, book: &PointBook, ask: &Ask, line: Line<'_>) {
     assert!(rt; ask.connector <= book.connectors());
     let plain = compile_plain(line.alloc, &book.view(), ask).expect(rt, line.whole);
@@ -178,8 +178,8 @@ fn expect_alike(rt: &impl Abort, book: &PointBook, ask: &Ask, line: Line<'_>) {
     holds(rt, schedule.periods() == plain.periods(), line.whole);
 }
 
-/// Compiles a request's schedule, and returns its number of periods, or its refusal, and the number
-/// of evaluations of the limit.
+/// Compiles the schedule of a test's request, and returns its number of periods, or its refusal,
+/// and the number of evaluations of the limit.
 fn counts(rt: &impl Abort, book: &PointBook, ask: &Ask, line: Line<'_>) -> String {
     assert!(rt; ask.connector <= book.connectors());
     let mut turns = Turns::new();
@@ -190,7 +190,7 @@ fn counts(rt: &impl Abort, book: &PointBook, ask: &Ask, line: Line<'_>) -> Strin
     said.expect(rt, line.whole)
 }
 
-/// Explains the limits of a request, and returns the number of intervals and the number of
+/// Explains the limits of a test's request, and returns the number of intervals and the number of
 /// evaluations of the limit.
 fn explained(rt: &impl Abort, book: &PointBook, ask: &Ask, line: Line<'_>) -> String {
     assert!(rt; ask.connector <= book.connectors());
@@ -200,8 +200,8 @@ fn explained(rt: &impl Abort, book: &PointBook, ask: &Ask, line: Line<'_>) -> St
     format!(in line.alloc; "{intervals} {}", turns.count()).expect(rt, line.whole)
 }
 
-/// Checks that each interval of a request's explanation has the right reason at its first second
-/// and at its last.
+/// Checks that each interval of an explained schedule has the right reason at its first second and
+/// at its last.
 fn expect_reasons(rt: &impl Abort, book: &PointBook, ask: &Ask, line: Line<'_>) {
     assert!(rt; ask.connector <= book.connectors());
     let explanation = explain(line.alloc, book, ask, &mut Turns::new()).expect(rt, line.whole);
@@ -217,7 +217,7 @@ fn expect_reasons(rt: &impl Abort, book: &PointBook, ask: &Ask, line: Line<'_>) 
     }
 }
 
-/// Checks that an interval of an explanation has, at one of its seconds, the reason that
+/// Checks that an interval of an explained schedule has, at one of its seconds, the reason that
 /// `reason_at` gives for the limit.
 fn expect_reason(
     rt: &impl Abort,

@@ -44,8 +44,8 @@ struct Course {
 }
 
 impl Course {
-    /// Makes a random run of the central system before its first step. Its charge point has an old
-    /// profile, which call 0 is to remove.
+    /// Makes the course of a random test of the central system, before its first step. Its charge
+    /// point has an old profile, which call 0 is to remove.
     fn new(rt: &impl Abort, alloc: Global) -> Course {
         let mut stores = Vec::new(alloc);
         stores.push(Vec::new(alloc)).ok().expect(rt, "error");
@@ -66,13 +66,13 @@ impl Course {
         }
     }
 
-    /// Returns a random number of a transaction or a request, less than `reach` below the last one
-    /// of the run.
+    /// Draws a transaction's or a request's number for a random test of the central system, less
+    /// than `reach` below the last one.
     fn near(&mut self, last: u64, reach: u8) -> u64 {
         last.saturating_sub(u64::from(self.random.below(reach)))
     }
 
-    /// Draws whether the charge point of a random run loses the call that was sent, as one in six
+    /// Draws whether the charge point of a random test loses the call that was sent, as one in six
     /// is, and counts the losses.
     fn is_lost(&mut self) -> bool {
         let is_lost = self.random.below(6) == 0;
@@ -80,7 +80,7 @@ impl Course {
         is_lost
     }
 
-    /// Returns the words of a random step of the central system, such as `CP1 attach`.
+    /// Returns the words of a random step of the central system in a test, such as `CP1 attach`.
     fn words(&mut self, rt: &impl Abort, alloc: Global, machine: &Machine) -> String {
         let point = match self.random.below(16) {
             0 => "CP9",
@@ -99,8 +99,8 @@ impl Course {
         words.expect(rt, "error")
     }
 
-    /// Returns the words of a random install of a charging profile, or of a clear by an id, a
-    /// connector, a level, or nothing.
+    /// Returns the words of a random test's step that installs a profile, or clears by an id, a
+    /// connector and purpose, a level, or nothing.
     fn change(&mut self, alloc: Global, point: &str) -> Written {
         let (id, connector) = (self.random.below(4), self.random.below(3));
         let (level, limit) = (self.random.below(3), self.random.below(100));
@@ -120,7 +120,8 @@ impl Course {
         }
     }
 
-    /// Returns the words of a random start or stop of a transaction at a charge point.
+    /// Returns the words of a random test's step that starts or stops a transaction at a charge
+    /// point.
     fn transact(&mut self, alloc: Global, point: &str) -> Written {
         let connector = self.random.below(4);
         let transaction = self.near(self.transaction, 2);
@@ -130,8 +131,8 @@ impl Course {
         }
     }
 
-    /// Returns the words of a random audit of a connector's schedule at a charge point, or of a
-    /// request of the point's status.
+    /// Returns the words of a random test's step that audits a point's connector by
+    /// GetCompositeSchedule, or requests the point's status.
     fn audit(&mut self, alloc: Global, point: &str) -> Written {
         let connector = self.random.below(4);
         let duration = self.random.below(16);
@@ -141,8 +142,8 @@ impl Course {
         }
     }
 
-    /// Returns the words by which a random request for a composite schedule is compiled or
-    /// answered.
+    /// Returns the words of a random test's step that compiles or answers a request for a composite
+    /// schedule.
     fn request(&mut self, alloc: Global) -> Written {
         let number = self.near(self.request, 80);
         match self.random.below(2) {
@@ -151,8 +152,8 @@ impl Course {
         }
     }
 
-    /// Returns the words by which a call is sent or confirmed over a point's link or an earlier
-    /// one, or the link is lost. CP1 replies only to calls that it has obeyed.
+    /// Returns the words of a random test's step that sends or confirms a call over a point's
+    /// present or earlier link, or loses the link. CP1 replies only to calls that it has obeyed.
     fn exchange(&mut self, alloc: Global, point: &str, link: u64) -> Written {
         let link = match self.random.below(8) {
             0 => link.saturating_sub(1),
@@ -169,8 +170,8 @@ impl Course {
         }
     }
 
-    /// Records the number of the transaction, request or call that a step of the random run drew,
-    /// for its later steps.
+    /// Records the number of the transaction, request or call that a step of a random test drew,
+    /// for the test's later steps.
     fn note(&mut self, said: Said) {
         let number = said.1.unwrap_or(0);
         match said.0 {
@@ -189,8 +190,8 @@ fn is_one(rt: &impl Abort, said: Said, words: &str) {
     holds(rt, said.0 != Refusal::OutOfMemory.name(), words);
 }
 
-/// Makes a step of the random run on the machine and the book, checks that their outcomes are
-/// equal, and records it.
+/// Makes a step of a random test on the central system's machine and its book, checks that their
+/// outcomes are equal, and records it.
 fn made<C: Ledger, A: Ledger>(
     rt: &impl Abort,
     sides: &mut Sides<C, A>,
@@ -209,7 +210,8 @@ fn made<C: Ledger, A: Ledger>(
     said
 }
 
-/// Returns the charging profiles of CP1, the first point, in the machine of a random run.
+/// Returns the charging profiles installed at CP1, the first point, in the central system's machine
+/// of a random test.
 fn rows_of<C: Ledger, A: Ledger>(sides: &Sides<C, A>) -> &[Row] {
     match sides.machine.book_of("CP1") {
         Some(book) => book.view().rows,
@@ -217,8 +219,8 @@ fn rows_of<C: Ledger, A: Ledger>(sides: &Sides<C, A>) -> &[Row] {
     }
 }
 
-/// Records the outcome of a step of CP1: a further call, a call obeyed or confirmed, or a link
-/// without replies to earlier calls.
+/// Records the outcome of CP1's step in a random test: a further call, one obeyed or confirmed, or
+/// a link without replies to earlier calls.
 fn noted_at_point<C: Ledger, A: Ledger>(
     rt: &impl Abort,
     sides: &Sides<C, A>,
@@ -238,8 +240,8 @@ fn noted_at_point<C: Ledger, A: Ledger>(
     }
 }
 
-/// Makes the charge point of a random run obey the call that was sent last, unless the call is
-/// lost.
+/// Makes the charge point of a random test obey the call that the central system sent last, unless
+/// the call is lost.
 fn obeyed<C: Ledger, A: Ledger>(rt: &impl Abort, sides: &Sides<C, A>, course: &mut Course) {
     if let Some(call) = &sides.sent {
         if !course.is_lost() {
@@ -249,16 +251,16 @@ fn obeyed<C: Ledger, A: Ledger>(rt: &impl Abort, sides: &Sides<C, A>, course: &m
     }
 }
 
-/// Checks the promise that an obeying point stays in step: it has the profiles that the store had
-/// after the confirmed call's change.
+/// Checks in a random test that an obeying point stays in step: it has the central system's
+/// profiles after the confirmed call's change.
 fn confirmed(rt: &impl Abort, course: &mut Course) {
     let call = course.obeyed.take().expect(rt, "no call");
     let store = course.stores.get(call as usize).expect(rt, "no such call");
     holds(rt, store.as_slice() == course.point.as_slice(), "in step");
 }
 
-/// Sometimes judges a reply of CP1 to its last audit, and checks that the machine and the book both
-/// keep the verdict.
+/// Sometimes judges a reply of CP1 to its last audit, a GetCompositeSchedule, in a random test.
+/// Checks that the machine and the book both keep the verdict.
 fn random_judging<C: Ledger, A: Ledger>(
     rt: &impl Abort,
     sides: &mut Sides<C, A>,
@@ -279,8 +281,8 @@ fn random_judging<C: Ledger, A: Ledger>(
     course.verdicts = course.verdicts.saturating_add(1);
 }
 
-/// Makes a random step of the central system on the machine and the book, and sometimes judges an
-/// audit after it.
+/// Makes a step of a random test on the central system's machine and book, and sometimes judges a
+/// reply to an audit after it.
 fn random_step<C: Ledger, A: Ledger>(
     rt: &impl Abort,
     sides: &mut Sides<C, A>,
@@ -291,8 +293,8 @@ fn random_step<C: Ledger, A: Ledger>(
     random_judging(rt, sides, course);
 }
 
-/// Sends the next call to CP1 over a new link. The point obeys and confirms the call, unless it is
-/// lost.
+/// At the end of a random test, sends the next call to CP1 over a new link. The point obeys and
+/// confirms the call, unless it is lost.
 fn confirm_next<C: Ledger, A: Ledger>(
     rt: &impl Abort,
     sides: &mut Sides<C, A>,
@@ -309,14 +311,14 @@ fn confirm_next<C: Ledger, A: Ledger>(
     made(rt, sides, course, words.as_str());
 }
 
-/// Makes the step of an event that the book stored on a copy of the book's base, and checks that it
-/// isn't refused.
+/// Makes the step of an event stored by a random test's book on a copy of the book's base, and
+/// checks that it isn't refused.
 fn make_again(rt: &impl Abort, machine: &mut Machine, event: &StoredEvent) {
     holds(rt, machine.make(event.step()).is_ok(), "a stored event");
 }
 
-/// Checks that the events that a book stores lead from its base to the present state of the central
-/// system.
+/// Checks at the end of a random test that a book's stored events lead from its base to the present
+/// state of the central system.
 fn replay<C: Ledger, A: Ledger>(rt: &impl Abort, sides: &mut Sides<C, A>) {
     let mut machine = sides.book.base().copy().expect(rt, "error");
     for event in sides.book.events() {
@@ -326,8 +328,8 @@ fn replay<C: Ledger, A: Ledger>(rt: &impl Abort, sides: &mut Sides<C, A>) {
     holds(rt, sides.is_one(), "replayed");
 }
 
-/// Makes 60,000 random steps on the machine and the book, sends the calls that still wait, ends
-/// both, and replays all events.
+/// Makes 60,000 random steps on the central system's machine and book, sends the calls that still
+/// wait, ends both, and replays all events.
 fn run_sides<C: Ledger, A: Ledger>(rt: &impl Abort, sides: &mut Sides<C, A>, course: &mut Course) {
     // From the first request on there is an answer to post.
     made(rt, sides, course, "CP1 take 1 0 60");
@@ -349,7 +351,8 @@ fn run_sides<C: Ledger, A: Ledger>(rt: &impl Abort, sides: &mut Sides<C, A>, cou
     replay(rt, sides);
 }
 
-/// Makes a machine and a book of the test's site, and makes the same random steps on both.
+/// Makes a machine and a book of the central system from the test's site, and makes the same random
+/// steps on both.
 fn run_both<C: Ledger, A: Ledger>(rt: &impl Abort, alloc: Global, changes: Blank, answers: Blank)
     requires changes { (changes.name ≡ C.name) × (changes.parts ≡ C.parts) × (changes.parts ≡ 1) }
     requires answers { (answers.name ≡ A.name) × (answers.parts ≡ A.parts) × (answers.parts ≡ 1) }
@@ -359,8 +362,8 @@ fn run_both<C: Ledger, A: Ledger>(rt: &impl Abort, alloc: Global, changes: Blank
     run_sides(rt, &mut sides.expect(rt, "error"), &mut course);
 }
 
-/// Makes random steps on a machine and on a book whose ledgers of changes and answers are of this
-/// run alone.
+/// Makes a test's random steps on a machine and on a book, whose ledgers of changes and answers are
+/// of this run alone.
 fn run_beside(rt: &impl Abort, alloc: Global) {
     run_both::<Brand, Brand>(rt, alloc, Blank::new(1), Blank::new(1));
 }

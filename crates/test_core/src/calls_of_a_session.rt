@@ -66,8 +66,8 @@ fn transactions<C: Ledger, A: Ledger>(rt: &impl Abort, desk: &mut Desk<C, A>) {
     same(rt, desk.book.version(), 4, "version");
 }
 
-/// Checks the calls of a session on a book by which a point is audited, the verdict kept, and the
-/// status read. The audit is call 3.
+/// Checks the calls of a session on a book by which a point is audited by GetCompositeSchedule, the
+/// verdict kept, and the status read. The audit is call 3.
 fn audits<C: Ledger, A: Ledger>(rt: &impl Abort, desk: &mut Desk<C, A>) {
     let call = desk
         .book

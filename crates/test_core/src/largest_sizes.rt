@@ -32,8 +32,8 @@ fn identities_are_copied(rt: HostRuntime) {
     }
 }
 
-/// Checks that the last step of a run attached a link of CP1 whose number is the count of the run's
-/// outcomes.
+/// Checks that the last step of a run of the central system's machine attached a link of CP1,
+/// numbered by the count of outcomes.
 fn is_last_link(rt: &impl Abort, outcomes: &[Outcome]) {
     let said = match outcomes.last() {
         Some(Outcome::Done(reply)) => said_of(reply),
@@ -59,8 +59,8 @@ fn a_run_has_1000_steps(rt: HostRuntime) {
     is_last_link(&rt, outcomes.as_slice());
 }
 
-/// Installs charging profiles of 200 periods at CP1, with the ids from 0 on, each of which adds a
-/// call to its outbox.
+/// In the test of a full outbox: installs charging profiles of 200 periods at CP1, with the ids
+/// from 0 on. Each adds a call to CP1's outbox.
 fn install_all(rt: &impl Abort, alloc: Global, machine: &mut Machine, count: u32) {
     for id in 0..count {
         let words = format!(in alloc; "CP1 install id={id} connector=1 turns=60").expect(
@@ -71,8 +71,8 @@ fn install_all(rt: &impl Abort, alloc: Global, machine: &mut Machine, count: u32
     }
 }
 
-/// Checks that the next call sent to CP1 sets the charging profile of an id, and confirms that
-/// call.
+/// In the test of a full outbox: checks that CP1's next call sets the charging profile of an id,
+/// and confirms that call.
 fn confirm_next(rt: &impl Abort, alloc: Global, machine: &mut Machine, id: u32, call: u64) {
     let sent = match machine.make(&step(rt, alloc, "CP1 send 1")) {
         Ok(Reply::Sent(sent)) => sent,
@@ -123,21 +123,23 @@ fn a_point_confirms_1280_calls(rt: HostRuntime) {
 /// An identity of the greatest length, of the last of the most points.
 const LAST_POINT: &str = "000000000000000000000000000000000000000000000999";
 
-/// Makes a step of words at `LAST_POINT` of the largest site, and returns the name of its outcome.
+/// In the test of the largest site: makes the step of these words on the machine, at the last
+/// point, and returns the outcome's name.
 fn make(rt: &impl Abort, alloc: Global, machine: &mut Machine, words: &str) -> &'static str {
     let line = format!(in alloc; "{LAST_POINT} {words}").expect(rt, "error");
     comes_to(machine, &step(rt, alloc, line.as_str())).0
 }
 
-/// Starts a transaction with the longest idTag at a connector of the largest site's last point.
+/// In the test of the largest site: starts a transaction with the longest idTag at a connector of
+/// the last point.
 fn start(rt: &impl Abort, alloc: Global, machine: &mut Machine, connector: u32) {
     let words = format!(in alloc; "start {LONGEST_TAG} {connector} 0").expect(rt, "error");
     let said = make(rt, alloc, machine, words.as_str());
     same_text(rt, said, "Started", "a start");
 }
 
-/// Installs a charging profile of 200 periods at the largest site's last point. Its id gives the
-/// connector and the stack level.
+/// In the test of the largest site: installs a charging profile of 200 periods at the last point.
+/// Its id gives the connector and the stack level.
 fn install_level(rt: &impl Abort, alloc: Global, machine: &mut Machine, id: u32) {
     let (connector, level) = (id / 100, id % 100);
     let words = format!(in alloc; "install id={id} connector={connector} level={level} turns=60");
@@ -145,8 +147,8 @@ fn install_level(rt: &impl Abort, alloc: Global, machine: &mut Machine, id: u32)
     same_text(rt, said, "Accepted", "an install");
 }
 
-/// Checks that a connector's composite schedule over 200 minutes at the last point has 200 periods,
-/// the first three with these limits.
+/// Checks that a connector's composite schedule over 200 minutes at the largest site's last point
+/// has 200 periods, the first three with these limits.
 fn expect_minutes(
     rt: &impl Abort,
     alloc: Global,
@@ -180,9 +182,9 @@ fn expect_periods(rt: &impl Abort, schedule: &Composite, limits: [u32; 3]) {
     }
 }
 
-/// 1,000 points with 64 connectors each. The last point has a transaction at each of them and 200
-/// profiles of 200 periods, half of them at connector 1. The highest level counts: 6 A and 10 A in
-/// turn, a minute each, at each connector.
+/// Checks the central system's machine with 1,000 points of 64 connectors each. The last point has
+/// a transaction at each of them and 200 profiles of 200 periods, half of them at connector 1. The
+/// highest level counts: 6 A and 10 A in turn, a minute each, at each connector.
 #[test]
 fn a_point_has_the_most_of_all(rt: HostRuntime) {
     let text = site_text(rt.alloc(), 1_000, 64, 48).expect(&rt, "error");

@@ -43,8 +43,8 @@ const FIRST: Numbers = Numbers {
     link: 0,
 };
 
-/// Checks the outcomes of a test's lines on a machine whose last versions, requests, transactions
-/// and links had these numbers.
+/// Checks the outcomes of a test's lines on a machine of the central system whose last versions,
+/// requests, transactions and links had these numbers.
 fn run_at(rt: &impl Abort, alloc: Global, numbers: Numbers, lines: &str)
     requires { AreNumbers numbers }
 {

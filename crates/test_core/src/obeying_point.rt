@@ -11,8 +11,8 @@ pub(crate) struct RandomNumbers {
 }
 
 impl RandomNumbers {
-    /// Returns a pseudorandom number below `limit`, or 0 if there is none, from which a test's
-    /// steps are drawn.
+    /// Returns a pseudorandom number below `limit`, or 0 if there is none, from which the steps of
+    /// the central system's random test are drawn.
     pub(crate) fn below(&mut self, limit: u8) -> u8 {
         let product = self.state.wrapping_mul(1_664_525);
         self.state = product.wrapping_add(1_013_904_223);
@@ -52,8 +52,8 @@ impl Keys {
         }
     }
 
-    /// Whether a charge point removes the profile of these keys when it clears by criteria (OCPP
-    /// 1.6, 5.5).
+    /// Whether the obeying charge point of a test removes the profile of these keys when it clears
+    /// by criteria (OCPP 1.6, 5.5).
     fn is_cleared(self, criteria: &Criteria) -> bool {
         criteria.id.unwrap_or(self.id) == self.id
             && criteria.connector.unwrap_or(self.connector) == self.connector
@@ -61,8 +61,8 @@ impl Keys {
             && criteria.stack_level.unwrap_or(self.level) == self.level
     }
 
-    /// Whether a charge point replaces the profile of these keys when it gets a profile of new ones
-    /// (OCPP 1.6, 5.16).
+    /// Whether the obeying charge point of a test replaces the profile of these keys when it gets a
+    /// profile of new ones (OCPP 1.6, 5.16).
     fn is_replaced(self, new: Keys) -> bool {
         self.id == new.id
             || self.connector == new.connector
@@ -71,8 +71,8 @@ impl Keys {
     }
 }
 
-/// Changes a charge point's profiles as a call of the central system says. TxProfiles aren't kept
-/// here, since they end with their transactions.
+/// Changes the profiles of a test's obeying charge point as a call of the central system says.
+/// TxProfiles aren't kept here, since they end with their transactions.
 pub(crate) fn obey(rows: &mut Vec<Keys>, body: &CallBody) -> Result<(), AllocError> {
     match body {
         CallBody::Clear(criteria) => {
@@ -89,7 +89,7 @@ pub(crate) fn obey(rows: &mut Vec<Keys>, body: &CallBody) -> Result<(), AllocErr
 }
 
 /// Returns the keys of the central system's profiles for a point that outlast transactions, to
-/// compare with those of the obeying point.
+/// compare with those of a test's obeying point.
 pub(crate) fn lasting(alloc: Global, rows: &[Row]) -> Result<Vec<Keys>, AllocError> {
     let mut kept = Vec::new(alloc);
     for row in rows {
@@ -98,8 +98,8 @@ pub(crate) fn lasting(alloc: Global, rows: &[Row]) -> Result<Vec<Keys>, AllocErr
     Ok(kept)
 }
 
-/// Appends the keys of a charging profile to those of a point, unless it is a TxProfile, which ends
-/// with its transaction.
+/// In a random test, appends a charging profile's keys to those of a point, unless it is a
+/// TxProfile, which ends with its transaction.
 fn push_lasting(rows: &mut Vec<Keys>, new: Keys) -> Result<(), AllocError> {
     if new.purpose != Purpose::TxProfile {
         rows.push(new)?;

@@ -37,7 +37,8 @@ pub(crate) fn step(rt: &impl Abort, alloc: Global, words: &str) -> Step {
     step_of(alloc, words).expect(rt, "error")
 }
 
-/// Makes a step of the central system on a machine, and returns its outcome in words.
+/// In the tests of `site_core`: makes a step of the central system on a machine, and returns its
+/// outcome in words.
 pub(crate) fn comes_to(machine: &mut Machine, step: &Step) -> Said {
     match machine.make(step) {
         Ok(reply) => said_of(&reply),

@@ -91,8 +91,8 @@ CP1 audit 1 60 = Audited 2";
 
 // ---- prepared steps, before memory is refused
 
-/// Prepares a line's step that judges an audit, from an equal audit at another machine that makes
-/// the steps of `lines`.
+/// Prepares a line's step that judges a reply to an audit, for a test of refused memory. An equal
+/// audit comes from another machine, which makes the steps of `lines`.
 fn verdict(rt: &impl Abort, alloc: Global, lines: &str, words: &str) -> Step {
     let mut machine = opening(rt, alloc);
     run(rt, alloc, &mut machine, lines);
@@ -134,8 +134,8 @@ fn prepared_steps(rt: &impl Abort, alloc: Global, lines: &str) -> Vec<Step> {
 
 // ---- steps made again
 
-/// Returns the version, the open requests, and CP1's calls and link in a machine, which a refused
-/// step leaves unchanged.
+/// For a test of refused memory: returns a machine's version, open requests, and CP1's calls and
+/// link, which a refused step leaves unchanged.
 fn read_machine(machine: &Machine) -> (u64, usize, usize, Option<u64>) {
     let calls = machine.outbox_len("CP1");
     (
@@ -146,15 +146,15 @@ fn read_machine(machine: &Machine) -> (u64, usize, usize, Option<u64>) {
     )
 }
 
-/// Returns the number of a book's stored events and the counts of the book and its pass, which a
-/// refused call leaves unchanged.
+/// Returns the number of a book's stored events and the counts of the book and its pass. In a test,
+/// a call to which memory is refused leaves them unchanged.
 fn read_book<C: Ledger, A: Ledger>(sides: &Sides<C, A>) -> (usize, Totals, (Totals, u64)) {
     let pass = (sides.pass.totals(), sides.pass.seen());
     (sides.book.stored(), sides.book.totals(), pass)
 }
 
-/// Makes a step of the central system on the machine, and returns its outcome. If memory was
-/// refused to it, it changed nothing and is made again.
+/// Makes a test's step on the central system's machine, and returns its outcome. If memory was
+/// refused to the step, it changed nothing and is made again.
 fn on_machine<C: Ledger, A: Ledger>(rt: &impl Abort, sides: &mut Sides<C, A>, step: &Step) -> Said {
     let before = read_machine(&sides.machine);
     match sides.on_machine(step) {
@@ -170,8 +170,8 @@ fn on_machine<C: Ledger, A: Ledger>(rt: &impl Abort, sides: &mut Sides<C, A>, st
     }
 }
 
-/// Makes a session's call on the book, and returns its outcome. If memory was refused to it, it
-/// changed nothing and is made again.
+/// Makes a session's call on the book of a test, and returns its outcome. If memory was refused to
+/// the call, it changed nothing and is made again.
 fn on_book<C: Ledger, A: Ledger>(rt: &impl Abort, sides: &mut Sides<C, A>, step: Step) -> Said {
     let state = read_machine(sides.book.present());
     let before = read_book(sides);
@@ -205,8 +205,8 @@ fn check_outcome(rt: &impl Abort, said: Said, line: &str) {
     }
 }
 
-/// Makes a line's step on the machine and on the book while memory may be refused, and checks both
-/// outcomes.
+/// Makes the step of a test's line on the central system's machine and book while memory may be
+/// refused, and checks both outcomes.
 fn play_step<C: Ledger, A: Ledger>(
     rt: &impl Abort,
     sides: &mut Sides<C, A>,
@@ -217,8 +217,8 @@ fn play_step<C: Ledger, A: Ledger>(
     check_outcome(rt, on_book(rt, sides, step), line);
 }
 
-/// Makes the steps of lines on the machine and the book while memory may be refused. Checks that in
-/// the end each request has its answer.
+/// Makes the steps of a test's lines on the machine and the book while memory may be refused.
+/// Checks that in the end each request for a schedule has its answer.
 fn play_lines<C: Ledger, A: Ledger>(rt: &impl Abort, sides: &mut Sides<C, A>, lines: &str) {
     let steps = prepared_steps(rt, sides.alloc, lines);
     for (step, line) in steps.into_iter().zip(lines.lines()) {
@@ -276,8 +276,8 @@ fn a_held_request(rt: HostRuntime) {
     tell(&rt, rt.alloc(), Story::Lines(OF_A_HELD_REQUEST));
 }
 
-/// Checks that an audit of a charge point is sent, confirmed and judged as expected, whichever
-/// allocation is refused.
+/// Checks that an audit of a charge point by GetCompositeSchedule is sent, confirmed and judged as
+/// expected, whichever allocation is refused.
 #[test]
 fn an_audit(rt: HostRuntime) {
     tell(&rt, rt.alloc(), Story::Lines(OF_AN_AUDIT));
@@ -302,7 +302,8 @@ fn call<C: Ledger, A: Ledger>(rt: &impl Abort, sides: &mut Sides<C, A>, line: &s
     }
 }
 
-/// Attaches a link of CP2 on the book, which adds one event to those that a later step folds.
+/// In a test of folds: attaches a link of CP2 on the book, which adds one event to those that a
+/// later step folds.
 fn attach<C: Ledger, A: Ledger>(rt: &impl Abort, sides: &mut Sides<C, A>) {
     let attach = step(rt, sides.alloc, "CP2 attach");
     if let Err(refused) = sides.on_book(attach) {
@@ -310,8 +311,8 @@ fn attach<C: Ledger, A: Ledger>(rt: &impl Abort, sides: &mut Sides<C, A>) {
     }
 }
 
-/// Makes the step of a line on the book, which folds its 3,900 stored events, and then a Take,
-/// while memory may be refused.
+/// Makes the step of a test's line on the book, which folds its 3,900 stored events, and then a
+/// Take, while memory may be refused.
 fn fold<C: Ledger, A: Ledger>(rt: &impl Abort, sides: &mut Sides<C, A>, before: &str, line: &str) {
     for line in before.lines() {
         call(rt, sides, line);
@@ -382,8 +383,8 @@ CP1 take 1 0 60 = Taken 2
 CP1 take 1 0 60 = Taken 3
 CP1 take 1 0 60 = Taken 4";
 
-/// Runs steps on a machine of the central system, and returns their outcomes. If memory is refused
-/// to the run, none was made, and all are run again.
+/// Runs a test's steps on a machine of the central system, and returns their outcomes. If memory is
+/// refused to the run, none was made, and all are run again.
 fn run_again(rt: &impl Abort, machine: &mut Machine, steps: Vec<Step>) -> Vec<Outcome> {
     let count = steps.len();
     match machine.run(steps) {
@@ -401,8 +402,8 @@ fn run_again(rt: &impl Abort, machine: &mut Machine, steps: Vec<Step>) -> Vec<Ou
     }
 }
 
-/// Returns the outcome of one of a run's four Takes, which request schedules. If memory was refused
-/// to it, the other three are made, and it is made now.
+/// In a test of refused memory: returns the outcome of one of a run's four Takes, which request
+/// schedules. If it was refused memory, the other three are made, and it is made now.
 fn take_said(rt: &impl Abort, machine: &mut Machine, outcome: Outcome) -> Said {
     match outcome {
         Outcome::Done(reply) => said_of(&reply),
@@ -450,8 +451,9 @@ CP1 stop 2 = NoSuch
 CP1 send 1 = Nothing
 CP1 status = None 1000";
 
-/// A step that adds no event needs no memory: it has its reply while allocations are refused, as
-/// `tests/program.py` does from each one on. A Take needs some, and shows that it was refused.
+/// Checks that a step of the central system that adds no event needs no memory. It has its reply
+/// while `tests/program.py` refuses all allocations from each one on. A Take needs some, and shows
+/// that it was refused.
 #[test]
 fn a_step_without_an_event_wants_none(rt: HostRuntime) {
     let mut machine = opening(&rt, rt.alloc());
@@ -467,17 +469,17 @@ fn a_step_without_an_event_wants_none(rt: HostRuntime) {
     holds(&rt, is_taken, taken.0);
 }
 
-/// Checks the answer to a request that was compiled with all allocations refused from one on: its
-/// limit, or OutOfMemory. `spare` is an allocation before it: if that failed, the answer is
-/// OutOfMemory.
+/// Checks the answer to a schedule's request that was compiled with all allocations refused from
+/// one on: its limit, or OutOfMemory. `spare` is an allocation before it: if that failed, the
+/// answer is OutOfMemory.
 fn answered(rt: &impl Abort, spare: &Option<PointId>, said: Said) {
     let is_short = said == ("OutOfMemory", Some(1));
     let is_schedule = spare.is_some() && said == ("limit", Some(100));
     holds(rt, is_short || is_schedule, said.0);
 }
 
-/// Checks that a request is compiled and answered, maybe by OutOfMemory, while `tests/program.py`
-/// refuses all allocations from each one on.
+/// Checks that a request for a schedule is compiled and answered, maybe by OutOfMemory, while
+/// `tests/program.py` refuses all allocations from each one on.
 #[test]
 fn a_compiling_without_memory(rt: HostRuntime) {
     let mut machine = opening(&rt, rt.alloc());

@@ -7,7 +7,8 @@ use profile::Purpose;
 use std::alloc::Global;
 use std::process::Abort;
 
-/// Returns the lines of 100 profiles of 200 periods each day, for a test of `explain`'s picture.
+/// Returns the lines that describe 100 daily profiles of 200 periods each, for a test of
+/// `explain`'s picture.
 fn hundred_rows(rt: &impl Abort, alloc: Global) -> String {
     let mut lines = String::new(alloc);
     for level in 0..100 {
@@ -35,8 +36,8 @@ fn a_hundred_profiles(rt: HostRuntime) {
     expect(&rt, picture.as_str(), ">Tue 2025-01-07</text>\n>V3</text>");
 }
 
-/// Checks that pictures and pages of `explain` for a request whose every second is an interval say
-/// where they end.
+/// Checks that `explain`'s HTML page of too many intervals says where its picture ends, and how
+/// many intervals its table leaves out.
 #[test]
 fn too_many_intervals(rt: HostRuntime) {
     let alloc = rt.alloc();

@@ -39,8 +39,8 @@ const UNCOUNTED: &str = "\
 1 none | id=1 kind=Recurring recurrency=Daily start=0 duration=0; id=2 level=1 kind=Recurring recurrency=Weekly start=0 periods=90000:160 | PastDuration BeforeFirstPeriod
 1 none | id=1 level=1 start=0 from=7200; id=2 start=0 duration=3600 | NotLeast NotLeast";
 
-/// Checks that each profile that never sets the limit has the reason found by hand in `explain`'s
-/// JSON.
+/// Checks that `explain`'s JSON gives the reason found by hand for each profile that never sets the
+/// limit.
 #[test]
 fn each_row_has_its_reason(rt: HostRuntime) {
     for line in UNCOUNTED.lines() {
@@ -48,8 +48,8 @@ fn each_row_has_its_reason(rt: HostRuntime) {
     }
 }
 
-/// Checks the reasons why the profiles of a line of `UNCOUNTED` never set the limit, against those
-/// in the line.
+/// Checks that `explain`'s JSON gives the reasons in a line of `UNCOUNTED` for the line's profiles,
+/// which never set the limit.
 fn expect_reasons(rt: &impl Abort, alloc: Global, line: &str) {
     let (asked, rest) = line.split_once(" | ").expect(rt, line);
     let (rows, reasons) = rest.split_once(" | ").expect(rt, line);
@@ -61,7 +61,8 @@ fn expect_reasons(rt: &impl Abort, alloc: Global, line: &str) {
     same(rt, names.as_str(), reasons);
 }
 
-/// Returns `explain`'s JSON of a request in which the profiles of the rows set no limit.
+/// Returns `explain`'s JSON of a request in which the profiles of the rows set no limit, for tests
+/// of the reasons in it.
 fn uncounted(
     rt: &impl Abort,
     alloc: Global,
@@ -82,7 +83,8 @@ fn uncounted(
     write_json(alloc, &explained).expect(rt, rows)
 }
 
-/// Returns the names of the reasons in `explain`'s JSON, separated by blanks.
+/// Returns the names of the reasons in `explain`'s JSON, separated by blanks, to compare them in a
+/// test with those found by hand.
 fn names_of(rt: &impl Abort, alloc: Global, json: &str) -> String {
     let mut names = String::new(alloc);
     for piece in json.split("\"reason\":\"").skip(1) {

@@ -16,8 +16,9 @@ pub(crate) struct Point {
     starts: [Option<Instant>; 2],
 }
 
-/// Returns a charge point with the rows of lines, for tests of `explain`'s pages. It has a
-/// transaction since midnight at `none` of the connectors, the `first`, the `second` or `both`.
+/// Returns a charge point with the profiles that lines describe, for tests of `explain`'s pages. It
+/// has a transaction since midnight at `none` of the connectors, the `first`, the `second` or
+/// `both`.
 pub(crate) fn point_with(rt: &impl Abort, alloc: Global, lines: &str, active: &str) -> Point {
     let midnight = instant_at(0).expect(rt, "error");
     Point {
@@ -36,8 +37,8 @@ fn rows_of(rt: &impl Abort, alloc: Global, lines: &str) -> Vec<Row> {
     rows
 }
 
-/// Returns the starts of the transactions at the two connectors of a test's charge point: at
-/// `none`, the `first`, the `second` or `both`.
+/// Returns the starts of the transactions at `none` of a charge point's two connectors, the
+/// `first`, the `second` or `both`, for tests of `explain`'s pages.
 fn starts_of(start: Instant, active: &str) -> [Option<Instant>; 2] {
     match active {
         "first" => [Some(start), None],
@@ -108,14 +109,16 @@ pub(crate) fn interval(
     }
 }
 
-/// Checks that a page of `explain` contains each line of a wanted text.
+/// Checks in tests of `explain` that its table, picture, page or JSON contains each line of a
+/// wanted text.
 pub(crate) fn expect(rt: &impl Abort, text: &str, wanted: &str) {
     for line in wanted.lines() {
         assert!(rt; text.contains(line), "{line}");
     }
 }
 
-/// Checks that a text of `explain` equals the wanted one.
+/// Checks in tests of `explain` that its table, or the names of the reasons in its JSON, equals the
+/// wanted text.
 pub(crate) fn same(rt: &impl Abort, found: &str, wanted: &str) {
     assert!(rt; found == wanted, "{found}, wanted {wanted}");
 }

@@ -36,27 +36,28 @@ const DAYS: [&str; 10] = [
     PERIODS,
 ];
 
-/// Returns the instant a number of seconds after midnight, on the day of a simulated charge point.
+/// Returns the instant a number of seconds after midnight, on the day of a test of the simulated
+/// charge point.
 pub(crate) fn instant_at(rt: &impl Abort, seconds: u64) -> Instant {
     let second = MIDNIGHT.saturating_add(seconds);
     Instant::try_new(second).expect(rt, "past the calendar")
 }
 
-/// Parses a number in a line of a simulated charge point's day, such as a connector.
+/// Parses a number in a line of a test of the simulated charge point, such as a connector.
 fn number(rt: &impl Abort, word: &str) -> u32 {
     word.parse::<u32>().expect(rt, word)
 }
 
-/// Splits the words of a line of a simulated point's day into three, with a blank between them. The
-/// second may be empty.
+/// Splits the words of a line of a test of the simulated point into three, with a blank between
+/// them. The second may be empty.
 fn three<'a>(rt: &impl Abort, words: &'a str) -> (&'a str, &'a str, &'a str) {
     let (first, rest) = words.split_once(' ').expect(rt, words);
     let (second, third) = rest.split_once(' ').expect(rt, words);
     (first, second, third)
 }
 
-/// Parses a step of a simulated charge point: `start CONNECTOR TAG METER`, `stop CONNECTOR` or
-/// `heartbeat`. The tag has no blank.
+/// Parses a step of a test's simulated charge point: `start CONNECTOR TAG METER`, `stop CONNECTOR`
+/// or `heartbeat`. The tag has no blank.
 fn step_of(rt: &impl Abort, alloc: Global, line: &str) -> SimStep {
     let (step, words) = line.split_once(' ').unwrap_or((line, ""));
     match step {
@@ -77,8 +78,8 @@ fn step_of(rt: &impl Abort, alloc: Global, line: &str) -> SimStep {
     }
 }
 
-/// Makes a simulated charge point of 32.0 A with two connectors of 16.0 A, and its steps, a line
-/// each.
+/// Makes a test's simulated charge point of 32.0 A with two connectors of 16.0 A, and its steps, a
+/// line each.
 pub(crate) fn point_with(rt: &impl Abort, alloc: Global, lines: &str) -> SimPoint {
     let mut steps = Vec::new(alloc);
     for line in lines.lines() {
@@ -91,8 +92,8 @@ pub(crate) fn point_with(rt: &impl Abort, alloc: Global, lines: &str) -> SimPoin
     SimPoint::try_new(alloc, Unit::A, 320, connectors, steps).expect(rt, "error")
 }
 
-/// Returns the SetChargingProfile of a TxDefaultProfile for a simulated point. Its periods of a
-/// second each begin where those of the level below may end, of 1 A and 2 A in turn.
+/// Returns a test's SetChargingProfile of a TxDefaultProfile for the simulated point. Its periods
+/// of a second each begin where those of the level below may end, of 1 A and 2 A in turn.
 fn default_text(
     rt: &impl Abort,
     alloc: Global,
@@ -126,20 +127,21 @@ struct Day {
 }
 
 impl Day {
-    /// Returns the simulated point's answer to a message of the central system, if it has one.
+    /// In a test, returns the simulated point's answer to a message of the central system, if it
+    /// has one.
     fn answered(&mut self, rt: &impl Abort, text: &str) -> Option<String> {
         self.point.on_text(self.now, text).expect(rt, "error")
     }
 
-    /// Installs a TxDefaultProfile at the simulated point, by words such as `1 0 200`, and returns
-    /// the point's answer.
+    /// In a test, installs a TxDefaultProfile at the simulated point, by words such as `1 0 200`,
+    /// and returns the point's answer.
     fn install_default(&mut self, rt: &impl Abort, words: &str) -> Option<String> {
         let (connector, level, periods) = three(rt, words);
         self.install(rt, connector, number(rt, level), periods)
     }
 
-    /// Returns the simulated point's answer to the SetChargingProfile of a TxDefaultProfile at a
-    /// connector and a stack level.
+    /// In a test, returns the simulated point's answer to the SetChargingProfile of a
+    /// TxDefaultProfile at a connector and a stack level.
     fn install(
         &mut self,
         rt: &impl Abort,
@@ -152,8 +154,8 @@ impl Day {
         self.answered(rt, text.as_str())
     }
 
-    /// Installs TxDefaultProfiles at a connector of the simulated point, one at each stack level
-    /// from 0 on. Each is accepted.
+    /// Installs a test's TxDefaultProfiles at a connector of the simulated point, one at each stack
+    /// level from 0 on. Checks that each is accepted.
     fn fill(&mut self, rt: &impl Abort, words: &str) {
         let (connector, levels, periods) = three(rt, words);
         for level in 0..number(rt, levels) {
@@ -163,8 +165,8 @@ impl Day {
         }
     }
 
-    /// Plays the first half of a line of a simulated point's day, and returns the point's call or
-    /// answer, if there is one.
+    /// Plays the first half of a line of a test of the simulated point, and returns the point's
+    /// call or answer, if any.
     fn found(&mut self, rt: &impl Abort, what: &str) -> Option<String> {
         let (word, text) = what.split_once(' ').unwrap_or((what, ""));
         match word {

@@ -40,8 +40,8 @@ struct Failing<S> {
 }
 
 impl<S> Failing<S> {
-    /// Counts a read, write or flush of a simulated point's device, and fails at the one of the
-    /// number `at`.
+    /// Counts a read, write or flush of the device in a test of the simulated point, and fails at
+    /// the one of the number `at`.
     fn count_call(&mut self) -> io::Result<()> {
         let fails = self.calls == self.at;
         self.calls = self.calls.saturating_add(1);
@@ -85,14 +85,14 @@ const POINT: &str = r#"[2,"0","Heartbeat",{}]
 [2,"2","StopTransaction",{"transactionId":7,"timestamp":"2025-01-01T00:00:00Z","meterStop":3}]
 [3,"b",{"status":"Accepted","connectorId":1,"scheduleStart":"2025-01-01T00:00:00Z","chargingSchedule":{"duration":60,"chargingRateUnit":"A","chargingSchedulePeriod":[{"startPeriod":0,"limit":16.0}]}}]"#;
 
-/// Makes a simulated charge point whose steps are a heartbeat, and the start and the stop of a
-/// transaction.
+/// Makes a test's simulated charge point, whose steps are a heartbeat, and the start and the stop
+/// of a transaction.
 fn simulated(rt: &impl Abort, alloc: Global) -> SimPoint {
     point_with(rt, alloc, "heartbeat\nstart 1 a 3\nstop 1")
 }
 
-/// Returns the bytes of the central system's WebSocket that sends a binary message, then these
-/// texts, and then its close if `closes`.
+/// Returns the bytes that a test's central system sends the simulated point: a binary WebSocket
+/// message, these texts, and its close if `closes`.
 fn sent_by_central(rt: &impl Abort, alloc: Global, texts: &str, closes: bool) -> Vec<u8> {
     let stream = Duplex {
         reader: [].as_slice(),
@@ -168,8 +168,8 @@ fn days_at_a_socket(rt: HostRuntime) {
     sends(&rt, alloc, one_step, REMOTE_START, STARTED);
 }
 
-/// Returns how a simulated point ends after these bytes of the central system, with a device that
-/// fails at the call of this number.
+/// In a test, returns how the simulated point ends after these bytes, with a WebSocket's device
+/// that fails at the call of this number.
 fn end_at<R: Abort + Wait>(rt: &R, alloc: Global, bytes: &[u8], at: usize, clock: &Fixed) -> Ended {
     let mut output = Vec::new(alloc);
     let inner = Duplex {

@@ -64,13 +64,13 @@ point|CP1|Basic |401
 point|CP1|Basic Og==|401
 point|CP1||401";
 
-/// Reads the keys of points and operators from the text of a key file.
+/// In the tests of the key file: reads the keys of points and operators from the file's text.
 fn read(rt: &impl Abort, alloc: Global, file: &str) -> Keys {
     Keys::read(alloc, file.as_bytes()).expect(rt, "error")
 }
 
-/// Returns the role in which the client of a row asks for admission by the key file: a point or an
-/// operator.
+/// Returns the role in which the client of a test's line asks for admission by the key file: a
+/// point or an operator.
 fn role_named(word: &str) -> Role {
     if word == "point" {
         Role::Point
@@ -79,8 +79,8 @@ fn role_named(word: &str) -> Role {
     }
 }
 
-/// Checks whom the keys admitted by an HTTP Basic header, or the HTTP status that they refused it
-/// with.
+/// Checks whom the key file's keys admitted by an HTTP Basic header, or the HTTP status that they
+/// refused it with.
 fn check_admission(rt: &impl Abort, admission: &Admission, wanted: &str, case: &str) {
     let said = match admission {
         Admission::Admitted(user) => user.as_str(),
@@ -90,8 +90,8 @@ fn check_admission(rt: &impl Abort, admission: &Admission, wanted: &str, case: &
     same_text(rt, said, wanted, case);
 }
 
-/// Checks the admission of a row's client by the keys of the file, from its role, its identity and
-/// its HTTP Basic header.
+/// Checks the admission of the client of a test's line by the key file, from its role, its identity
+/// and its HTTP Basic header.
 fn play(rt: &impl Abort, alloc: Global, keys: &Keys, row: &str) {
     let mut words = row.split('|');
     let role = role_named(words.next().expect(rt, row));
@@ -104,7 +104,7 @@ fn play(rt: &impl Abort, alloc: Global, keys: &Keys, row: &str) {
     check_admission(rt, &admission, wanted, row);
 }
 
-/// Checks for each row whom the key file admits by an HTTP Basic header, if anyone.
+/// Checks for each line of the test whom the key file admits by an HTTP Basic header, if anyone.
 #[test]
 fn each_comes_as_the_file_says(rt: HostRuntime) {
     let keys = read(&rt, rt.alloc(), FILE);

@@ -7,7 +7,8 @@ use ocppj_frame::{
 };
 use std::process::Abort;
 
-/// Reads a text as an OCPP-J frame, and returns the outcome: `Other`, `Dropped`, or something else.
+/// In the tests of OCPP-J frames: reads a text as a frame, and returns the outcome, `Other`,
+/// `Dropped`, or something else.
 fn outcome(memory: &mut ReadingMemory, text: &str) -> &'static str {
     match read_frame(memory, text) {
         Ok(Frame::Other) => "Other",
@@ -16,7 +17,7 @@ fn outcome(memory: &mut ReadingMemory, text: &str) -> &'static str {
     }
 }
 
-/// Appends a piece a number of times to the text of a long OCPP-J frame.
+/// Appends a piece a number of times to a test's text of a long OCPP-J frame.
 fn push_times(rt: &impl Abort, out: &mut String, piece: &str, times: u32) {
     for _ in 0..times {
         out.push_str(piece).expect(rt, "error");
@@ -44,8 +45,8 @@ fn frames_have_at_most_1048576_bytes(rt: HostRuntime) {
     holds(&rt, is_read, "a byte more as a tree");
 }
 
-/// Reads an OCPP-J CALL, and returns the length of its field `list` and its field `last`; `None` if
-/// memory ran out.
+/// In a test, reads an OCPP-J CALL, and returns the length of its field `list` and its field
+/// `last`; `None` if memory ran out.
 fn parts(memory: &mut ReadingMemory, text: &str) -> Option<(usize, Field<i32>)> {
     match read_frame(memory, text) {
         Ok(Frame::Call { payload, .. }) => {

@@ -111,8 +111,8 @@ pub fn hold_of(
     }
 }
 
-/// Returns whether a message is a CALL of GetCompositeSchedule, the only one that a script's `hold`
-/// line may have.
+/// Returns whether a message is a CALL of GetCompositeSchedule, the only one that a `hold` line of
+/// a script for `replay` may have.
 fn asks_schedule(frame: &Frame<'_>) -> bool
     ensures { result ≡ asks_schedule (Ok (message_in frame.now)) }
 {
@@ -122,15 +122,16 @@ fn asks_schedule(frame: &Frame<'_>) -> bool
     }
 }
 
-/// Returns whether an action is GetCompositeSchedule, the only one that a script's `hold` line may
-/// have.
+/// Returns whether an action is GetCompositeSchedule, the only one that a `hold` line of a script
+/// for `replay` may have.
 fn is_schedule_kind(kind: Option<ActionKind>) -> bool
     ensures { result ≡ is_schedule_kind kind }
 {
     matches!(kind, Some(ActionKind::GetCompositeSchedule))
 }
 
-/// Returns the request of a message: only a CALL is answered, and a reply may confirm a call.
+/// Returns the request that a message makes of the central system: only a CALL is answered, and a
+/// reply may confirm a call.
 fn asked_of_message(
     alloc: Global,
     text: &SentText<'_>,
@@ -166,7 +167,8 @@ fn asked_of_message(
     }
 }
 
-/// Returns the request of a reply with this id: a point's reply confirms the call of that number.
+/// Returns the request that a reply to the central system makes: a point's reply confirms the call
+/// of which it has the number as id.
 fn asked_of_reply(
     alloc: Global,
     text: &SentText<'_>,
@@ -184,8 +186,8 @@ fn asked_of_reply(
     }
 }
 
-/// Returns the confirmation of the point's call of this number, which its reply names, or nothing
-/// without a number.
+/// Returns the confirmation of the call to a point with this number, which the point's reply names,
+/// or nothing without a number.
 fn asked_confirm(
     alloc: Global,
     point: &str,
@@ -216,7 +218,8 @@ fn call_numbered(id: &str) -> Option<u64>
     if id == "0" { Some(0) } else { number_of(id) }
 }
 
-/// Returns the request of the CALL of this id, by the step or the answer that its action leads to.
+/// Returns the request of the CALL of this id to the central system, by the step or the answer that
+/// its action leads to.
 fn asked_with(id: MessageId, kind: ActionKind, wanted: Wanted) -> Asked
     ensures { result ≡ asked_with id kind wanted }
 {
@@ -226,7 +229,8 @@ fn asked_with(id: MessageId, kind: ActionKind, wanted: Wanted) -> Asked
     }
 }
 
-/// Reads the fields of a CALL's action, and returns the step that it requests or its answer.
+/// Reads the fields of a CALL's action, and returns the step of the central system that it
+/// requests, or its answer.
 fn wanted_by_fields(
     alloc: Global,
     text: &SentText<'_>,
@@ -303,8 +307,8 @@ fn step_of_ask(
     }))
 }
 
-/// Returns the step that an operator's AuditPoint with these fields requests: an audit of the
-/// point.
+/// Returns the step that an operator's AuditPoint with these fields requests: an audit of the point
+/// by GetCompositeSchedule.
 fn step_of_audit(
     alloc: Global,
     text: &SentText<'_>,

@@ -26,8 +26,8 @@ pub fn number_of(word: &str) -> Option<u64>
     Some(number)
 }
 
-/// Returns whether the first byte of a request's or call's number is above the digit 0, so that it
-/// has no leading zero or sign.
+/// Returns whether a request's or call's number in a script or message id begins above the digit 0,
+/// without a leading zero or sign.
 fn begins_above_zero(word: &str) -> bool
     ensures { result ≡ begins_above_zero word.now }
 {

@@ -27,8 +27,8 @@ pub fn rejection_in(alloc: Global, frame: &str) -> Result<String, AllocError> {
     }
 }
 
-/// Returns the beginning of a point's reply that rejects a call, of at most `MAX_REJECTION_BYTES`
-/// bytes.
+/// Returns the beginning of a point's reply that rejects a call, the reason if no status was read,
+/// of at most `MAX_REJECTION_BYTES` bytes.
 fn beginning_of(alloc: Global, text: &str) -> Result<String, AllocError> {
     let mut beginning = String::new(alloc);
     for character in text.chars() {

@@ -16,7 +16,8 @@ pub fn is_zone_name(name: &str) -> bool
     has_zone_bytes(name.as_bytes()) && has_zone_parts(name)
 }
 
-/// Returns whether a time zone's name isn't too long, has no empty part, and isn't below `right`.
+/// Returns whether the name of a time zone for `explain` isn't too long, has no empty part, and
+/// isn't below `right`.
 fn has_zone_parts(name: &str) -> bool {
     name.len() <= MAX_NAME_BYTES
         // Those files count leap seconds, which this calendar doesn't have.
@@ -24,15 +25,16 @@ fn has_zone_parts(name: &str) -> bool {
         && name.split('/').all(|part| !part.is_empty())
 }
 
-/// Returns whether each byte of a time zone's name is one that such a name may have.
+/// Returns whether each byte of the name of a time zone for `explain` is one that such a name may
+/// have.
 fn has_zone_bytes(name: &[u8]) -> bool
     ensures { result ≡ list_all is_zone_byte name.now }
 {
     name.iter().all(|byte| is_zone_byte(*byte))
 }
 
-/// Returns whether the name of a time zone may have this byte: a letter, a digit, `_`, `-`, `+` or
-/// `/`.
+/// Returns whether the name of a time zone for `explain` may have this byte: a letter, a digit,
+/// `_`, `-`, `+` or `/`.
 fn is_zone_byte(byte: u8) -> bool
     ensures { result ≡ is_zone_byte byte }
 {

@@ -32,14 +32,14 @@ impl Model for EventRoom {
 }
 
 impl EventRoom {
-    /// Allocates the memory for the events of the central system's stored history.
+    /// Allocates the room for the events of the history that the central system's book keeps.
     pub(crate) fn new(alloc: Global) -> Result<EventRoom, AllocError> {
         Ok(EventRoom {
             events: Vec::with_capacity(alloc, ROOM)?,
         })
     }
 
-    /// Takes the memory of events that an earlier fold of the stored history gave back, or
+    /// Takes the room for the events of the book's history that an earlier fold gave back, or
     /// allocates it.
     pub(crate) fn take(
         given: &mut Option<EventRoom>,
@@ -51,7 +51,7 @@ impl EventRoom {
         }
     }
 
-    /// Returns the memory as an empty list for the events of the stored history.
+    /// Returns the room as an empty list for the events of the book's history.
     pub(crate) fn into_events(self) -> Vec<StoredEvent>
         ensures events { result.items ≡ [] }
         ensures room { room ≤ vec_capacity result }
@@ -81,8 +81,8 @@ impl Model for Folded {
 }
 
 impl Folded {
-    /// Keeps the old base and the events of a folded history, to be dropped without the lock of the
-    /// book.
+    /// Keeps the old base and the events of the book's folded history, to be dropped while the book
+    /// isn't locked.
     pub(crate) fn new(base: Machine, events: Vec<StoredEvent>) -> Folded
         requires { room ≤ vec_capacity events }
     {

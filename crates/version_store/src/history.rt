@@ -164,7 +164,7 @@ impl History {
         }
     }
 
-    /// Gathers the calls to each charge point before a fold of the stored history, so that the new
+    /// Gathers the calls to each charge point before a fold of the book's history, so that the new
     /// base shares them.
     // Calls that were gathered once are shared, so that later folds don't copy them again.
     fn gather_calls(&mut self)
@@ -173,8 +173,8 @@ impl History {
         self.present.gather_calls();
     }
 
-    /// Makes a step of the central system and adds its event to the stored history, which has room
-    /// for it.
+    /// Makes a step of the central system. Adds it to the book's history, which has room for it, if
+    /// it is an event.
     fn make_without_fold(&mut self, step: Step) -> Result<Reply, Refused>
         requires can_fold { may_fold step ≡ true }
         requires few { length self.old.events < fold_from }
@@ -202,7 +202,7 @@ impl History {
         Ok(reply)
     }
 
-    /// Makes a step of the central system that isn't an event, so that it adds none to the stored
+    /// Makes a step of the central system that isn't an event, so that it adds none to the book's
     /// history.
     fn make_non_event(&mut self, step: Step) -> Reply
         requires can_fold { may_fold step ≡ true }
@@ -219,8 +219,8 @@ impl History {
         }
     }
 
-    /// Folds the stored history, so that its base is the present state, makes a step, and adds its
-    /// event.
+    /// Folds the book's history, so that its base is the central system's present state, makes a
+    /// step, and adds its event.
     fn make_folded(&mut self, step: Step) -> Result<Reply, Refused>
         requires can_fold { may_fold step ≡ true }
         requires added { outlook self.old.present step ≡ Ok true }
@@ -319,7 +319,7 @@ impl History {
     }
 }
 
-/// Returns the refusal `OutOfMemory` of a step for which the stored history can't be folded, with
+/// Returns the refusal `OutOfMemory` of a step for which the book's history can't be folded, with
 /// the step.
 fn without_memory(step: Step) -> Refused
     ensures refusal { result.refusal ≡ Refusal.OutOfMemory }

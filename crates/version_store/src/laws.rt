@@ -8,7 +8,7 @@ use site_core::{
     verdicts_stay_right,
 };
 
-/// Brings the laws of the central system's machine into a proof of the stored history that calls
+/// Brings the laws of the central system's steps into a proof about the book's history that calls
 /// it. Does nothing at run time.
 pub(crate) fn machine_laws()
     ensures { Laws }

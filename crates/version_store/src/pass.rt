@@ -33,7 +33,8 @@ impl<C: Ledger, A: Ledger> Model for Pass<C, A> {
 }
 
 impl<C: Ledger, A: Ledger> Pass<C, A> {
-    /// Makes the pass of a session of the central system that has made no call yet.
+    /// Makes the pass of a session to the central system's book, which counts its changes and
+    /// answers: none yet.
     pub(crate) fn new(changed: Share<C>, answered: Share<A>) -> Pass<C, A>
         requires parts { (changed.parts ≡ 1) × (answered.parts ≡ 1) }
         requires amounts { (changed.amount ≡ 0) × (answered.amount ≡ 0) }
@@ -48,7 +49,7 @@ impl<C: Ledger, A: Ledger> Pass<C, A> {
     }
 
     /// Returns the parts of the book's changes and answers that a session's pass has, each with its
-    /// count.
+    /// count, to settle the book.
     pub(crate) fn into_shares(self) -> (Share<C>, Share<A>)
         ensures parts { (result.0.parts ≡ 1) × (result.1.parts ≡ 1) }
         ensures changes { result.0.amount ≡ self.totals.changes }

@@ -80,8 +80,8 @@ impl<N: ListName> Model for RecordedStates<N> {
 }
 
 impl<N: ListName> StateRecorder<N> {
-    /// Makes a recorder of the central system's states that records nothing, for a book without a
-    /// ghost list.
+    /// Makes a recorder of the states of the central system's book that records nothing, for a book
+    /// without a ghost list.
     pub(crate) fn nothing() -> StateRecorder<N>
         requires { N.is_recorded ≡ false }
     {
@@ -91,8 +91,8 @@ impl<N: ListName> StateRecorder<N> {
         }
     }
 
-    /// Makes a recorder of the central system's states, for which a journal accounts, with that of
-    /// a site at its opening.
+    /// Makes the recorder of the book's states, for which the journal must account, with the state
+    /// of a site at its opening.
     pub(crate) fn new(unnamed: Unnamed, site: &Site) -> StateRecorder<N>
         requires name { unnamed.name ≡ N.name }
         requires recorded { N.is_recorded ≡ true }
@@ -106,8 +106,8 @@ impl<N: ListName> StateRecorder<N> {
         }
     }
 
-    /// Records the state of the central system that a change led to, for which its journal must
-    /// account.
+    /// Records the state of the central system's book that a change led to, for which its journal
+    /// must account.
     pub(crate) fn record(&mut self, present: &Machine)
         ensures { IsAt N.is_recorded self.new present.now }
     {
@@ -118,8 +118,8 @@ impl<N: ListName> StateRecorder<N> {
         }
     }
 
-    /// Returns the states of the central system that were recorded by now, for which its journal
-    /// must account.
+    /// Returns the states of the central system's book that were recorded by now, for which its
+    /// journal must account.
     pub(crate) fn recorded(&self) -> RecordedStates<N>
         ensures { result ≡ self.now }
     {

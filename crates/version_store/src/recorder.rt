@@ -12,7 +12,7 @@ use crate::recorded_states::StateRecorder;
 use ghost_list::ListName;
 use site_core::{Refused, Reply, Step};
 
-/// Makes a step of the central system that brings no answer. Records the state after a change, for
+/// Makes a step on the book's history that brings no answer. Records the state after a change, for
 /// which the journal must account.
 pub(crate) fn make_recorded<N: ListName>(
     history: &mut History,

@@ -95,7 +95,8 @@ impl<C: Ledger, A: Ledger, N: ListName> Shared<C, A, N> {
         Ok((shared, passes))
     }
 
-    /// Makes a book of the central system with this many passes, for threads to share.
+    /// Puts the central system's book, which has this many passes, behind a lock for threads to
+    /// share.
     fn of_book(
         alloc: Global,
         book: Book<C, A, N>,

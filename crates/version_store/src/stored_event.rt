@@ -26,7 +26,8 @@ impl Model for StoredEvent {
 }
 
 impl StoredEvent {
-    /// Makes the event of the stored history for a step that brings no answer.
+    /// Makes the event of the book's history for a step that isn't a Compile, so that no compiled
+    /// answer is stored.
     pub(crate) fn alone(step: Step) -> StoredEvent
         ensures { result ≡ event_alone step }
     {
@@ -36,7 +37,7 @@ impl StoredEvent {
         }
     }
 
-    /// Makes the event of the stored history that the request of this number for a composite
+    /// Makes the event of the book's history that the request of this number for a composite
     /// schedule was compiled with this answer.
     pub(crate) fn compiled(number: u64, answer: Result<Composite, Refusal>) -> StoredEvent
         ensures { result ≡ compile_event number answer }

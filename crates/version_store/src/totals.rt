@@ -14,7 +14,7 @@ pub struct Totals {
 }
 
 impl Totals {
-    /// Returns the totals of a book or session before any change or answer.
+    /// Returns the totals of the book or of a session's pass before any change or answer.
     pub(crate) fn none() -> Totals
         ensures { result ≡ no_totals }
     {
@@ -24,8 +24,8 @@ impl Totals {
         }
     }
 
-    /// Returns the numbers of changes made and of answers handed out that one reply of the central
-    /// system counts.
+    /// Returns the numbers of changes made and of answers handed out that the book counts for one
+    /// reply.
     pub(crate) fn of(reply: &Reply) -> Totals
         ensures { result ≡ totals_after no_totals reply.now }
     {
@@ -37,8 +37,8 @@ impl Totals {
         Totals { changes, answers }
     }
 
-    /// Returns the totals of changes made and answers handed out, with those of one more reply of
-    /// the central system.
+    /// Returns these totals of the book or of a session's pass with the changes and answers of one
+    /// more reply.
     pub(crate) fn after(self, reply: &Reply) -> Totals
         requires changes { self.changes + (counted reply.now).changes < 2 ^ 64 }
         requires answers { self.answers + (counted reply.now).answers < 2 ^ 64 }

@@ -85,8 +85,8 @@ impl<'tree, 'memory> Node<'tree, 'memory> {
     }
 }
 
-/// Returns the value of the field of this name in a JSON object of an OCPP payload, whose keys are
-/// marked as texts.
+/// Returns the value of the field of this name in a JSON object, such as an OCPP payload, whose
+/// keys are marked as texts.
 fn find_member<'tree, 'memory>(
     members: &'tree BTreeMap<&'memory str, MarkedValue<'memory>, &'memory Bump>,
     name: &str,
@@ -104,7 +104,8 @@ fn find_member<'tree, 'memory>(
     None
 }
 
-/// Returns whether this marked key, in a JSON object of an OCPP payload, is the name of a field.
+/// Returns whether this marked key, in a JSON object such as an OCPP payload, is the name of a
+/// field.
 fn is_key_of(name: &str, key: &str) -> bool
     ensures { result ≡ is_key_of name.now key.now }
 {

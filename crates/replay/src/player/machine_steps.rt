@@ -57,8 +57,8 @@ pub fn skim_take(
     Ok(outcome)
 }
 
-/// Returns whether the answer to a script's schedule request makes no difference: no other request
-/// is kept, and nothing of the answer is wanted.
+/// Returns whether the answer to a replayed script's schedule request makes no difference: no other
+/// request is kept, and nothing of the answer is wanted.
 fn makes_no_difference(machine: &Machine, take: &Take, wanted: NeededResult) -> bool
     ensures { IsTrue result → MayBeSkimmed machine.now take.now }
 {
@@ -74,8 +74,8 @@ fn makes_no_difference(machine: &Machine, take: &Take, wanted: NeededResult) -> 
     is_unwanted(machine, take.point.as_str(), &ask, wanted)
 }
 
-/// Returns whether nothing of the answer to a script's schedule request is wanted. Its refusal is
-/// known without it if the schedule can't exceed the limit of periods.
+/// Returns whether nothing of the answer to a replayed script's schedule request is wanted. Its
+/// refusal is known without it if the schedule can't exceed the limit of periods.
 fn is_unwanted(machine: &Machine, point: &str, ask: &Ask, wanted: NeededResult) -> bool {
     match (wanted, machine.book_of(point)) {
         (NeededResult::State, _) => true,
@@ -86,8 +86,8 @@ fn is_unwanted(machine: &Machine, point: &str, ask: &Ask, wanted: NeededResult) 
     }
 }
 
-/// Returns a script's request for a schedule, a Take, cut to its first second: quick to compile
-/// when the answer isn't wanted.
+/// Returns a replayed script's request for a schedule, a Take, cut to its first second: quick to
+/// compile when the answer isn't wanted.
 fn first_second(take: Take) -> Take
     ensures { result ≡ record take { duration = 1 } }
 {
@@ -154,8 +154,8 @@ pub fn send_first(
     }
 }
 
-/// Returns the call to a point that a Send of a script's replay with this outcome sent, if it sent
-/// one.
+/// Returns the call to a point that went out in a Send with this outcome in a script's replay, if
+/// one went out.
 fn call_sent(outcome: StepOutcome) -> Option<Call>
     ensures { result ≡ call_sent outcome }
 {
@@ -221,8 +221,8 @@ pub fn keep_verdict(
     Ok(())
 }
 
-/// Makes a step of a script on the central system's machine, and returns its reply or its refusal.
-/// Fails if memory runs out.
+/// Makes a step of a replayed script on the central system's machine, and returns its reply or its
+/// refusal. Fails if memory runs out.
 fn make_step(machine: &mut Machine, step: Step) -> Result<StepOutcome, AllocError>
     ensures { IfOk result (λ outcome. ComesOf machine.old step outcome machine.new) }
 {
@@ -236,7 +236,7 @@ fn make_step(machine: &mut Machine, step: Step) -> Result<StepOutcome, AllocErro
     }
 }
 
-/// Returns whether memory ran out while the schedule of a script's request was compiled.
+/// Returns whether memory ran out while the schedule of a replayed script's request was compiled.
 fn is_memory(outcome: &StepOutcome) -> bool
     ensures { result ≡ is_memory outcome.now }
 {

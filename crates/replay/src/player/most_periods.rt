@@ -15,8 +15,8 @@ pub fn most_periods(view: &View<'_>, ask: &Ask) -> u64 {
     most
 }
 
-/// Returns an upper bound on the changes of the limit that an installed profile makes in a
-/// requested schedule, over all connectors of the request.
+/// Returns an upper bound on the limit's changes that an installed profile makes in a replayed
+/// script's requested schedule, over the request's connectors.
 fn places_of_row(view: &View<'_>, ask: &Ask, row: &Row) -> u64 {
     if row.profile.purpose == Purpose::ChargePointMaxProfile {
         return places_within(&row.profile, row.base(None, ask.start), ask);
@@ -35,8 +35,8 @@ fn places_of_row(view: &View<'_>, ask: &Ask, row: &Row) -> u64 {
     most
 }
 
-/// Returns an upper bound on the changes of the limit that a profile makes after the first second
-/// of a requested schedule.
+/// Returns an upper bound on the limit's changes that a profile makes after the first second of a
+/// replayed script's requested schedule.
 fn places_within(profile: &Profile, base: Instant, ask: &Ask) -> u64 {
     let schedule = &profile.schedule;
     let times = match profile.kind {
@@ -50,8 +50,8 @@ fn places_within(profile: &Profile, base: Instant, ask: &Ask) -> u64 {
     turns.saturating_sub(first).saturating_add(ends)
 }
 
-/// Returns an upper bound on the offsets at which a charging schedule changes: its beginning, the
-/// starts of its periods, and its end.
+/// Returns an upper bound on the offsets at which a charging schedule changes, for a script's
+/// replay: its beginning, its periods' starts and its end.
 fn turn_count(schedule: &Schedule) -> u64 {
     let periods = schedule.periods.as_slice();
     let begins_before = periods.first().is_none_or(|first| first.start > 0);
@@ -60,8 +60,8 @@ fn turn_count(schedule: &Schedule) -> u64 {
         .saturating_add(u64::from(schedule.duration.is_some()))
 }
 
-/// Returns whether the charging schedule of a profile begins, ends or changes its period at an
-/// instant.
+/// Returns whether a profile's schedule begins, ends or changes its period at an instant, to bound
+/// the periods of a replayed script's schedule.
 fn is_turn(profile: &Profile, base: Instant, instant: Instant) -> bool {
     let Some(offset) = profile.offset(base, instant) else {
         return false;

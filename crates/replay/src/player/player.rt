@@ -192,7 +192,8 @@ impl Player {
         }
     }
 
-    /// Judges a message of a script as a point's reply to its audit, and keeps the verdict.
+    /// Judges a message of a replayed script as a point's reply to its audit by
+    /// GetCompositeSchedule, and keeps the verdict.
     fn judge_reply(
         &mut self,
         text: &SentText<'_>,

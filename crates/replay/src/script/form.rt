@@ -54,7 +54,8 @@ pub fn split_words(text: &str) -> Option<ScriptLineWords<'_>>
     })
 }
 
-/// Returns the kind of a script's line that has this second word, `operator`, `point` or `hold`.
+/// Returns the kind of a replayed script's line that has this second word, `operator`, `point` or
+/// `hold`.
 fn word_named(word: &str) -> Option<ScriptWord>
     ensures { result ≡ word_named word.now }
 {
@@ -69,8 +70,8 @@ fn word_named(word: &str) -> Option<ScriptWord>
     }
 }
 
-/// Splits off the first word of a script's line. Returns it and the text after the one space behind
-/// it.
+/// Splits off the first word of a replayed script's line. Returns that word and the text after the
+/// one space behind it.
 fn split_word(text: &str) -> Option<(&str, &str)>
     ensures { option_map (λ parts. (parts.0.now, parts.1.now)) result ≡ word_at text.now }
 {

@@ -32,15 +32,15 @@ impl From<AllocError> for InputFault {
     }
 }
 
-/// Allocates room for the bytes of one read of a script or another input file.
+/// Allocates room for the bytes of one read of a script for `replay` or another input file.
 fn new_piece(alloc: Global) -> Result<Vec<u8>, AllocError>
     ensures { IfOk result (λ piece. vec_len piece ≡ PIECE) }
 {
     vec![in alloc; 0u8; PIECE]
 }
 
-/// Reads once from a script or another input file, and appends the bytes that came. Returns their
-/// number.
+/// Reads once from a script for `replay` or another input file, and appends the bytes that came.
+/// Returns their number.
 fn read_onto<R: Read>(
     reader: &mut R,
     piece: &mut [u8],

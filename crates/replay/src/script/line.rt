@@ -90,7 +90,7 @@ pub fn read_line<'a>(line: &'a [u8], site: &Site) -> Result<ScriptLine<'a>, Scri
     }
 }
 
-/// Reads a line of a script that is UTF-8 and not too long.
+/// Reads a line of a script for `replay` that is UTF-8 and not too long.
 fn read_text<'a>(text: &'a str, site: &Site) -> Result<ScriptLine<'a>, ScriptLineFault>
     ensures { result ≡ line_of_form site.now (form_of text.entry.now) }
 {
@@ -103,7 +103,7 @@ fn read_text<'a>(text: &'a str, site: &Site) -> Result<ScriptLine<'a>, ScriptLin
     }
 }
 
-/// Returns the first word of a script's line, the instant of its message.
+/// Returns the first word of a replayed script's line, the instant of its message.
 fn instant_of<'a>(words: &ScriptLineWords<'a>) -> &'a str
     ensures { result.now ≡ instant_in (words_view words.now) }
 {
@@ -112,8 +112,8 @@ fn instant_of<'a>(words: &ScriptLineWords<'a>) -> &'a str
     }
 }
 
-/// Returns the contents of a script's line whose instant is read, or a fault for a point's line
-/// with an unknown point.
+/// Returns the contents of a replayed script's line whose instant is read, or a fault for a point's
+/// line with an unknown point.
 fn read_words<'a>(
     words: ScriptLineWords<'a>,
     moment: Instant,
@@ -137,7 +137,7 @@ fn read_words<'a>(
     }
 }
 
-/// Returns whether a `point` line of a script names a point that the site lacks.
+/// Returns whether a `point` line of a replayed script names a point that the site lacks.
 fn is_stranger(site: &Site, word: ScriptWord, point: &str) -> bool
     ensures { result ≡ is_stranger site.now word point.now }
 {
@@ -148,8 +148,8 @@ fn is_stranger(site: &Site, word: ScriptWord, point: &str) -> bool
     }
 }
 
-/// Returns the contents of a script's line that has a message, by its second word: `operator`,
-/// `point` or `hold`.
+/// Returns the contents of a replayed script's line that has a message, by its second word:
+/// `operator`, `point` or `hold`.
 fn text_line<'a>(
     moment: Instant,
     word: ScriptWord,

@@ -19,14 +19,14 @@ pub fn split_line(text: &[u8]) -> (&[u8], &[u8])
     (without_return(line), rest.split_at(1).1)
 }
 
-/// Returns the index of the first line feed in the rest of a script.
+/// Returns the index of the first line feed in the rest of a script for `replay`.
 fn line_end(text: &[u8]) -> Option<usize>
     ensures { result ≡ position (λ b. b == 10) text.now }
 {
     text.iter().position(|byte| *byte == b'\n')
 }
 
-/// Returns a line of a script without the carriage return at its end, if it has one.
+/// Returns a line of a script for `replay` without the carriage return at its end, if it has one.
 fn without_return(line: &[u8]) -> &[u8]
     ensures { result.now ≡ strip_carriage_return line.now }
 {

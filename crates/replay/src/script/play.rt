@@ -75,8 +75,8 @@ pub fn read_outcome(
     }
 }
 
-/// Plays a line of a script with these contents, a message or a release. Returns what it prints and
-/// changes.
+/// Plays a line of a replayed script with these contents, a message or a release. Returns what the
+/// line prints and changes.
 fn said_outcome(
     player: &mut Player,
     number: u64,
@@ -95,8 +95,8 @@ fn said_outcome(
     }
 }
 
-/// Answers the request of this number, which an earlier line of a script holds, as a `release` line
-/// says.
+/// Answers the schedule request of this number, which an earlier line of a replayed script holds,
+/// as a `release` line says.
 fn release_outcome(
     player: &mut Player,
     number: u64,
@@ -115,7 +115,7 @@ fn release_outcome(
     step_outcome(player.alloc(), unit, id, kind, outcome)
 }
 
-/// Returns the outcome of a script's line that prints nothing.
+/// Returns the outcome of a replayed script's line that prints nothing.
 fn without_lines(alloc: Global, change: PointChange) -> LineOutcome
     ensures printed { result.printed.items ≡ [] }
     ensures fault { result.is_fault ≡ false }
@@ -128,8 +128,8 @@ fn without_lines(alloc: Global, change: PointChange) -> LineOutcome
     }
 }
 
-/// Returns the outcome of a script's line that prints one line, such as an answer, and has no
-/// fault.
+/// Returns the outcome of a replayed script's line that prints one line, such as an answer, and has
+/// no fault.
 fn with_line(
     alloc: Global,
     line: PrintedLine,
@@ -146,7 +146,8 @@ fn with_line(
     })
 }
 
-/// Returns the outcome of the script's line of this number, which has a fault and prints that.
+/// Returns the outcome of the line of this number in a replayed script, which has a fault and
+/// prints that.
 fn fault_outcome(
     alloc: Global,
     number: u64,
@@ -180,8 +181,8 @@ pub fn text_outcome(player: &mut Player, text: &SentText<'_>) -> Result<LineOutc
     }
 }
 
-/// Plays a point's message in a script: its answer, and the call that goes out to the point. Gives
-/// the point a link if it has none.
+/// Plays a point's message in a replayed script: its answer, and the call that goes out to the
+/// point. Gives the point a link if it has none.
 fn point_outcome(player: &mut Player, text: &SentText<'_>) -> Result<LineOutcome, AllocError>
     ensures { IfOk result
         (λ outcome. IsHandled (point_handled player.old text.now) outcome player.new) }
@@ -194,7 +195,8 @@ fn point_outcome(player: &mut Player, text: &SentText<'_>) -> Result<LineOutcome
     Ok(outcome)
 }
 
-/// Appends the line that a script prints for the call that goes out to a point, if there is one.
+/// Appends the line that a replayed script prints for the call that goes out to a point, if there
+/// is one.
 fn push_call_line(
     alloc: Global,
     lines: &mut Vec<PrintedLine>,
@@ -210,8 +212,8 @@ fn push_call_line(
     Ok(())
 }
 
-/// Plays a message in a script without the call that may go out after it: returns its answer, if it
-/// has one.
+/// Plays a message of a replayed script without the call that may go out after it: returns its
+/// answer, if it has one.
 fn answer_outcome(player: &mut Player, text: &SentText<'_>) -> Result<LineOutcome, AllocError>
     ensures { IfOk result (λ outcome. IsHandled
         (asked_handled player.old text.now (asked_of text.now)) outcome player.new) }
@@ -252,8 +254,8 @@ pub fn asked_outcome(
     }
 }
 
-/// Plays the message of a script's `hold` line: returns the number of its request, or the answer if
-/// none is kept.
+/// Plays the message of a replayed script's `hold` line: returns the number of its request, or the
+/// answer if none is kept.
 fn hold_outcome(
     player: &mut Player,
     text: &SentText<'_>,

@@ -111,8 +111,8 @@ impl<'a> Playing<'a> {
         Ok(Some(played))
     }
 
-    /// Moves past a line of a script that was played with this outcome, and counts its fault or
-    /// refusal.
+    /// Moves past a line of a replayed script that was played with this outcome, and counts its
+    /// fault or refusal.
     fn pass(&mut self, outcome: &LineOutcome, others: &'a [u8])
         requires shorter { length others.now < length self.old.rest }
         ensures rest { self.new.rest ≡ others.entry.now }
@@ -129,7 +129,8 @@ impl<'a> Playing<'a> {
         self.rest = others;
     }
 
-    /// Returns whether the next line of a script is at most the last one that is to be played.
+    /// Returns whether the next line of a replayed script is at most the last one that is to be
+    /// played.
     fn is_up_to(&self, last_line: Option<u64>) -> bool
         ensures { result ≡ is_up_to last_line self.now.number }
     {

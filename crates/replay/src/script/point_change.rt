@@ -34,7 +34,8 @@ pub fn change_of(outcome: &StepOutcome) -> PointChange
     }
 }
 
-/// Returns the change that a line of a script makes at its point, by the reply to its step.
+/// Returns the change that a line of a replayed script makes at its point, by the reply to its
+/// step.
 fn change_by(reply: &Reply) -> PointChange
     ensures { result ≡ change_by reply.now }
 {

@@ -55,7 +55,7 @@ pub fn print_lines(alloc: Global, lines: &[PrintedLine]) -> Result<String, Alloc
     Ok(text)
 }
 
-/// Appends the text of a line that a script prints.
+/// Appends the text of a line that a replayed script prints.
 fn push_line(text: &mut String, line: &PrintedLine) -> Result<(), AllocError>
     ensures { OnOk result
         (string_bytes text.new ≡ string_bytes text.old ++ printed_text line.now) }
@@ -68,8 +68,8 @@ fn push_line(text: &mut String, line: &PrintedLine) -> Result<(), AllocError>
     }
 }
 
-/// Appends the line that begins with `> `, in which a script prints the answer to the CALL of this
-/// id.
+/// Appends the line that begins with `> `, in which a replayed script prints the answer to the CALL
+/// of this id.
 fn push_answer(text: &mut String, id: &str, response: &Response) -> Result<(), AllocError>
     ensures { OnOk result
         (string_bytes text.new ≡ string_bytes text.old ++ response_line id.now response.now) }
@@ -80,8 +80,8 @@ fn push_answer(text: &mut String, id: &str, response: &Response) -> Result<(), A
     Ok(())
 }
 
-/// Appends the line that begins with `* `, in which a script prints a call that goes out to a
-/// point.
+/// Appends the line that begins with `* `, in which a replayed script prints a call that goes out
+/// to a point.
 fn push_sent(text: &mut String, point: &str, call: &Call) -> Result<(), AllocError>
     ensures { OnOk result
         (string_bytes text.new ≡ string_bytes text.old ++ sent_line point.now call.now) }
@@ -94,7 +94,8 @@ fn push_sent(text: &mut String, point: &str, call: &Call) -> Result<(), AllocErr
     Ok(())
 }
 
-/// Appends the line in which a script prints the number of a request that it holds.
+/// Appends the line in which a replayed script prints the number of a schedule request that it
+/// holds.
 fn push_held(text: &mut String, number: u64) -> Result<(), AllocError>
     ensures { OnOk result
         (string_bytes text.new ≡ string_bytes text.old ++ held_line number) }
@@ -103,8 +104,8 @@ fn push_held(text: &mut String, number: u64) -> Result<(), AllocError>
     Ok(())
 }
 
-/// Appends the line that begins with `! `, in which a script prints the fault of its line of this
-/// number.
+/// Appends the line that begins with `! `, in which a replayed script prints the fault of its line
+/// of this number.
 fn push_fault(text: &mut String, line: u64, fault: ScriptLineFault) -> Result<(), AllocError>
     ensures { OnOk result
         (string_bytes text.new ≡ string_bytes text.old ++ fault_line line fault) }

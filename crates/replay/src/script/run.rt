@@ -124,7 +124,7 @@ fn read_script<R: Read>(alloc: Global, reader: &mut R) -> Result<Vec<u8>, Replay
     Ok(read_all(alloc, reader, MAX_SCRIPT_BYTES)?)
 }
 
-/// Plays a whole script on a site, and writes and flushes its output. Returns the number of lines
+/// Replays a whole script on a site, and writes and flushes its output. Returns the number of lines
 /// with a fault.
 fn write_output<W: Write>(
     alloc: Global,
@@ -146,7 +146,7 @@ fn write_output<W: Write>(
     Ok(summary)
 }
 
-/// Plays the lines of a script on a site, and writes the output of each. Returns the number of
+/// Replays the lines of a script on a site, and writes the output of each. Returns the number of
 /// lines with a fault.
 fn write_lines<W: Write>(
     alloc: Global,
@@ -179,8 +179,8 @@ fn write_lines<W: Write>(
     Ok(Summary { script_faults })
 }
 
-/// Plays the line of this number of a script, and writes its output. Returns whether the line has a
-/// fault.
+/// Replays the line of this number of a script, and writes its output. Returns whether the line has
+/// a fault.
 fn write_line<W: Write>(
     writer: &mut W,
     player: &mut Player,

@@ -48,7 +48,7 @@ pub fn skim_line<'a>(
     })
 }
 
-/// Returns whether a line that a script prints is an answer with a schedule.
+/// Returns whether a line that a replayed script prints is an answer with a schedule.
 fn has_schedule(line: &PrintedLine) -> bool {
     matches!(
         line,
@@ -59,8 +59,8 @@ fn has_schedule(line: &PrintedLine) -> bool {
     )
 }
 
-/// Plays a script's message for its effect, and returns its outcome apart from schedules. Only an
-/// operator requests these.
+/// Plays a replayed script's message for its effect, and returns its outcome apart from schedules.
+/// Only an operator requests these.
 fn skim_text(
     player: &mut Player,
     text: &SentText<'_>,
@@ -78,8 +78,8 @@ fn skim_text(
     }
 }
 
-/// Plays the request of a script's message for its effect, and returns its outcome apart from
-/// schedules.
+/// Plays the request of a replayed script's message for its effect, and returns its outcome apart
+/// from schedules.
 fn skim_asked(
     player: &mut Player,
     text: &SentText<'_>,

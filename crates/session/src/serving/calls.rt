@@ -97,8 +97,9 @@ pub fn send_call<W: World, S: Read + Write + Drop, K: MaskKeys + Drop>(
     }))
 }
 
-/// Makes the first waiting call of a point the one in flight, and notes that. Returns the call, and
-/// the states of the book recorded by then. Returns none if the point has a later link by now.
+/// Makes the first waiting call of a point the one in flight, and notes that in the journal.
+/// Returns the call, and the states of the book recorded by then. Returns none if no call is to be
+/// sent any more, or if the point has a later link by now.
 fn next_call<W: World>(
     context: &Context<'_, W>,
     point: &PointId,
@@ -134,7 +135,7 @@ fn next_call<W: World>(
     }
 }
 
-/// Returns the text of a call that a session sends to its charge point.
+/// Returns the text of the frame of a call that a session sends to its charge point.
 fn text_of_call(alloc: Global, call: &Call) -> Result<String, AllocError>
     ensures { IfOk result (λ text. string_bytes text ≡ call_text call.now) }
 {
@@ -143,9 +144,9 @@ fn text_of_call(alloc: Global, call: &Call) -> Result<String, AllocError>
     Ok(text)
 }
 
-/// Loses the link of a point's session, and notes that: a call in flight over it waits again. If
-/// the book refuses, nothing happens: the point has a later link. If the loss can't be noted, the
-/// point keeps the link until it has a later one.
+/// Loses the link of a point's session, and notes that in the journal: a call in flight over it
+/// waits again. If the book refuses, nothing happens: the point has a later link. If the loss can't
+/// be noted, the point keeps the link until it has a later one.
 pub(crate) fn lose<W: World>(context: &Context<'_, W>, core: SessionCore) {
     let Peer::Point { link: Some(link) } = core.peer() else {
         return;

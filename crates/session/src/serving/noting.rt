@@ -78,8 +78,8 @@ pub(crate) fn note_performed<W: World>(
     }
 }
 
-/// Notes a session's step to the present state of the book in the journal. `before` is the record
-/// that ends with the state before the step.
+/// Notes in the journal a session's step that led to the present state of the book. `before` is the
+/// record of the book's states that ends with the one before the step.
 pub(crate) fn note_made<W: World>(
     context: &Context<'_, W>,
     book: &Book<W::Changes, W::Answers, W::Name>,

@@ -41,7 +41,7 @@ pub enum SessionEvent {
     },
     /// A request of an operator, which added a call.
     Added,
-    /// A request that is refused with this fault.
+    /// A CALL that is answered with this fault.
     Refused(CallFault),
     /// Anything else.
     Other,

@@ -131,9 +131,9 @@ pub fn answer_message<W: World, Q: Waiting>(
     })
 }
 
-/// Returns the answer to a message whose step isn't made because it couldn't be noted: a CALL is
-/// answered with `OutOfMemory`. A reply has no answer, so the session ends, and its call goes out
-/// again over the point's next link.
+/// Returns a session's answer to a message whose step isn't made because the journal can't note it:
+/// a CALL is answered with `OutOfMemory`. A reply has no answer, so the session ends, and its call
+/// goes out again over the point's next link.
 fn served_unmade<N: ListName>(
     core: &SessionCore,
     todo: Todo,
@@ -210,10 +210,10 @@ fn outcome_of_step<W: World, Q: Waiting>(
     }
 }
 
-/// Makes the step of a message by one call on the shared book, and then notes it, if it changed
-/// something. For a reply to an audit of the point, the audit is read first. The lock is held in
-/// between, so it is the audit whose call is confirmed. If there is no memory for it, the call
-/// isn't confirmed, nothing is noted, and the session ends.
+/// Makes the step of a session's message by one call on the shared book, and then notes it in the
+/// journal, if it changed something. For a reply to an audit of the point, the audit is read first.
+/// The lock is held in between, so it is the audit whose call is confirmed. If there is no memory
+/// for it, the call isn't confirmed, nothing is noted, and the session ends.
 fn perform_noted<W: World>(
     context: &Context<'_, W>,
     pass: &mut Pass<W::Changes, W::Answers>,
@@ -306,8 +306,8 @@ fn compile_and_collect<W: World, Q: Waiting>(
     wait_answer(rt, shared, pass, number)
 }
 
-/// Returns whether two requests for a schedule are for the same connector, start and duration, so
-/// that one's answer is right for the other.
+/// Returns whether a session's schedule request and the collected answer are for the same
+/// connector, start and duration.
 fn is_same(one: &Ask, other: &Ask) -> bool
     ensures { IsTrue result ↔ (one.now ≡ other.now) }
 {

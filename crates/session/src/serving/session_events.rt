@@ -57,12 +57,15 @@ pub(crate) fn event_of(
             },
         (_, Some(Outcome::Made(reply))) if adds_call(reply) => SessionEvent::Added,
         (Subject::Faulty(fault), _) => SessionEvent::Refused(fault),
-        (_, Some(Outcome::Refused(refusal))) => SessionEvent::Refused(CallFault::Refused(*refusal)),
+        (Subject::Other, Some(Outcome::Refused(refusal))) => SessionEvent::Refused(
+            CallFault::Refused(*refusal),
+        ),
         _ => SessionEvent::Other,
     }
 }
 
-/// Returns whether a step with this reply adds a call to the point's outbox.
+/// Returns whether a step with this reply adds a call to the point's outbox, for the session's
+/// observer.
 fn adds_call(reply: &Reply) -> bool {
     matches!(
         reply,

@@ -34,8 +34,8 @@ fn incoming_of(message: Message) -> Incoming {
     }
 }
 
-/// Returns `Nothing` if the read timed out, or was interrupted, as in a process that is suspended
-/// and continued. Any other error ends the session.
+/// Returns `Nothing` if the read from a session's WebSocket timed out or was interrupted, as in a
+/// process that is suspended and continued. Any other error ends the session.
 fn nothing_or_ended(error: Error) -> Result<Incoming, Ended> {
     match &error {
         Error::Io(cause) if is_of_waiting(cause.kind()) => Ok(Incoming::Nothing),

@@ -62,8 +62,9 @@ impl Machine {
         Ok(true)
     }
 
-    /// Returns the place of the point that a request for a composite schedule names, and the `Ask`
-    /// there. Otherwise returns the reason why the request isn't kept, as if memory always lasted.
+    /// Returns the place in the site file of the point that a request for a composite schedule
+    /// names, and its `Ask`. Otherwise returns the reason why the request isn't kept, as if memory
+    /// always lasted.
     fn asked(&self, take: &Take) -> Result<(usize, Ask), Refusal>
         ensures taking { IfOk result (λ found.
             takes self.now take.now ≡ Ok (taking self.now found.0 found.1)) }
@@ -103,7 +104,8 @@ impl Machine {
         None
     }
 
-    /// Compiles the composite schedule of the kept request with this number.
+    /// Compiles the composite schedule of the kept request with this number, and keeps it as the
+    /// request's answer.
     #[inline(never)]
     pub(super) fn compile(&mut self, number: u64) -> Result<Reply, Refusal>
         ensures made { IfOk result (λ reply. Compiles self.old number reply self.new) }

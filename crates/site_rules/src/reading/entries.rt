@@ -73,7 +73,7 @@ fn read_entries(
     Ok(unless_many(found))
 }
 
-/// Reads the next entry of `points` in a site file. Skips it if there are too many.
+/// Reads the next entry of `points` in a site file. Skips it if there are too many entries.
 fn with_next(
     alloc: Global,
     found: FoundPoints,

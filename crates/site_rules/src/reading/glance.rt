@@ -25,7 +25,7 @@ pub(crate) enum Glance<'a> {
     Object,
 }
 
-/// Reads the next value of a site file, and skips its contents.
+/// Reads the next value of a site file, and skips the contents of a list or an object.
 #[cycle(glance)]
 pub(crate) fn read_glance<'a>(
     reader: &mut Reader<'a>,
@@ -38,7 +38,8 @@ pub(crate) fn read_glance<'a>(
     glance_from(token, reader, depth)
 }
 
-/// Reads the rest of the value of a site file that begins with this token, and skips its contents.
+/// Reads the rest of the value of a site file that begins with this token, and skips the contents
+/// of a list or an object.
 #[cycle(glance)]
 pub(crate) fn glance_from<'a>(
     token: Token<'a>,

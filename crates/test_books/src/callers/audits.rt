@@ -8,7 +8,8 @@ use std::sync::Arc;
 use std::test::Fail;
 use sweep_compiler::{AuditJob, Judged, Verdict};
 
-/// A point that reports 16 A for ten seconds agrees with its book, which has 16 A for an hour.
+/// Checks the verdict on an audit, a GetCompositeSchedule. A point that reports 16 A for ten
+/// seconds agrees with its book, which has 16 A for an hour.
 #[test]
 fn an_audit_is_judged(rt: HostRuntime) -> Result<(), Fail> {
     let mut ceilings = Vec::new(rt.alloc());

@@ -4,7 +4,8 @@ use crate::{instant_at, row_of};
 use meaning::{Ask, View, compile_plain, limit_at};
 use std::test::Fail;
 
-/// The limits of a point's profiles: at one instant, and for an hour, found second by second.
+/// Checks the limits of a point's charging profiles: at one instant, and for an hour, found second
+/// by second.
 #[test]
 fn a_point_has_limits(rt: HostRuntime) -> Result<(), Fail> {
     let mut rows = Vec::new(rt.alloc());

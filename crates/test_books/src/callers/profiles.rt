@@ -6,7 +6,8 @@ use profile::{
 };
 use std::test::Fail;
 
-/// A profile of 16 A for an hour and 8 A for another, from its base on.
+/// Checks the limits of a charging profile of 16 A for an hour and 8 A for another, from its base
+/// on.
 #[test]
 fn a_profile_has_a_limit(rt: HostRuntime) -> Result<(), Fail> {
     let mut periods = Vec::new(rt.alloc());

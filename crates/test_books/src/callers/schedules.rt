@@ -6,8 +6,8 @@ use point_book::PointBook;
 use std::test::Fail;
 use sweep_compiler::{Turns, compile};
 
-/// A day's schedule of a point, found from the three seconds at which a profile may change its
-/// limit.
+/// Checks that a day's schedule of a point is compiled from the three seconds at which a profile
+/// may change its limit.
 #[test]
 fn a_schedule_is_compiled(rt: HostRuntime) -> Result<(), Fail> {
     let mut ceilings = Vec::new(rt.alloc());

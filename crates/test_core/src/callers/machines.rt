@@ -7,7 +7,8 @@ use test_books::{instant_at, row_of};
 
 const SITE: &str = r#"{"unit":"A","points":[{"id":"CP1","ceiling":63.0,"connectors":[32.0]}]}"#;
 
-/// Installs a profile, and requests, compiles and returns a schedule. Two calls wait for the point.
+/// Checks that the central system's machine installs a profile, and compiles and returns a
+/// requested schedule. Two calls wait for the point.
 #[test]
 fn a_machine_is_run(rt: HostRuntime) -> Result<(), Fail> {
     let point = || PointId::copied(rt.alloc(), "CP1");

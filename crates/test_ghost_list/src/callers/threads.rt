@@ -68,8 +68,8 @@ impl<J: ListName> Tally<J> {
 /// The fronts that two threads know, and the tally in the end.
 type Ended<J> = (Front<u8, J>, Front<u8, J>, Tally<J>);
 
-/// Lets each of two threads count a byte in a tally under a lock. In the end the front of each is a
-/// prefix of the tally.
+/// Lets each of two threads count a byte in a tally under a lock, in this example of `ghost_list`.
+/// In the end the front of each is a prefix of the tally.
 fn two_threads<J: ListName + Send + Sync, R: Threads + Wait + Sync>(
     rt: &R,
     tally: Tally<J>,

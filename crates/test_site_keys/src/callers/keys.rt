@@ -8,7 +8,8 @@ use site_keys::{Admission, Keys, Role, write_key};
 use std::alloc::{AllocError, Global};
 use std::test::Fail;
 
-/// Returns whether a point may connect with this header: the keys admit it as itself.
+/// In an example of `site_keys`: returns whether the keys admit a point as itself by this HTTP
+/// Basic header.
 fn may_come(alloc: Global, keys: &Keys, identity: &str, header: &[u8]) -> Result<bool, AllocError>
     ensures { IfOk result (λ may. IsTrue may
         → IsAdmitted keys.now Point identity.now (Some header.now) identity.now) }
@@ -19,12 +20,13 @@ fn may_come(alloc: Global, keys: &Keys, identity: &str, header: &[u8]) -> Result
     }
 }
 
-/// Shows that the threads of a server can share the keys.
+/// Shows in an example of `site_keys` that the threads of a server can share the keys.
 fn share<T: Send + Sync>(shared: &T) -> &T {
     shared
 }
 
-/// Makes a key for a point; the point connects with it, and can't connect as another point.
+/// Checks that a point connects with the key that the key file has for it, and can't connect as
+/// another point.
 #[test]
 fn a_point_gets_a_key(rt: HostRuntime) -> Result<(), Fail> {
     let alloc = rt.alloc();

@@ -3,7 +3,8 @@
 use ocppj_frame::{Field, Frame, ReadingMemory, read_frame, tenths_field, write_result};
 use std::test::Fail;
 
-/// Reads a CALL and a field of its payload, and answers it.
+/// Checks that an OCPP-J CALL and a field of its payload are read, and that the answer to it is
+/// written.
 #[test]
 fn a_call_is_read_and_answered(rt: HostRuntime) -> Result<(), Fail> {
     let mut memory = ReadingMemory::new(rt.alloc());

@@ -3,7 +3,7 @@
 use ocpp_scalars::{read_instant, read_tenths, write_instant, write_tenths};
 use std::test::Fail;
 
-/// Reads an instant and a limit, and writes them as this system does.
+/// Checks that an instant and a limit in OCPP's texts are read, and written as this system does.
 #[test]
 fn scalars_are_read_and_written(rt: HostRuntime) -> Result<(), Fail> {
     let alloc = rt.alloc();
