@@ -44,8 +44,7 @@ impl<'a, 'node, 'memory> LineCall<'a, 'node, 'memory> {
     }
 }
 
-/// Checks a CALL in a line of a script for `check`: whether its sender has the action, then its
-/// payload.
+/// Checks a CALL in a line of a script: whether its sender has the action, then its payload.
 pub(crate) fn check_call(report: &mut Report, call: &LineCall<'_, '_, '_>) {
     let kind = ActionKind::named(call.action);
     if call.text.sender == Sender::Hold && kind != Some(ActionKind::GetCompositeSchedule) {
@@ -98,7 +97,7 @@ fn actions_of(alloc: Global, side: Side) -> Result<Vec<&'static str>, AllocError
     Ok(names)
 }
 
-/// Checks the payload of a CALL in a line of a script for `check`: its fields, then its request.
+/// Checks the payload of a CALL in a line of a script: its fields, then its request.
 fn check_action(report: &mut Report, call: &LineCall<'_, '_, '_>, kind: ActionKind) {
     let alloc = report.alloc;
     // Of a point's CALL only some fields are read, so its other fields aren't unknown ones.
@@ -117,8 +116,7 @@ fn check_action(report: &mut Report, call: &LineCall<'_, '_, '_>, kind: ActionKi
     }
 }
 
-/// Checks, for `check`, the request of a CALL in a line of a script, whose fields are right, by its
-/// action.
+/// Checks the request of a CALL in a line of a script, whose fields are right, by its action.
 fn check_asked(report: &mut Report, call: &LineCall<'_, '_, '_>, kind: ActionKind, action: Action) {
     check_operator_fields(report, call, kind);
     match action {
@@ -153,7 +151,7 @@ fn check_operator_fields(report: &mut Report, call: &LineCall<'_, '_, '_>, kind:
     remark_unzoned(report, payload);
 }
 
-/// Checks, for `check`, an operator's AuditPoint in a line of a script as a request for a schedule.
+/// Checks an operator's AuditPoint in a line of a script, as a request for a schedule.
 fn check_audit_request(report: &mut Report, text: &LineMessage<'_>, connector: u32, duration: u32) {
     let request = ScheduleRequest {
         connector,
@@ -163,8 +161,8 @@ fn check_audit_request(report: &mut Report, text: &LineMessage<'_>, connector: u
     check_ask(report, text, &request);
 }
 
-/// Reports, for `check`, the refusal of a CALL in a script whose action has no other check, unless
-/// it depends on the point's state.
+/// Reports the refusal of a CALL in a script whose action has no other check, unless it depends on
+/// the point's state.
 fn check_refused(report: &mut Report, text: &LineMessage<'_>) {
     match text.refusal() {
         Some(Refusal::UnknownPoint) => refuse_point(report, text),
@@ -341,8 +339,8 @@ fn criterion_meant(alloc: Global, name: &str) -> Result<Option<&'static str>, Al
     }
 }
 
-/// Reports, for `check`, that the site lacks the point of a message in a script, with the identity
-/// that is probably meant.
+/// Reports that the site lacks the point of a message in a script, with the identity that is
+/// probably meant.
 pub(crate) fn refuse_point(report: &mut Report, text: &LineMessage<'_>) {
     let message = unknown_point_message(report, text.site, text.point);
     report.fault(message);
@@ -362,8 +360,8 @@ pub(crate) fn point_of<'a>(site: &'a Site, text: &LineMessage<'_>) -> Option<Sit
     site.point(site.place_of(text.point)?)
 }
 
-/// Checks, for `check`, a GetCompositeSchedule or an AuditPoint in a script by its answer. Reports
-/// a refusal unless it depends on the point's state.
+/// Checks a GetCompositeSchedule or an AuditPoint in a script by its answer. Reports a refusal
+/// unless it depends on the point's state.
 fn check_ask(report: &mut Report, text: &LineMessage<'_>, request: &ScheduleRequest) {
     match text.rejection() {
         None => {}
@@ -452,8 +450,7 @@ pub(crate) fn reject_found(
     }
 }
 
-/// Checks, for `check`, a StartTransaction in a line of a script. Reports a connector that the
-/// point lacks.
+/// Checks a StartTransaction in a line of a script. Reports a connector that the point lacks.
 fn check_start(report: &mut Report, text: &LineMessage<'_>, connector: u32) {
     let Some(point) = point_of(text.site, text) else {
         return;

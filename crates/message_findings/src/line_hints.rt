@@ -46,8 +46,8 @@ fn word_at(line: &str, place: usize) -> &str {
     line.split(' ').nth(place).unwrap_or("")
 }
 
-/// Describes, for `check`, the fault of a script's line that has none of the forms of lines, with
-/// the probable mistake.
+/// Describes the fault of a script's line that has none of the forms of lines, with the probable
+/// mistake.
 fn bad_line(alloc: Global, text: &str) -> Result<String, AllocError> {
     let hint = form_hint(alloc, text)?;
     let fault = ScriptLineFault::BadLine;

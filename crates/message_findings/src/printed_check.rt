@@ -42,8 +42,8 @@ pub fn check_printed(
     report.into_findings()
 }
 
-/// Checks, for `check`, an answer in the output of a script's line. Reports a refusal that depends
-/// on the point's state, and a clear without a match.
+/// Checks an answer in the output of a script's line. Reports a refusal that depends on the point's
+/// state, and a clear without a match.
 fn check_answer(report: &mut Report, response: &Response) {
     match response {
         Response::Rejected(refusal) | Response::Error(CallFault::Refused(refusal)) => {

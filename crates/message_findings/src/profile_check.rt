@@ -13,8 +13,8 @@ use profile_findings::never_rated;
 use site_rules::{Site, SitePoint, admit};
 use std::alloc::{AllocError, Global};
 
-/// Checks, for `check`, a SetChargingProfile in a line of a script, whose fields are right: its
-/// refusal by the site, and its probable mistakes.
+/// Checks a SetChargingProfile in a line of a script, whose fields are right: its refusal by the
+/// site, and its probable mistakes.
 pub(crate) fn check_install(
     report: &mut Report,
     text: &LineMessage<'_>,
@@ -84,8 +84,8 @@ fn place_found(
     }
 }
 
-/// Warns, for `check` or `call`, of fields in an operator's message that have no effect with the
-/// charging profile's purpose or kind.
+/// Warns of fields in an operator's message that have no effect with the charging profile's purpose
+/// or kind.
 fn warn_dropped(report: &mut Report, parts: &ProfileParts) {
     let (purpose, id) = (parts.purpose, parts.id);
     if parts.transaction.is_some() && !matches!(purpose, Purpose::TxProfile) {
@@ -135,8 +135,8 @@ fn out_of_order(alloc: Global, periods: &[Period]) -> Result<String, AllocError>
     Ok(String::new(alloc))
 }
 
-/// Warns, for `check` or `call`, of an operator's TxProfile without a transactionId, which the
-/// point may take for the next car.
+/// Warns of an operator's TxProfile without a transactionId, which the point may take for the next
+/// car.
 // The call may wait for the point until the transaction has ended, which doesn't cancel it.
 fn warn_transaction(report: &mut Report, profile: &Profile) {
     if matches!(profile.purpose, Purpose::TxProfile) && profile.transaction.is_none() {
@@ -148,8 +148,7 @@ fn warn_transaction(report: &mut Report, profile: &Profile) {
     }
 }
 
-/// Warns, for `check`, of a profile in a line of a script that never lowers a limit at the line's
-/// point.
+/// Warns of a profile in a line of a script that never lowers a limit at the line's point.
 pub(crate) fn warn_ceiling_at(
     report: &mut Report,
     text: &LineMessage<'_>,
@@ -161,8 +160,7 @@ pub(crate) fn warn_ceiling_at(
     }
 }
 
-/// Warns, for `check`, of a profile that never lowers a limit, since the ceilings of the site file
-/// are below it.
+/// Warns of a profile that never lowers a limit, since the ceilings of the site file are below it.
 fn warn_ceiling(report: &mut Report, point: SitePoint<'_>, connector: u32, profile: &Profile) {
     let ceiling = highest_ceiling(point, connector, profile.purpose);
     let periods = profile.schedule.periods.as_slice();
@@ -197,8 +195,8 @@ fn highest_ceiling(point: SitePoint<'_>, connector: u32, purpose: Purpose) -> u3
     highest.min(point.ceiling)
 }
 
-/// Warns, for `check`, of a charging profile in a script that never sets a limit, or sets none at
-/// times that probably weren't meant.
+/// Warns of a charging profile in a script that never sets a limit, or sets none at times that
+/// probably weren't meant.
 pub(crate) fn warn_rates(report: &mut Report, moment: Instant, profile: &Profile) {
     if let Some(why) = never_rated(profile) {
         return report.warn_text_of(profile.purpose, profile.id, never_sentence(why));
@@ -224,8 +222,8 @@ fn over_message(alloc: Global, end: Instant) -> Result<String, AllocError> {
     )
 }
 
-/// Warns, for `check`, of a profile's chargingSchedulePeriod that starts when the duration of the
-/// schedule is over.
+/// Warns of a profile's chargingSchedulePeriod that starts when the duration of the schedule is
+/// over.
 fn warn_duration(report: &mut Report, profile: &Profile) {
     let Some(duration) = profile.schedule.duration else {
         return;
@@ -249,8 +247,7 @@ fn first_past(profile: &Profile, end: u64) -> Option<(usize, u32)> {
     None
 }
 
-/// Warns, for `check`, of the parts of a Daily or Weekly schedule after its day or week, and of its
-/// gaps.
+/// Warns of the parts of a Daily or Weekly schedule after its day or week, and of its gaps.
 fn warn_recurrence(report: &mut Report, profile: &Profile, recurrency: Recurrency) {
     let length = recurrency.length();
     let unit = match recurrency {
@@ -274,8 +271,8 @@ fn warn_recurrence(report: &mut Report, profile: &Profile, recurrency: Recurrenc
     warn_gaps(report, profile, recurrency);
 }
 
-/// Warns, for `check`, of the gaps of a Daily or Weekly schedule: after its duration, and before
-/// its first period.
+/// Warns of the gaps of a Daily or Weekly schedule: after its duration, and before its first
+/// period.
 fn warn_gaps(report: &mut Report, profile: &Profile, recurrency: Recurrency) {
     let length = recurrency.length();
     let end = profile.schedule.duration.map_or(length, u64::from);
@@ -290,8 +287,7 @@ fn warn_gaps(report: &mut Report, profile: &Profile, recurrency: Recurrency) {
     }
 }
 
-/// Warns, for `check`, that a Daily or Weekly profile sets no limit between two offsets of its day
-/// or week.
+/// Warns that a Daily or Weekly profile sets no limit between two offsets of its day or week.
 fn warn_gap(report: &mut Report, profile: &Profile, recurrency: Recurrency, from: u64, to: u64) {
     let Ok(when) = gap_text(report.alloc, profile, recurrency, from, to) else {
         return report.fail();

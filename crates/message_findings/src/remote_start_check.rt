@@ -12,8 +12,8 @@ use ocpp_scalars::Refusal;
 use profile::{Profile, ProfileParts, Purpose};
 use std::alloc::{AllocError, Global};
 
-/// Checks, for `check`, a RemoteStartTransaction in a line of a script, whose fields are right: its
-/// refusal and its profile.
+/// Checks a RemoteStartTransaction in a line of a script, whose fields are right: its refusal and
+/// its profile.
 pub(crate) fn check_remote_start(
     report: &mut Report,
     text: &LineMessage<'_>,
@@ -68,8 +68,8 @@ fn check_start_profile(report: &mut Report, parts: ProfileParts) -> Option<Profi
     check_parts(report, parts)
 }
 
-/// Reports, for `check`, why a RemoteStartTransaction in a script is rejected, unless that depends
-/// on the point's state.
+/// Reports why a RemoteStartTransaction in a script is rejected, unless that depends on the point's
+/// state.
 fn refuse_start(
     report: &mut Report,
     text: &LineMessage<'_>,
@@ -94,8 +94,7 @@ fn refuse_start(
     }
 }
 
-/// Reports, for `check`, a RemoteStartTransaction in a script at a connector at which no
-/// transaction can start.
+/// Reports a RemoteStartTransaction in a script at a connector at which no transaction can start.
 fn reject_connector(report: &mut Report, text: &LineMessage<'_>, connector: u32) {
     let count = connector_count(text);
     let found = format!(in report.alloc;
@@ -104,8 +103,8 @@ fn reject_connector(report: &mut Report, text: &LineMessage<'_>, connector: u32)
     reject_found(report, Refusal::UnknownConnector, found);
 }
 
-/// Warns, for `check`, of a transaction in a script without the profile of the remote start that
-/// waited at its connector.
+/// Warns of a transaction in a script without the profile of the remote start that waited at its
+/// connector.
 pub(crate) fn check_ended_start(report: &mut Report, ended: &EndedStart) {
     report.warn(ended_start_message(report.alloc, ended));
 }

@@ -26,7 +26,7 @@ pub(crate) struct Report {
 }
 
 impl Report {
-    /// Begins the findings of `check` or `call` in a script or an operator's message, without any.
+    /// Begins the findings in a script or an operator's message, without any.
     pub(crate) fn new(alloc: Global) -> Report {
         Report {
             alloc,
@@ -37,8 +37,7 @@ impl Report {
         }
     }
 
-    /// Returns all findings of `check` or `call` in a script or an operator's message, unless an
-    /// allocation failed.
+    /// Returns all findings in a script or an operator's message, unless an allocation failed.
     pub(crate) fn into_findings(self) -> Result<Vec<Finding>, AllocError> {
         let Report {
             findings,
@@ -52,7 +51,7 @@ impl Report {
         }
     }
 
-    /// Returns the error if an allocation for the findings of `check` in a script failed so far.
+    /// Returns the error if an allocation for the findings in a script failed so far.
     pub(crate) fn outcome(&self) -> Result<(), AllocError> {
         if self.is_short {
             Err(AllocError)
@@ -61,8 +60,8 @@ impl Report {
         }
     }
 
-    /// Notes that an allocation for a finding of `check` or `call` in a script or an operator's
-    /// message failed elsewhere.
+    /// Notes that an allocation for a finding in a script or an operator's message failed
+    /// elsewhere.
     pub(crate) fn fail(&mut self) {
         self.is_short = true;
     }
@@ -82,20 +81,18 @@ impl Report {
         true
     }
 
-    /// Adds a fault to the findings of `check` or `call` in a script or an operator's message, on
-    /// the current line.
+    /// Adds a fault to the findings in a script or an operator's message, on the current line.
     pub(crate) fn fault(&mut self, message: Result<String, AllocError>) {
         self.add(Severity::Fault, self.line, message);
     }
 
-    /// Adds a warning to the findings of `check` or `call` in a script or an operator's message, on
-    /// the current line.
+    /// Adds a warning to the findings in a script or an operator's message, on the current line.
     pub(crate) fn warn(&mut self, message: Result<String, AllocError>) {
         self.add(Severity::Warning, self.line, message);
     }
 
-    /// Adds a warning of a charging profile to the findings of `check` or `call` in a script or an
-    /// operator's message. It names the purpose and the chargingProfileId.
+    /// Adds a warning of a charging profile to the findings in a script or an operator's message.
+    /// It names the purpose and the chargingProfileId.
     pub(crate) fn warn_of(
         &mut self,
         purpose: Purpose,
@@ -108,31 +105,31 @@ impl Report {
         }
     }
 
-    /// Adds a warning of a charging profile to the findings of `check` or `call`, as `warn_of`
-    /// does, with a copy of this message about it.
+    /// Adds a warning of a charging profile to the findings, as `warn_of` does, with a copy of this
+    /// message about it.
     pub(crate) fn warn_text_of(&mut self, purpose: Purpose, id: i32, message: &str) {
         let purpose = purpose_name(purpose);
         self.warn(format!(in self.alloc; "{purpose} {id}: {message}"));
     }
 
-    /// Adds a remark to the findings of `check` in a script, on the line of this number.
+    /// Adds a remark to the findings in a script, on the line of this number.
     pub(crate) fn remark_at(&mut self, line: u64, message: Result<String, AllocError>) {
         self.add(Severity::Remark, line, message);
     }
 
-    /// Adds a remark to the findings of `check` in a script, on the current line.
+    /// Adds a remark to the findings in a script, on the current line.
     pub(crate) fn remark(&mut self, message: Result<String, AllocError>) {
         self.remark_at(self.line, message);
     }
 
-    /// Adds a warning to the findings of `check` in a script, on the current line, with a copy of
-    /// this message.
+    /// Adds a warning to the findings in a script, on the current line, with a copy of this
+    /// message.
     pub(crate) fn warn_text(&mut self, message: &str) {
         self.warn(String::from_str(self.alloc, message));
     }
 
-    /// Adds a finding of `check` or `call` in a script or an operator's message, on the line of
-    /// this number. A failed allocation of its message counts as one of the report.
+    /// Adds a finding in a script or an operator's message, on the line of this number. A failed
+    /// allocation of its message counts as one of the report.
     fn add(&mut self, severity: Severity, line: u64, message: Result<String, AllocError>) {
         let Ok(message) = message else {
             return self.fail();

@@ -68,8 +68,8 @@ impl ScriptCheck {
         }
     }
 
-    /// Checks, for `check`, the script's line played last: its message, the number that it
-    /// releases, or its fault.
+    /// Checks the script's line played last: its message, the number that it releases, or its
+    /// fault.
     fn check_line(&mut self, playing: &Playing<'_>, played: &PlayedLine<'_>) {
         let site = playing.machine().site();
         match &played.said {
@@ -91,8 +91,7 @@ impl ScriptCheck {
         }
     }
 
-    /// Checks, for `check`, the message in a line of a script, and the remote start that ended with
-    /// it.
+    /// Checks the message in a line of a script, and the remote start that ended with it.
     fn check_sent(&mut self, playing: &Playing<'_>, played: &PlayedLine<'_>, sent: &SentText<'_>) {
         let Ok(starts) = self.starts.follow(playing, played, sent.point()) else {
             return self.report.fail();
@@ -116,8 +115,8 @@ impl ScriptCheck {
         self.report.into_findings()
     }
 
-    /// Adds a remark of `check` on the `hold` line that took the request of this number, which is
-    /// still held when the script ends.
+    /// Adds a remark on the `hold` line that took the request of this number, which is still held
+    /// when the script ends.
     fn remark_held(&mut self, number: u64) {
         for line in &self.held {
             if line.request == number {
@@ -130,7 +129,7 @@ impl ScriptCheck {
     }
 }
 
-/// Reports, for `check`, a `release` line of a script with the number of no held request.
+/// Reports a `release` line of a script with the number of no held request.
 fn unknown_request(report: &mut Report, number: u64) {
     let sentence = line_sentence(ScriptLineFault::UnknownRequest);
     report.fault(format!(in report.alloc;

@@ -32,8 +32,7 @@ pub(crate) fn check_text(report: &mut Report, memory: &mut ReadingMemory, text: 
     }
 }
 
-/// Checks, for `check`, the frame in a line of a script, and returns whether it is a message of
-/// OCPP-J.
+/// Checks the frame in a line of a script, and returns whether it is a message of OCPP-J.
 fn check_message(
     report: &mut Report,
     memory: &mut ReadingMemory,
@@ -48,7 +47,7 @@ fn check_message(
     Reading::Checked
 }
 
-/// Checks, for `check`, a frame in a line of a script: a CALL by its action, a reply by its status.
+/// Checks a frame in a line of a script: a CALL by its action, a reply by its status.
 fn check_frame(report: &mut Report, text: &LineMessage<'_>, frame: Frame<'_>) {
     match frame {
         Frame::Call {
@@ -128,7 +127,7 @@ fn not_accepted_message(
     format!(in alloc; "the point answers call \"{id}\" with {status}: {effect}")
 }
 
-/// Reports, for `check`, a `hold` line of a script that is no request for a composite schedule.
+/// Reports a `hold` line of a script that is no request for a composite schedule.
 pub(crate) fn not_composite(report: &mut Report, text: &LineMessage<'_>, why: &str) {
     report.fault(not_composite_message(report.alloc, text.frame, why));
 }
@@ -142,8 +141,7 @@ fn not_composite_message(alloc: Global, frame: &str, why: &str) -> Result<String
     format!(in alloc; "{fault}: {rule}, and {why}: {frame}")
 }
 
-/// Reports, for `check`, a CALL in a line of a script whose action is no string or whose payload is
-/// no object.
+/// Reports a CALL in a line of a script whose action is no string or whose payload is no object.
 fn check_malformed(report: &mut Report, text: &LineMessage<'_>) {
     if text.sender == Sender::Hold {
         return not_composite(report, text, "it is malformed");
@@ -158,8 +156,7 @@ fn malformed_message(alloc: Global, frame: &str) -> Result<String, AllocError> {
     format!(in alloc; "FormationViolation: {sentence}: {frame}")
 }
 
-/// Reports, for `check`, a frame in a line of a script that is no message of OCPP-J, with the
-/// reason.
+/// Reports a frame in a line of a script that is no message of OCPP-J, with the reason.
 fn check_dropped(report: &mut Report, memory: &mut ReadingMemory, text: &LineMessage<'_>) {
     let before = character_count(text.line).saturating_sub(character_count(text.frame));
     let Ok(why) = why_dropped(report.alloc, memory, text.frame, before) else {

@@ -5,8 +5,7 @@ use crate::report::Report;
 use messages::{FieldKind, FieldRow};
 use ocppj_frame::{Field, text_field};
 
-/// Adds a remark of `check` for each instant without a zone in an operator's payload, which counts
-/// as UTC.
+/// Adds a remark for each instant without a zone in an operator's payload, which counts as UTC.
 // A local time that counts as UTC shifts a schedule by hours. RFC 3339 requires an offset.
 pub(crate) fn remark_unzoned(report: &mut Report, payload: PayloadObject<'_, '_>) {
     let mut object = payload;
@@ -19,7 +18,7 @@ pub(crate) fn remark_unzoned(report: &mut Report, payload: PayloadObject<'_, '_>
     }
 }
 
-/// Adds a remark of `check` for each instant without a zone in one object of an operator's payload.
+/// Adds a remark for each instant without a zone in one object of an operator's payload.
 fn remark_fields(report: &mut Report, object: PayloadObject<'_, '_>) {
     for row in object.fields {
         if row.kind() == FieldKind::Time {
@@ -28,8 +27,8 @@ fn remark_fields(report: &mut Report, object: PayloadObject<'_, '_>) {
     }
 }
 
-/// Adds a remark of `check` if the instant in this field of an operator's payload has no zone, so
-/// that it counts as UTC.
+/// Adds a remark if the instant in this field of an operator's payload has no zone, so that it
+/// counts as UTC.
 fn remark_field(report: &mut Report, object: PayloadObject<'_, '_>, row: FieldRow) {
     let name = row.name().text();
     match text_field(object.node, name) {

@@ -78,8 +78,8 @@ fn replaced(
     Ok(Finding::warning(place, message))
 }
 
-/// Makes the warning of `check` or `call` that a ClearChargingProfile removed a fuse limit (a
-/// ChargePointMaxProfile) too.
+/// Makes the warning that a ClearChargingProfile removed a fuse limit (a ChargePointMaxProfile)
+/// too.
 fn cleared_too(alloc: Global, number: u64, gone: PrevailingProfile) -> Result<Finding, AllocError> {
     let name = named(alloc, gone)?;
     let message = format!(in alloc;
@@ -88,8 +88,7 @@ fn cleared_too(alloc: Global, number: u64, gone: PrevailingProfile) -> Result<Fi
     Ok(Finding::warning(Location::Line(number), message))
 }
 
-/// Names a charging profile by purpose, id, stack level and connector, for a finding of `check` or
-/// `call`.
+/// Names a charging profile in a finding by its purpose, id, stack level and connector.
 fn named(alloc: Global, profile: PrevailingProfile) -> Result<String, AllocError> {
     let purpose = purpose_name(profile.purpose);
     let id = profile.id;

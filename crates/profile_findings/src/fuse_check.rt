@@ -74,7 +74,7 @@ pub fn check_unlimited(alloc: Global, point: &str) -> Result<Finding, AllocError
     Ok(Finding::remark(place, message))
 }
 
-/// Describes, for a warning of `call` before it sends, the removal of a point's fuse limit (its
+/// Describes, for a warning before a call is sent, the removal of a point's fuse limit (its
 /// ChargePointMaxProfiles).
 fn gone_message(alloc: Global, unit: Unit, was: u32) -> Result<String, AllocError> {
     let was = tenths_text(alloc, u64::from(was))?;

@@ -29,8 +29,7 @@ pub fn check_installed_profiles(
     Ok(findings)
 }
 
-/// Returns a warning of `check` or `call` for each installed TxDefaultProfile at connector 0 that
-/// may prevail at no connector.
+/// Returns a warning for each TxDefaultProfile at connector 0 that may prevail at no connector.
 fn hidden_defaults(
     alloc: Global,
     point: &str,
@@ -95,7 +94,7 @@ fn lowest_limit(row: &Row) -> u32 {
     lowest
 }
 
-/// Makes the finding of `check` or `call` that a point's connectors may draw more together than its
+/// Makes the finding that a point's connectors may draw more together than its
 /// ChargePointMaxProfile allows, if they may.
 fn excess_finding(
     alloc: Global,

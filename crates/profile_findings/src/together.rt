@@ -203,8 +203,8 @@ fn count_alike(view: &View<'_>, connector: u32) -> u64 {
 }
 
 /// Returns whether two connectors have the same limits, so that `check` computes one schedule for
-/// both. They are one, or have equal ceilings, no profiles of their own, and transactions since the
-/// same moment or none.
+/// both. They are the same one, or have equal ceilings, no profiles of their own, and transactions
+/// since the same moment or none.
 fn are_alike(view: &View<'_>, one: u32, other: u32) -> bool {
     if one == other {
         return true;
@@ -298,8 +298,7 @@ impl Overrun<'_> {
     }
 }
 
-/// Makes the `Excess` for a finding of `check` from an overrun of the ChargePointMaxProfile, with
-/// its instant.
+/// Makes the `Excess` for a finding from an overrun of the ChargePointMaxProfile, with its instant.
 fn excess_of<'a>(week: &Week<'a>, overrun: Overrun<'a>) -> Option<Excess<'a>> {
     let instant = later_by(week.asked, overrun.second)?;
     Some(Excess {
