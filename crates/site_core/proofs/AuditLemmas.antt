@@ -4,19 +4,16 @@ use Rattle.std.proofs.lemmas.Bool.{eqb-true}
 use Rattle.std.proofs.lemmas.Option.{same_Some}
 use Rattle.std.specs.Prelude.{IfOk, IfSome}
 use Rattle.std.specs.List.{list_any}
-use Rattle.ocpp_scalars.specs.ResultSteps.{◌>>=◌}
 use Rattle.ocpp_scalars.specs.declared.refusal.Refusal.{Refusal}
 use Rattle.ocpp_scalars.specs.declared.refusal.Refusal.TheVariants as refusals
 use Rattle.profile.specs.Changes.{matches}
 use Rattle.profile.specs.declared.charging_profile.Profile.{Profile}
 use Rattle.profile.specs.declared.row.Row.{Row}
-use Rattle.profile.specs.declared.unit.Unit.{Unit}
 use Rattle.profile.specs.declared.criteria.Criteria.{Criteria}
 use Rattle.transactions.specs.declared.begin.Begin.{Begin}
 use Rattle.transactions.specs.declared.active_table.Began.{Began}
 use Rattle.transactions.specs.declared.active_table.Began.TheVariants.{Fresh, Repeat}
 use Rattle.transactions.specs.ActiveTable.{began, connector_of}
-use Rattle.transactions.specs.declared.transaction.Transaction.{Transaction}
 use Rattle.site_rules.specs.Site.{SiteState, place_of}
 use Rattle.messages.specs.declared.call.Call.{Call}
 use Rattle.sweep_compiler.specs.Judged.{Judgement, IsJudged}
@@ -26,18 +23,17 @@ use Rattle.sweep_compiler.specs.declared.verdict.Verdict.TheVariants as verdicts
 use Rattle.site_core.specs.declared.numbers.Numbers.{Numbers}
 use Rattle.site_core.specs.declared.step.Step.{Step}
 use Rattle.site_core.specs.declared.step.Step.TheVariants as steps
-use Rattle.site_core.specs.declared.step.Take.{Take}
 use Rattle.site_core.specs.declared.reply.Reply.{Reply}
 use Rattle.site_core.specs.declared.reply.Reply.TheVariants as replies
 use Rattle.site_core.specs.Audit.{AuditState, begun_audit, unjudged, settled, kept_verdict, judged_audit}
 use Rattle.site_core.specs.Equal.{same_request, same_transactions}
-use Rattle.site_core.specs.Outbox.{OutboxState, sendable, is_number_in_flight}
-use Rattle.site_core.specs.ChargePoint.{ChargePointState, Deed, Stops, Audits, Judges, point_with}
-use Rattle.site_core.specs.State.{MachineState, IsMachine, is_this_number, point_at, book_at, outbox_at, audit_at}
-use Rattle.site_core.specs.Step.{Made, Steps, Works, Work, AtPoint, PointStep, work, unless, deed, made_at, made_there, place_for, refusal_to_install, refusal_to_call, refusal_to_start, refusal_to_attach, refusal_to_audit, version_refusal, next_transaction, is_at_no_connector, installs, clears, starts, starts_as, stops, attaches, sends, sends_call, confirms, loses, audits, judges, judges_audit, status_of, tells_status, remote_starts, refusal_to_remote_start}
+use Rattle.site_core.specs.Outbox.{sendable, is_number_in_flight}
+use Rattle.site_core.specs.ChargePoint.{ChargePointState, Deed, Stops, point_with}
+use Rattle.site_core.specs.State.{MachineState, is_this_number, point_at, audit_at}
+use Rattle.site_core.specs.Step.{Made, Steps, Works, Work, AtPoint, PointStep, work, unless, deed, made_there, place_for, refusal_to_install, refusal_to_call, refusal_to_start, refusal_to_attach, refusal_to_audit, version_refusal, next_transaction, is_at_no_connector, installs, clears, starts, starts_as, stops, attaches, sends, sends_call, confirms, audits, judges, judges_audit, status_of, remote_starts, refusal_to_remote_start}
 use Rattle.site_core.specs.History.{Event, Legal}
 use Rattle.site_core.specs.CallOrder.{names, place_of_work, point_by}
-use Rattle.site_core.specs.Audits.{audit_event, IsBegunIn, IsAuditBefore, AuditsHaveTheirBooks, BringsRight, AllBringRight, IsRightVerdict, IsAuditRight, AreAuditsRight, VerdictsStayRight}
+use Rattle.site_core.specs.Audits.{IsBegunIn, IsAuditBefore, AuditsHaveTheirBooks, BringsRight, AllBringRight, IsRightVerdict, IsAuditRight, AreAuditsRight, VerdictsStayRight}
 use Rattle.site_core.specs.Theory.Steps.{StepKind, names_point, takes_one, compiles_one, answers_one, finishes_all, kind_of}
 use Rattle.site_core.proofs.EqualLemmas.{equal_requests_are_one}
 use Rattle.site_core.proofs.EffectLemmas.{unless_holds, either_holds}

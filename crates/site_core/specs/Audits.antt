@@ -1,7 +1,7 @@
 -- Laws of audits along every history. Each is compared with the book that its point had when it was
 -- begun, and each verdict is Unsettled, or one on that book and a reply that the point may have
 -- sent.
-use Rattle.std.specs.Prelude.{ℕ, ◌≡◌, ◌⊎◌, Bool, List, ◌∷◌, ◌++◌, Option, Some, IfSome}
+use Rattle.std.specs.Prelude.{ℕ, ◌≡◌, ◌⊎◌, Bool, List, ◌∷◌, ◌++◌, Some, IfSome}
 use Rattle.std.specs.List.{AllByRecursion}
 use Rattle.site_rules.specs.Site.{place_of}
 use Rattle.sweep_compiler.specs.Judged.{IsJudged}

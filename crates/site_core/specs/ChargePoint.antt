@@ -1,7 +1,7 @@
 -- The state that the central system keeps of a charge point, and the effect of a step there. A step
 -- of a point can't see other points or requests. `record old { .. }` is the point with these fields
 -- changed and all others unchanged.
-use Rattle.std.specs.Prelude.{ℕ, ℤ, ◌-◌, Bool, List, [], Option, Some, None, slice_set}
+use Rattle.std.specs.Prelude.{ℕ, ℤ, ◌-◌, Bool, false, List, [], Option, Some, None, slice_set}
 use Rattle.profile.specs.declared.charging_profile.Profile.{Profile}
 use Rattle.profile.specs.declared.row.Row.{Row}
 use Rattle.profile.specs.declared.criteria.Criteria.{Criteria}
@@ -19,6 +19,8 @@ use Rattle.site_core.specs.Audit.{AuditState, begun_audit, judged_audit}
 use Rattle.site_core.specs.Outbox.{OutboxState, opening_outbox, Traffic, Attach, Lose, Add, Send, Confirm, after}
 use Rattle.site_core.specs.declared.waiting_starts.WaitingStart.{WaitingStart}
 use Rattle.site_core.specs.WaitingStart.{with_waiting, after_reply, ended_start, without_ended}
+use Rattle.site_core.specs.declared.deliveries.Delivery.{Delivery}
+use Rattle.site_core.specs.Delivery.{with_delivery, deliveries_after_reply}
 
 pub record ChargePointState : Type 0 where
   -- its ceilings, profiles and transactions
@@ -29,6 +31,8 @@ pub record ChargePointState : Type 0 where
   pub audit : Option AuditState
   -- the starts that were requested from it, and that no transaction has ended
   pub waiting : List WaitingStart
+  -- the calls that bring its profiles to it
+  pub deliveries : List Delivery
 
 -- a point with nothing installed, no active transaction and no link, to which call 0 is to be sent
 abbrev pub opening_point : PointEntry → ChargePointState
@@ -38,6 +42,7 @@ opening_point point =
       outbox = opening_outbox;
       audit = None;
       waiting = [];
+      deliveries = [];
     }
 
 -- ---- the effect of a step at a point
@@ -168,6 +173,35 @@ waiting_after old Sends = old.waiting
 waiting_after old (Audits connector duration unit) = old.waiting
 waiting_after old (Judges verdict) = old.waiting
 
+-- a profile comes to the point by a call; a transaction's own came with the start that it ends
+abbrev pub brought_by : ChargePointState → Profile → ℕ → List Delivery
+brought_by old profile call = with_delivery old.book.rows old.deliveries (record {
+  profile = profile.id;
+  call = call;
+  is_rejected = false;
+})
+
+abbrev pub brought_at_start : ChargePointState → Option Profile → Option WaitingStart
+    → List Delivery
+brought_at_start old (Some profile) (Some start) = brought_by old profile start.call
+brought_at_start old profile start = old.deliveries
+
+-- its deliveries after a deed
+abbrev pub deliveries_after : ChargePointState → Deed → List Delivery
+deliveries_after old (Installs row) = brought_by old row.profile old.outbox.next
+deliveries_after old (Starts connector begin number profile) =
+    brought_at_start old profile (ended_start old.outbox old.waiting connector)
+deliveries_after old (Confirms number accepted) =
+    deliveries_after_reply number accepted old.deliveries
+deliveries_after old (Clears criteria) = old.deliveries
+deliveries_after old (Stops connector) = old.deliveries
+deliveries_after old (Attaches link) = old.deliveries
+deliveries_after old Loses = old.deliveries
+deliveries_after old Sends = old.deliveries
+deliveries_after old (Audits connector duration unit) = old.deliveries
+deliveries_after old (Judges verdict) = old.deliveries
+deliveries_after old (RemoteStarts connector id_tag profile) = old.deliveries
+
 -- ---- the point after a deed
 
 abbrev pub book_after : BookState → Deed → BookState
@@ -186,6 +220,7 @@ point_after old deed = record old {
   outbox = outbox_with (traffic_of deed) old.outbox;
   audit = audit_after old deed;
   waiting = waiting_after old deed;
+  deliveries = deliveries_after old deed;
 }
 
 -- the point after a step with a deed there, or without one

@@ -3,6 +3,7 @@ pub mod Outbox
 pub mod Equal
 pub mod Audit
 pub mod WaitingStart
+pub mod Delivery
 pub mod ChargePoint
 pub mod State
 pub mod Right

@@ -1,5 +1,6 @@
 -- The state of the central system between two steps.
-use Rattle.std.specs.Prelude.{ℕ, ◌≡◌, ◌≤◌, ◌==◌, Bool, false, List, [], map, length, slice_index_or, Option, None, Some, option_map, if◌then◌else◌}
+use Rattle.std.specs.Prelude.{ℕ, max, ◌≡◌, ◌≤◌, ◌==◌, Bool, false, List, [], map, length, slice_index_or, Option, None, Some, option_map, if◌then◌else◌}
+use Rattle.profile.specs.declared.row.Row.{Row}
 use Rattle.meaning.specs.declared.ask.Ask.{Ask}
 pub use Rattle.sweep_compiler.specs.Right.{ScheduleAnswer}
 use Rattle.site_rules.specs.Site.{PointEntry, SiteState, place_of}
@@ -10,6 +11,9 @@ use Rattle.site_core.specs.Limits.{max_number, max_transaction, max_requests}
 use Rattle.site_core.specs.Outbox.{OutboxState, opening_outbox, sending_link}
 use Rattle.site_core.specs.declared.waiting_starts.WaitingStart.{WaitingStart}
 use Rattle.site_core.specs.Audit.{AuditState, unjudged}
+use Rattle.site_core.specs.declared.deliveries.ProfileState.{ProfileState}
+use Rattle.site_core.specs.declared.deliveries.ProfileState.TheVariants.{Unsure}
+use Rattle.site_core.specs.Delivery.{delivery_of, lost_before, profile_state_by}
 use Rattle.site_core.specs.ChargePoint.{ChargePointState, opening_point}
 
 -- a request for a composite schedule that is kept until its answer is handed out
@@ -60,6 +64,7 @@ no_point = record {
   outbox = opening_outbox;
   audit = None;
   waiting = [];
+  deliveries = [];
 }
 
 abbrev pub point_in : List ChargePointState → ℕ → ChargePointState
@@ -127,6 +132,20 @@ waiting_in state (Some place) = (point_at state place).waiting
 
 abbrev pub waiting_of : MachineState → List ℕ → List WaitingStart
 waiting_of state point = waiting_in state (place_of state.site point)
+
+-- The state of a row's profile at its point. The point may have lost what came by the calls before
+-- the one of the number `lost`, and before its last audit if it differed in that.
+abbrev pub profile_state_at : ChargePointState → ℕ → Row → ProfileState
+profile_state_at point lost row = profile_state_by point.outbox.calls
+    (max lost (lost_before point.audit)) (delivery_of point.deliveries row)
+
+-- of the point of an identity; of an unknown point nothing is sure
+abbrev pub profile_state_in : MachineState → Option ℕ → ℕ → Row → ProfileState
+profile_state_in state None lost row = Unsure
+profile_state_in state (Some place) lost row = profile_state_at (point_at state place) lost row
+
+abbrev pub profile_state_of : MachineState → List ℕ → ℕ → Row → ProfileState
+profile_state_of state point lost row = profile_state_in state (place_of state.site point) lost row
 
 -- the request of the audit of the point at a place, and of an identity, with the book of that time,
 -- while the audit has no verdict; an unknown point has none

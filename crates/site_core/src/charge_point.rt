@@ -18,11 +18,15 @@ ghost use Rattle.site_core.specs.Audits.{BringsRight};
 ghost use Rattle.sweep_compiler.specs.Judged.{IsJudged};
 ghost use Rattle.site_core.specs.ChargePoint.{opening_point};
 ghost use Rattle.site_core.specs.WaitingStart.{ended_start, has_gone_out, without_ended};
+ghost use Rattle.site_core.specs.ChargePoint.{brought_at_start, brought_by};
+ghost use Rattle.site_core.specs.Delivery.{lost_before};
+ghost use Rattle.site_core.specs.State.{profile_state_at};
 ghost use Rattle.site_core.specs.Step.{refusal_to_add, refusal_to_call, refusal_to_start, installs, clears, starts, stops, attaches, sends, confirms, loses, audits, judges, status_of, next_transaction, profile_at_start, refusal_of_profile, remote_starts, work};
 ghost use Rattle.site_core.specs.ByCases.Made.{decision_of, ComesTo, OnDoes, IsMadeAt, IsAtPoint, HasConnectorsOf, IsDecided, IsWorked};
 
 use crate::audit::PointAudit;
 use crate::decision::Decision;
+use crate::deliveries::{Deliveries, Delivery, ProfileState};
 use crate::numbers::Numbers;
 use crate::outbox::{Outbox, PreparedCall};
 use crate::point_id::PointId;
@@ -50,6 +54,7 @@ pub(crate) struct ChargePoint {
     outbox: Outbox,
     audit: Option<PointAudit>,
     waiting: WaitingStarts,
+    deliveries: Deliveries,
 }
 
 impl Model for ChargePoint {
@@ -62,6 +67,7 @@ impl Model for ChargePoint {
       outbox = p.outbox;
       audit = p.audit;
       waiting = p.waiting;
+      deliveries = p.deliveries;
     } };
 }
 
@@ -78,6 +84,7 @@ impl ChargePoint {
             outbox: Outbox::new(alloc)?,
             audit: None,
             waiting: WaitingStarts::new(alloc),
+            deliveries: Deliveries::new(alloc),
         })
     }
 
@@ -91,6 +98,7 @@ impl ChargePoint {
             outbox: self.outbox.copy()?,
             audit: copy_of_audit(&self.audit)?,
             waiting: self.waiting.copy()?,
+            deliveries: self.deliveries.copy()?,
         })
     }
 
@@ -261,8 +269,10 @@ impl ChargePoint {
                 // The call's memory comes first, so that a refusal leaves the book unchanged.
                 let call = call_of(self.alloc, row)?;
                 let row = row.copy()?;
+                let deliveries = self.with_delivery(&row.profile, self.outbox.next_number())?;
                 self.book.install(row)?;
                 self.outbox.add(call);
+                self.deliveries = deliveries;
                 Ok(Reply::Accepted)
             }
         }
@@ -364,9 +374,11 @@ impl ChargePoint {
                 let number = numbers.next_transaction();
                 let begin = begin.copy(self.alloc)?;
                 let profile = self.profile_at_start(connector, &begin)?;
+                let deliveries = self.with_started(connector, &profile)?;
                 // The waiting start ends last, since the book may still run out of memory.
                 self.book.start(connector, begin, number, profile)?;
                 self.end_start(connector);
+                self.deliveries = deliveries;
                 Ok(Reply::Started(number))
             }
         }
@@ -394,6 +406,22 @@ impl ChargePoint {
             // Before its call went out, the point can't have begun this transaction for it.
             Some(start) if self.has_gone_out(start.call) => Some(start),
             _ => None,
+        }
+    }
+
+    /// Returns the charge point's deliveries with that of the profile with which a transaction
+    /// begins at a connector: it came with the call of the remote start that the transaction ends.
+    fn with_started(
+        &self,
+        connector: u32,
+        profile: &Option<Profile>,
+    ) -> Result<Deliveries, AllocError>
+        ensures { IfOk result (λ made. made ≡ brought_at_start self.now profile.now
+            (ended_start self.now.outbox self.now.waiting connector)) }
+    {
+        match (profile, self.ended_start(connector)) {
+            (Some(profile), Some(start)) => self.with_delivery(profile, start.call),
+            _ => self.deliveries.copy(),
         }
     }
 
@@ -542,6 +570,7 @@ impl ChargePoint {
         }
         if !accepted {
             self.waiting.reject(call);
+            self.deliveries.reject(call);
         }
         Ok(Reply::Confirmed)
     }
@@ -661,6 +690,7 @@ impl ChargePoint {
         ensures book { self.new.book ≡ self.old.book }
         ensures outbox { self.new.outbox ≡ self.old.outbox }
         ensures waiting { self.new.waiting ≡ self.old.waiting }
+        ensures deliveries { self.new.deliveries ≡ self.old.deliveries }
     {
         if let Some(audit) = &mut self.audit {
             audit.verdict = Some(audit.kept_verdict(self.book.book(), verdict));
@@ -776,6 +806,50 @@ impl ChargePoint {
         ensures { result.now ≡ self.now.waiting }
     {
         self.waiting.as_slice()
+    }
+
+    // ---- deliveries
+
+    /// Returns the charge point's deliveries with that of a profile by the call of a number.
+    fn with_delivery(&self, profile: &Profile, call: u64) -> Result<Deliveries, AllocError>
+        ensures { IfOk result (λ made. made ≡ brought_by self.now profile.now call) }
+    {
+        let new = Delivery {
+            profile: profile.id,
+            call,
+            is_rejected: false,
+        };
+        self.deliveries.with(self.book().view().rows, new)
+    }
+
+    /// Returns the state of an installed profile at the point, which may have lost what came by a
+    /// call before the one of the number `lost`.
+    pub fn profile_state(&self, row: &Row, lost: u64) -> ProfileState
+        ensures { result ≡ profile_state_at self.now lost row.now }
+    {
+        let Some(delivery) = self.deliveries.of_row(row) else {
+            return ProfileState::Unsure;
+        };
+        if delivery.is_rejected {
+            ProfileState::Rejected
+        } else if self.outbox.is_unconfirmed(delivery.call) {
+            ProfileState::Sent
+        } else if delivery.call < lost.max(self.lost_before()) {
+            ProfileState::Unsure
+        } else {
+            ProfileState::Held
+        }
+    }
+
+    /// Returns the first call to the charge point whose profile it can't have lost before its last
+    /// audit: that of the audit, if the point differed in it.
+    fn lost_before(&self) -> u64
+        ensures { result ≡ lost_before self.now.audit }
+    {
+        match &self.audit {
+            Some(audit) if audit.verdict == Some(Verdict::Differs) => audit.number,
+            _ => 0,
+        }
     }
 
     // ---- all calls

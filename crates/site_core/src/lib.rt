@@ -12,6 +12,7 @@ mod call_queue;
 mod charge_point;
 mod charge_points;
 mod decision;
+mod deliveries;
 mod headline;
 mod machine;
 mod numbers;
@@ -34,6 +35,7 @@ pub use call_laws::{
     histories_go_on_from_any_state, histories_keep_points_in_step, histories_send_calls_in_order,
     skipped_sends_send_nothing,
 };
+pub use deliveries::{Delivery, ProfileState};
 pub use headline::{
     answered_schedules_are_right, answers_are_right, answers_follow_one_take, answers_stay,
     numbers_tell_of_histories, only_events_change_the_state, points_follow_events,

@@ -1,5 +1,4 @@
 -- The code's comparison is the one of the definition.
-use Rattle.std.proofs.Common.{◌≡◌}
 use Rattle.site_core.proofs.EqualLemmas.{transactions_test}
 use Rattle.site_core.proofs.audit.PointAudit.has_transactions_of.Goals as goal
 

@@ -1,5 +1,4 @@
 -- The code's comparison is the one of the definition.
-use Rattle.std.proofs.Common.{◌≡◌}
 use Rattle.site_core.proofs.EqualLemmas.{request_test}
 use Rattle.site_core.proofs.audit.PointAudit.is_judged_by.Goals as goal
 
