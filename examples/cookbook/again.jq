@@ -1,2 +1,2 @@
 # Each profile of the point $point that `central show --json` prints, as a call that installs it.
-.points[] | select(.id == $point) | .profiles[] | [2, "1", "SetChargingProfile", del(.installed)]
+.points[] | select(.id == $point) | .profiles[] | [2, "1", "SetChargingProfile", {connectorId, csChargingProfiles}]

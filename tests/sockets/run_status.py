@@ -132,6 +132,9 @@ def figures_that_follow(program):
             for faulty in ("f", "g"):  # said once a minute
                 wanted = [error(faulty, "PropertyConstraintViolation", "UnknownConnector")]
                 expect("a faulty start", point.texts_of(start(faulty, connector=9)), wanted)
+            told = point_of(running)["refused"]
+            expect("what was refused", (point_of(running)["refusals"], told["errorCode"], told["errorDescription"]), (2, "PropertyConstraintViolation", "UnknownConnector"))
+            expect("what was refused, in the figures", metrics(running)['central_messages_refused_total{point="P1"}'], 2)
         until("the point is lost", lambda: point_of(running)["connectedSince"] is None)
         with RawClient(running) as stranger:
             stranger.shake_hands("/P9", ["Sec-WebSocket-Protocol: ocpp1.6"])
@@ -163,20 +166,26 @@ def point_that_may_have_forgotten(program):
             operator.texts_of(install("i", fields))
             point.texts_of(boot("b"))
             point.texts_of(accepted("0"))
-            expect("with an install that waits", forgotten(), False)
+            expect("with an install that waits", (forgotten(), states_of(running)), (False, ["sent"]))
             point.texts_of(accepted("1"))
-            expect("once it is confirmed", forgotten(), False)
+            expect("once it is confirmed", (forgotten(), states_of(running)), (False, ["held"]))
+            expect("the table's status", shown(program, running)[0], 0)
             point.texts_of(boot("c"))
-            expect("behind another boot", forgotten(), True)
-            expect("in the figures", metrics(running)['central_point_may_have_forgotten{point="P1"}'], 1)
+            expect("behind another boot", (forgotten(), states_of(running)), (True, ["unsure"]))
+            figures = [metrics(running)[f'central_point_{name}{{point="P1"}}'] for name in ("may_have_forgotten", "unheld_rows")]
+            expect("in the figures", figures, [1, 1])
             status, printed, _ = shown(program, running)
-            wanted = "P1: it booted, and may have forgotten its profiles: audit it, or install them anew"
-            expect("in the table", (status, printed.splitlines()[-1]), (0, wanted))
-            operator.texts_of(install("j", fields))
-            expect("with the install that waits anew", forgotten(), False)
-            point.texts_of(heartbeat("h"))
+            wanted = ["P1: TxDefaultProfile 1 at connector 0 is unsure", "P1: it may have lost profiles: audit it, or install them anew"]
+            expect("in the table", (status, printed.splitlines()[-2:]), (2, wanted))
+            operator.texts_of(install("k", profile(2, [6.0], 1)))
+            point.texts_of(heartbeat("g"))
             point.texts_of(accepted("2"))
-            expect("once it is confirmed anew", forgotten(), False)
+            expect("with another profile", (forgotten(), states_of(running)), (True, ["unsure", "held"]))
+            operator.texts_of(install("j", fields))
+            expect("with the install that waits anew", (forgotten(), states_of(running)), (False, ["held", "sent"]))
+            point.texts_of(heartbeat("h"))
+            point.texts_of(accepted("3"))
+            expect("once it is confirmed anew", (forgotten(), states_of(running)), (False, ["held", "held"]))
 
 
 def replies_that_accept_nothing(program):
@@ -199,7 +208,7 @@ def replies_that_accept_nothing(program):
                 now = point_of(running)
                 reason = "Unknown" if "Unknown" in reply else reply
                 expect(f"the rejection by {reply}", (now["rejections"], now["rejected"]["reason"]), (count, reason))
-                expect(f"what it may have forgotten behind {reply}", now["mayHaveForgotten"], True)
+                expect(f"what it has behind {reply}", (states_of(running), now["unheld"]), (["rejected"], 1))
             expect("in the figures", metrics(running)['central_calls_rejected_total{point="P1"}'], len(replies))
             # A reply has no answer, which would wait for the disk. This message has.
             point.texts_of(heartbeat("last"))
@@ -227,6 +236,12 @@ def an_audit_that_differs(program):
                 point.texts_of(heartbeat(f"h{number}"))
                 point.texts_of(schedule_reply(number, [(0, limit)]))
                 expect(f"told {limit}", (metrics(running)[figure], warning in get(running, "/")[2]), (int(differs), differs))
+                expect(f"what it has, told {limit}", states_of(running), ["unsure" if differs else "held"])
+
+
+def states_of(running):
+    """The states of P1's profiles at the point, in the order of their installs."""
+    return [entry["state"] for entry in point_of(running)["profiles"]]
 
 
 def boots_in(data):
@@ -277,7 +292,7 @@ def boots_over_restarts(program):
                 point.texts_of(heartbeat("h"))
                 point.texts_of(accepted("2"))
                 expect("once it is confirmed", forgotten(running), False)
-                until("the boot is out of the folder", lambda: [line[1] for line in boots_in(data)] == ["P2"])
+                expect("the boots in the folder", [line[1] for line in boots_in(data)], ["P1", "P2"])
         with Running(program, SITE, data.path, has_status=True) as running:
             expect("behind another restart", forgotten(running), False)
             expect("what check says then", remarks_on_boots(program, data), [])
@@ -332,7 +347,8 @@ def faulty_boots(program):
                 point.texts_of(heartbeat("h"))
                 point.texts_of(accepted("2"))
                 expect("behind an install", point_of(running)["mayHaveForgotten"], False)
-                until("it is out of the folder", lambda: boots_in(data) == [])
+                point.texts_of(boot("b"))
+                until("its boot is in the folder", lambda: [line[1:] for line in boots_in(data)] == [["P1", "3"]])
             said = running.kill_and_hear().decode().splitlines(True)
             expect("what is said", [line for line in said if path in line or "boots" in line], [left_out])
         os.remove(path)
@@ -388,8 +404,8 @@ def as_a_table(program):
             status, printed, said = shown(program, running)
             expect("how it ends", (status, said), (0, ""))
             lines = [re.split(r"  +", INSTANT.sub("AT", line)) for line in printed.splitlines()]
-            expect("its head", lines[0], ["point", "connected since", "last text", "booted", "confirmed", "in flight since", "waiting", "waiting since", "rejected"])
-            expect("its points", lines[1:], [["P1", "AT", "AT", "AT", "0", "AT", "0", "-", "0"], ["P2", "-", "-", "-", "0", "-", "1", "AT", "0"]])
+            expect("its head", lines[0], ["point", "connected since", "last text", "booted", "confirmed", "in flight since", "waiting", "waiting since", "rejected", "unheld"])
+            expect("its points", lines[1:], [["P1", "AT", "AT", "AT", "0", "AT", "0", "-", "0", "0"], ["P2", "-", "-", "-", "0", "-", "1", "AT", "0", "0"]])
         nobody = free_port()
         for url, wanted in (("http://127.0.0.1", 3), (f"http://127.0.0.1:{nobody}", 3), (f"ws://127.0.0.1:{nobody}", 4), (f"http://127.0.0.1:{running.port}", 3)):
             done = subprocess.run([program, "status", "--url", url], capture_output=True, timeout=PATIENCE, check=False, env=ENVIRONMENT)

@@ -252,8 +252,11 @@ class Week:
                 report("WRONG", f"{name}: cars {point.cars}, shown {told['transactions']}")
             if name not in self.offline and key(point.rows) != key(told["profiles"]):
                 report("WRONG", f"{name}: point has {key(point.rows)}, shown {key(told['profiles'])}")
-            if len(state[name]["profiles"]) != len(told["profiles"]):
+            if [row["state"] for row in state[name]["profiles"]] != [row["state"] for row in told["profiles"]]:
                 report("WRONG", f"{name}: status and show differ")
+            held = key([row for row in told["profiles"] if row["state"] == "held"])
+            if any(row not in key(point.rows) for row in held):
+                report("WRONG", f"{name}: point has {key(point.rows)}, held {held}")
 
 
 def key(rows):

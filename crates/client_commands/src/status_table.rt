@@ -8,7 +8,7 @@ use site_status::push_without_controls;
 use std::alloc::{AllocError, Global};
 
 /// The column headings of a table of points.
-const HEADINGS: [&str; 9] = [
+const HEADINGS: [&str; 10] = [
     "point",
     "connected since",
     "last text",
@@ -18,6 +18,7 @@ const HEADINGS: [&str; 9] = [
     "waiting",
     "waiting since",
     "rejected",
+    "unheld",
 ];
 
 /// The cell of a value that wasn't observed.
@@ -28,7 +29,7 @@ const NONE: &str = "-";
 pub struct StatusTable {
     /// The table, with warnings below it.
     pub text: String,
-    /// Whether the site is well.
+    /// Whether the site is well, and each connected point is known to have its profiles.
     pub is_healthy: bool,
 }
 
@@ -48,13 +49,12 @@ pub fn status_table(alloc: Global, state: &str) -> Result<StatusTable, ProgramFa
     };
     let mut page = Page::new(alloc);
     push_points(&mut page, points);
-    let is_healthy = health == "ok";
-    if !is_healthy {
+    if health != "ok" {
         write!(page, "the site: {health}\n");
     }
     Ok(StatusTable {
         text: page.finish()?,
-        is_healthy,
+        is_healthy: health == "ok" && !points.iter().any(|point| lacks_profiles(point)),
     })
 }
 
@@ -66,8 +66,42 @@ fn push_points(page: &mut Page, points: &[Value<'_>]) {
     }
     table.push_to(page, 0);
     for point in points {
+        push_unheld(page, point);
         push_warning(page, point);
     }
+}
+
+/// Returns whether a charge point is connected, and isn't known to have each profile that is meant
+/// for it, so that `status` doesn't say that all is well.
+fn lacks_profiles(point: &Value<'_>) -> bool {
+    text_in(point, "connectedSince").is_some() && number_in(point, "unheld") != Some("0")
+}
+
+/// Appends a line below the table of `status` for each profile that a charge point isn't known to
+/// have.
+fn push_unheld(page: &mut Page, point: &Value<'_>) {
+    let (Some(id), Some(Value::Array(profiles))) = (text_in(point, "id"), point.get("profiles"))
+    else {
+        return;
+    };
+    for profile in profiles {
+        if text_in(profile, "state") != Some("held") {
+            push_profile(page, id, profile);
+        }
+    }
+}
+
+/// Appends a line below the table of `status` with the state of an installed profile at its charge
+/// point.
+fn push_profile(page: &mut Page, point: &str, profile: &Value<'_>) {
+    let id = number_in(profile, "chargingProfileId").unwrap_or(NONE);
+    let purpose = text_in(profile, "chargingProfilePurpose").unwrap_or(NONE);
+    let connector = number_in(profile, "connectorId").unwrap_or(NONE);
+    let state = text_in(profile, "state").unwrap_or(NONE);
+    write!(
+        page,
+        "{point}: {purpose} {id} at connector {connector} is {state}\n"
+    );
 }
 
 /// Appends the row of a charge point to the table of `status`.
@@ -82,6 +116,7 @@ fn push_row(table: &mut Table, alloc: Global, point: &Value<'_>) {
     table.cell(number_in(point, "waiting").unwrap_or(NONE));
     table.cell(text_in(point, "waitingSince").unwrap_or(NONE));
     table.made_cell(rejected_cell(alloc, point));
+    table.cell(number_in(point, "unheld").unwrap_or(NONE));
 }
 
 /// Returns a cell in the table of `status`: the number of calls that a point rejected, and the last
@@ -103,15 +138,14 @@ fn rejected_cell(alloc: Global, point: &Value<'_>) -> Result<String, AllocError>
     Ok(cell)
 }
 
-/// Appends a warning for a charge point below the table of `status`, if it may have forgotten its
-/// profiles.
+/// Appends a warning for a charge point below the table of `status`, if it may have lost profiles.
 fn push_warning(page: &mut Page, point: &Value<'_>) {
     let (Some(true), Some(id)) = (flag_in(point, "mayHaveForgotten"), text_in(point, "id")) else {
         return;
     };
     write!(
         page,
-        "{id}: it booted, and may have forgotten its profiles: audit it, or install them anew\n"
+        "{id}: it may have lost profiles: audit it, or install them anew\n"
     );
 }
 

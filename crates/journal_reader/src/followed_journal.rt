@@ -64,6 +64,7 @@ impl FollowedJournal {
         Standing {
             machine: &self.machine,
             points: self.calls.as_slice(),
+            lost: &[],
             held: &[],
             lines: self.lines,
             faults: 0,

@@ -4,6 +4,7 @@
 
 mod checking;
 mod explaining;
+mod lost_profiles;
 mod picture_name;
 mod replaying;
 mod showing;

@@ -5,7 +5,7 @@ use ocpp_scalars::{Instant, Moments};
 use server_core::{PointReply, Rejected};
 use server_ports::Seats;
 use session::{Breach, Context, Ended, SentCall, SessionCore, SessionEvent};
-use site_status::{Boot, CallNumbers, Observation, SentMoment};
+use site_status::{Boot, CallNumbers, Observation, RefusedMessage, SentMoment};
 use std::alloc::{AllocError, Global};
 use std::rt::Clock;
 use std::sync::Wait;
@@ -78,7 +78,8 @@ impl<R: Wait + Clock> SessionWatch<'_, R> {
                 };
                 self.hear_reply(core, reply);
             }
-            SessionEvent::Added | SessionEvent::Refused(_) | SessionEvent::Other => {}
+            SessionEvent::Refused(fault) => self.hear_refused(fault, moment),
+            SessionEvent::Added | SessionEvent::Other => {}
         }
     }
 
@@ -135,6 +136,14 @@ impl<R: Wait + Clock> SessionWatch<'_, R> {
         drop(book);
         self.see(Observation::Booted(Boot { moment, first_call }));
         self.say(core, Event::Booted);
+    }
+
+    /// Records for the status page that a message of the session's point was refused. An action that
+    /// isn't implemented is no fault of the point.
+    fn hear_refused(&self, fault: CallFault, moment: Instant) {
+        if fault != CallFault::NotImplemented {
+            self.see(Observation::Refused(RefusedMessage { fault, moment }));
+        }
     }
 
     /// Records the point's reply to a call for the status page of the site, and reports a rejection

@@ -6,7 +6,7 @@ use ocpp_scalars::Instant;
 use site_core::Machine;
 use site_status::{
     Boot, CallMoments, CallNumbers, Observation, PointActivity, RejectedCalls, SentMoment,
-    SiteCounts, boot_to_keep,
+    SiteCounts,
 };
 use std::alloc::{AllocError, Global};
 use std::sync::{Mutex, Wait};
@@ -169,16 +169,9 @@ impl SiteWatch {
         } = reply;
         let mut seen = self.seen.lock(rt);
         let news = seen.points.get_mut(place)?;
-        let kept = boot_to_keep(news);
         let rejection = rejection_of(news.sent, call, rejection);
         let is_rejected = rejection.is_some();
         let action = news.reply(call, rejection, moment);
-        // A boot is kept until its point confirms an install, which this reply may do.
-        let is_new = boot_to_keep(news) != kept;
-        drop(seen);
-        if is_new {
-            self.boots.note(rt);
-        }
         if is_rejected {
             return Some(Rejected { action });
         }
@@ -200,12 +193,12 @@ impl SiteWatch {
         &self.boots
     }
 
-    /// Returns the boot to keep of each point, if there is one.
+    /// Returns the last boot of each point, if it has booted.
     pub fn boots<R: Wait>(&self, rt: &R, alloc: Global) -> Result<Vec<Option<Boot>>, AllocError> {
         let seen = self.seen.lock(rt);
         let mut boots = Vec::with_capacity(alloc, seen.points.len())?;
         for news in &seen.points {
-            boots.push(boot_to_keep(news))?;
+            boots.push(news.boot)?;
         }
         Ok(boots)
     }

@@ -1,14 +1,14 @@
 //! The state of each charge point as JSON, with OCPP's field names.
 
 use crate::call_of_point::{WaitingCall, state_name, state_of_call, waiting_calls};
-use crate::standing::Standing;
+use crate::standing::{PointProfiles, Standing};
 use crate::traced_calls::RejectedCall;
 use messages::{CallBody, push_payload_fields, push_profile};
 use page_text::JsonPage;
 use point_book::PointBook;
 use profile::{Profile, Row};
 use replay::Held;
-use site_core::{Machine, Outbox, PointAudit, WaitingStart};
+use site_core::{Machine, Outbox, PointAudit, ProfileState, WaitingStart};
 use std::alloc::{AllocError, Global};
 use transactions::Transaction;
 
@@ -23,7 +23,8 @@ pub fn standing_json(alloc: Global, standing: &Standing<'_>) -> Result<String, A
     page.array("points");
     for (place, calls) in standing.points.iter().enumerate() {
         if let Some(point) = machine.site().point(place) {
-            push_point(&mut page, machine, point.id, &calls.rejected);
+            let profiles = PointProfiles::of(standing, point.id, place);
+            push_point(&mut page, profiles, &calls.rejected);
         }
     }
     page.end_array();
@@ -34,13 +35,14 @@ pub fn standing_json(alloc: Global, standing: &Standing<'_>) -> Result<String, A
 
 /// Appends the state of a charge point to `show`'s JSON: its profiles, transactions, audit, waiting
 /// starts and calls.
-fn push_point(page: &mut JsonPage, machine: &Machine, id: &str, rejected: &[RejectedCall]) {
+fn push_point(page: &mut JsonPage, profiles: PointProfiles<'_>, rejected: &[RejectedCall]) {
+    let (machine, id) = (profiles.machine, profiles.point);
     let (Some(book), Some(outbox)) = (machine.book_of(id), machine.outbox_of(id)) else {
         return;
     };
     page.begin_object();
     page.text("id", id);
-    push_profiles(page, book);
+    push_profiles(page, profiles, book);
     push_transactions(page, book);
     push_audit(page, machine.audit_of(id));
     push_starts(page, outbox, machine.waiting_of(id));
@@ -50,21 +52,22 @@ fn push_point(page: &mut JsonPage, machine: &Machine, id: &str, rejected: &[Reje
 }
 
 /// Appends the charging profiles of a point to `show`'s JSON.
-fn push_profiles(page: &mut JsonPage, book: &PointBook) {
+fn push_profiles(page: &mut JsonPage, profiles: PointProfiles<'_>, book: &PointBook) {
     page.array("profiles");
     for row in book.view().rows {
-        push_row(page, row);
+        push_row(page, row, profiles.state_of(row));
     }
     page.end_array();
 }
 
 /// Appends an installed charging profile to `show`'s JSON, with its connector and the moment of the
 /// install.
-fn push_row(page: &mut JsonPage, row: &Row) {
+fn push_row(page: &mut JsonPage, row: &Row, state: ProfileState) {
     let profile = profile_json(page.allocator(), &row.profile);
     page.begin_object();
     page.number("connectorId", u64::from(row.connector));
     page.instant("installed", Some(row.moment));
+    page.text("state", state.name());
     page.made("csChargingProfiles", profile);
     page.end_object();
 }

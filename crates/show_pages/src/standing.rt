@@ -11,11 +11,11 @@ use page_text::Page;
 use point_book::PointBook;
 use profile::Row;
 use replay::Held;
-use site_core::{Machine, Outbox, PointAudit, WaitingStart};
+use site_core::{Machine, Outbox, PointAudit, ProfileState, WaitingStart};
 use std::alloc::{AllocError, Global};
 
 /// The column headings of the table of profiles.
-const PROFILE_HEADINGS: [&str; 8] = [
+const PROFILE_HEADINGS: [&str; 9] = [
     "id",
     "connector",
     "purpose",
@@ -24,6 +24,7 @@ const PROFILE_HEADINGS: [&str; 8] = [
     "from",
     "until",
     "periods",
+    "state",
 ];
 
 /// The column headings of the table of remote starts that wait.
@@ -38,11 +39,39 @@ pub struct Standing<'a> {
     pub machine: &'a Machine,
     /// The progress of the calls to each point, in the order of the site file.
     pub points: &'a [PointCalls],
+    /// For each point, the first call whose profile it can't have lost when it last booted. Empty
+    /// if no boots are known.
+    pub lost: &'a [u64],
     /// The held requests.
     pub held: &'a [Held],
     /// The number of lines, and how many of them have a fault.
     pub lines: u64,
     pub faults: u64,
+}
+
+/// The profiles of a point.
+#[derive(Clone, Copy)]
+pub(crate) struct PointProfiles<'a> {
+    pub(crate) machine: &'a Machine,
+    pub(crate) point: &'a str,
+    /// The first call whose profile the point can't have lost when it last booted.
+    lost: u64,
+}
+
+impl<'a> PointProfiles<'a> {
+    /// Returns the profiles of the point at a place of the site, for `show`'s page or its JSON.
+    pub(crate) fn of(standing: &Standing<'a>, point: &'a str, place: usize) -> PointProfiles<'a> {
+        PointProfiles {
+            machine: standing.machine,
+            point,
+            lost: standing.lost.get(place).copied().unwrap_or(0),
+        }
+    }
+
+    /// Returns the state of an installed profile at its point, for `show`'s page or its JSON.
+    pub(crate) fn state_of(&self, row: &Row) -> ProfileState {
+        self.machine.profile_state_of(self.point, row, self.lost)
+    }
 }
 
 /// Formats the state of each point, in the order of the site file, and the held requests. A point
@@ -53,7 +82,8 @@ pub fn standing_text(alloc: Global, standing: &Standing<'_>) -> Result<String, A
     let mut page = Page::new(alloc);
     for (place, calls) in standing.points.iter().enumerate() {
         if let Some(point) = machine.site().point(place) {
-            push_point(&mut page, machine, point.id, &calls.rejected);
+            let profiles = PointProfiles::of(standing, point.id, place);
+            push_point(&mut page, profiles, &calls.rejected);
         }
     }
     push_held(&mut page, machine, standing.held);
@@ -62,7 +92,8 @@ pub fn standing_text(alloc: Global, standing: &Standing<'_>) -> Result<String, A
 
 /// Appends the state of a charge point to `show`'s text page: its profiles, transactions, audit,
 /// waiting starts and calls.
-fn push_point(page: &mut Page, machine: &Machine, id: &str, rejected: &[RejectedCall]) {
+fn push_point(page: &mut Page, profiles: PointProfiles<'_>, rejected: &[RejectedCall]) {
+    let (machine, id) = (profiles.machine, profiles.point);
     let (Some(book), Some(outbox)) = (machine.book_of(id), machine.outbox_of(id)) else {
         return;
     };
@@ -77,7 +108,7 @@ fn push_point(page: &mut Page, machine: &Machine, id: &str, rejected: &[Rejected
         return push_empty_point(page, id, outbox, &calls);
     }
     write!(page, "{id}\n");
-    push_profiles(page, book);
+    push_profiles(page, profiles, book);
     push_transactions(page, book);
     push_audit(page, audit);
     push_starts(page, outbox, starts);
@@ -208,7 +239,7 @@ fn push_empty_point(page: &mut Page, id: &str, outbox: &Outbox, calls: &[Waiting
 }
 
 /// Appends the table of a point's charging profiles to `show`'s text page, or that there is none.
-fn push_profiles(page: &mut Page, book: &PointBook) {
+fn push_profiles(page: &mut Page, profiles: PointProfiles<'_>, book: &PointBook) {
     let rows = book.view().rows;
     if rows.is_empty() {
         return page.push_str("  no profile\n");
@@ -216,6 +247,7 @@ fn push_profiles(page: &mut Page, book: &PointBook) {
     let mut table = Table::new(page.allocator(), &PROFILE_HEADINGS);
     for row in rows {
         push_profile(&mut table, page.allocator(), book, row);
+        table.cell(profiles.state_of(row).name());
     }
     page.push_str("  profiles\n");
     table.push_to(page, 4);

@@ -14,7 +14,7 @@ use replay::Progress;
 use show_pages::{Depth, Trace, ending_text, trace_text};
 use site_core::Machine;
 use site_rules::Site;
-use site_status::{Boot, may_forget_since};
+use site_status::{Boot, lost_at_kept_boot, may_have_lost};
 use std::alloc::{AllocError, Global};
 use std::rt::Clock;
 
@@ -119,7 +119,7 @@ fn find_in_boots(
         let (Some(point), Some(boot)) = (machine.site().point(place), *boot) else {
             continue;
         };
-        if may_forget(alloc, machine, point.id, boot)? {
+        if may_forget(machine, point.id, boot) {
             findings.push(check_boot(alloc, point.id, boot.moment)?)?;
         }
     }
@@ -128,14 +128,10 @@ fn find_in_boots(
 
 /// Returns whether the point of this identity may have forgotten its profiles in this boot, for a
 /// remark of `check`.
-fn may_forget(
-    alloc: Global,
-    machine: &Machine,
-    point: &str,
-    boot: Boot,
-) -> Result<bool, AllocError> {
-    let (Some(book), Some(outbox)) = (machine.book_of(point), machine.outbox_of(point)) else {
-        return Ok(false);
-    };
-    may_forget_since(alloc, boot, book, outbox, machine.audit_of(point))
+fn may_forget(machine: &Machine, point: &str, boot: Boot) -> bool {
+    let lost = lost_at_kept_boot(machine, point, boot);
+    match machine.book_of(point) {
+        Some(book) => may_have_lost(machine, point, lost, book.view().rows),
+        None => false,
+    }
 }

@@ -2,6 +2,5 @@ pub mod Asked
 pub mod Calls
 pub mod Found
 pub mod Health
-pub mod KeptBoot
 pub mod Reboot
 pub mod News

@@ -5,13 +5,12 @@ use Rattle.std.specs.declared.alloc.Global.{Global}
 use Rattle.std.specs.declared.string.String.{String}
 use Rattle.ocpp_scalars.specs.declared.instant.Instant.{Instant}
 use Rattle.messages.specs.declared.action_kind.ActionKind.{ActionKind}
-use Rattle.messages.specs.declared.action_kind.ActionKind.TheVariants.{SetChargingProfile}
 use Rattle.site_status.specs.declared.point_activity.Connection.{Connection}
 use Rattle.site_status.specs.declared.point_activity.PointActivity.{PointActivity}
 use Rattle.site_status.specs.declared.point_activity.RejectedCalls.{RejectedCalls}
 use Rattle.site_status.specs.declared.point_activity.SentMoment.{SentMoment}
 use Rattle.site_status.specs.declared.point_activity.Observation.{Observation}
-use Rattle.site_status.specs.declared.point_activity.Observation.TheVariants.{Connected, Heard, Booted, Sent}
+use Rattle.site_status.specs.declared.point_activity.Observation.TheVariants.{Connected, Heard, Booted, Sent, Refused}
 
 -- ---- connections
 
@@ -32,10 +31,15 @@ unseen = record {
   heard = None;
   boot = None;
   sent = None;
-  installed = None;
   rejections = 0;
   rejection = None;
+  refusals = 0;
+  refused = None;
 }
+
+-- a count stops at the maximum of its type
+abbrev pub one_more : ℕ → ℕ
+one_more count = min (count + 1) (2 ^ 64 - 1)
 
 -- each changes its own subject, and nothing else
 abbrev pub seen : PointActivity → Observation → PointActivity
@@ -44,6 +48,8 @@ seen old (Connected link moment) =
 seen old (Heard moment) = record old { heard = Some moment }
 seen old (Booted boot) = record old { boot = Some boot }
 seen old (Sent sent) = record old { sent = Some sent }
+seen old (Refused message) =
+    record old { refusals = one_more old.refusals; refused = Some message }
 
 -- ---- replies
 
@@ -52,19 +58,9 @@ abbrev pub action_of : Option SentMoment → ℕ → Option ActionKind
 action_of None call = None
 action_of (Some sent) call = if sent.number == call then Some sent.action else None
 
--- the last confirmed install, after a call of this action was confirmed
-abbrev pub installed_by : Option ActionKind → ℕ → Option ℕ → Option ℕ
-installed_by (Some SetChargingProfile) call before = Some call
-installed_by _ call before = before
-
--- a count stops at the maximum of its type
-abbrev pub one_more : ℕ → ℕ
-one_more count = min (count + 1) (2 ^ 64 - 1)
-
 -- after a reply to a call, which rejects it if there is a reason
 abbrev pub replied : PointActivity → ℕ → Option (String Global) → Instant → PointActivity
-replied old call None moment =
-    record old { installed = installed_by (action_of old.sent call) call old.installed }
+replied old call None moment = old
 replied old call (Some reason) moment = record old {
   rejections = one_more old.rejections;
   rejection = Some (record {

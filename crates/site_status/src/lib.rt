@@ -9,7 +9,6 @@ mod call_moments;
 mod calls;
 mod health;
 mod journal_report;
-mod kept_boot;
 mod metrics;
 mod next_day;
 mod one_line;
@@ -30,15 +29,15 @@ pub use call_moments::{CallMoments, CallNumbers};
 pub use calls::{in_flight_calls, in_flight_since, waiting_calls};
 pub use health::Health;
 pub use journal_report::{JournalReport, JournalState};
-pub use kept_boot::{boot_to_keep, may_forget_since, resumed_boot};
 pub use metrics::metrics_text;
 pub use next_day::connector_picture;
 pub use one_line::push_without_controls;
 pub use page::{POINTS_OF_PAGE, site_page};
 pub use point_activity::{
-    Boot, Connection, Observation, PointActivity, RejectedCalls, Rejection, SentMoment,
+    Boot, Connection, Observation, PointActivity, RefusedMessage, RejectedCalls, Rejection,
+    SentMoment,
 };
-pub use reboot::{Reboot, may_have_forgotten};
+pub use reboot::{lost_at_boot, lost_at_kept_boot, may_have_lost, resumed_boot};
 pub use site_report::{SiteCounts, SiteReport};
 pub use state_page::state_json;
 pub use status_answer::{ContentKind, StatusAnswer, answer_of, health_answer, not_found};

@@ -224,11 +224,13 @@ enum PointFigure {
     InFlightSeconds,
     Confirmed,
     Rejected,
+    Refused,
     MayHaveForgotten,
+    Unheld,
     AuditDiffers,
 }
 
-const POINT_FIGURES: [PointFigure; 11] = [
+const POINT_FIGURES: [PointFigure; 13] = [
     PointFigure::Connected,
     PointFigure::LastText,
     PointFigure::Boot,
@@ -238,7 +240,9 @@ const POINT_FIGURES: [PointFigure; 11] = [
     PointFigure::InFlightSeconds,
     PointFigure::Confirmed,
     PointFigure::Rejected,
+    PointFigure::Refused,
     PointFigure::MayHaveForgotten,
+    PointFigure::Unheld,
     PointFigure::AuditDiffers,
 ];
 
@@ -255,7 +259,9 @@ impl PointFigure {
             PointFigure::InFlightSeconds => "central_call_in_flight_seconds",
             PointFigure::Confirmed => "central_calls_confirmed_total",
             PointFigure::Rejected => "central_calls_rejected_total",
+            PointFigure::Refused => "central_messages_refused_total",
             PointFigure::MayHaveForgotten => "central_point_may_have_forgotten",
+            PointFigure::Unheld => "central_point_unheld_rows",
             PointFigure::AuditDiffers => "central_point_audit_differs",
         }
     }
@@ -273,9 +279,11 @@ impl PointFigure {
             PointFigure::InFlightSeconds => "How long ago that call was sent.",
             PointFigure::Confirmed => "Calls that it confirmed, whatever it replied.",
             PointFigure::Rejected => "Calls that it rejected since the journal began.",
-            PointFigure::MayHaveForgotten => {
-                "Whether it booted and confirmed no install since, so that it may have lost its profiles."
-            }
+            PointFigure::Refused =>
+                "Messages of it that were answered with a CALLERROR since the program began.",
+            PointFigure::MayHaveForgotten =>
+                "Whether it may have lost a profile that it accepted, at a boot or before its audit.",
+            PointFigure::Unheld => "Installed profiles that it isn't known to have.",
             PointFigure::AuditDiffers => "Whether it told another schedule in its last audit.",
         }
     }
@@ -283,7 +291,10 @@ impl PointFigure {
     /// Returns whether the metric of each charge point is a counter for Prometheus, rather than a
     /// gauge.
     fn is_counter(self) -> bool {
-        matches!(self, PointFigure::Confirmed | PointFigure::Rejected)
+        matches!(
+            self,
+            PointFigure::Confirmed | PointFigure::Rejected | PointFigure::Refused
+        )
     }
 
     /// Returns the value of the Prometheus metric for a charge point at a moment, or `None` if
@@ -299,7 +310,9 @@ impl PointFigure {
             PointFigure::InFlightSeconds => seconds_since(point.calls.in_flight_since, now),
             PointFigure::Confirmed => Some(point.calls.confirmed),
             PointFigure::Rejected => Some(point.news.rejections),
-            PointFigure::MayHaveForgotten => Some(u64::from(point.calls.may_have_forgotten)),
+            PointFigure::Refused => Some(point.news.refusals),
+            PointFigure::MayHaveForgotten => Some(u64::from(point.calls.may_have_lost)),
+            PointFigure::Unheld => Some(point.calls.unheld),
             PointFigure::AuditDiffers => Some(u64::from(
                 point.calls.audit == AuditOutcome::Differs,
             )),

@@ -7,14 +7,16 @@ ghost use Rattle.site_status.specs.Found.{is_page};
 use crate::health::Health;
 use crate::next_day::explained_day;
 use crate::page_style::STYLE;
-use crate::point_activity::Rejection;
-use crate::point_summary::{PointSummary, calls_of_points, summary_at};
+use crate::point_activity::{RefusedMessage, Rejection};
+use crate::point_summary::{CallSummary, PointSummary, calls_of_points, summary_at};
 use crate::site_report::SiteReport;
 use crate::strip::{Shown, push_strip};
 use explain_pages::push_element;
-use messages::AuditOutcome;
+use messages::{AuditOutcome, purpose_name};
 use ocpp_scalars::Instant;
 use page_text::Page;
+use profile::Row;
+use site_core::ProfileState;
 use std::alloc::{AllocError, Global};
 
 /// The number of points on a page.
@@ -37,7 +39,7 @@ pub fn site_page(
     };
     let calls = calls_of_points(alloc, report)?;
     let mut page = Page::new(alloc);
-    push_opening(&mut page, report);
+    push_opening(&mut page, report, unheld_points(report, &calls));
     push_pages(&mut page, number, points.div_ceil(POINTS_OF_PAGE));
     page.push_str("<main>\n");
     for (place, calls) in calls.iter().enumerate().skip(first).take(POINTS_OF_PAGE) {
@@ -60,7 +62,7 @@ fn first_of_page(points: usize, number: usize) -> Option<usize>
 
 /// Appends the beginning of the status page up to its points: the moment, the site's health and the
 /// numbers of sessions.
-fn push_opening(page: &mut Page, report: &SiteReport<'_>) {
+fn push_opening(page: &mut Page, report: &SiteReport<'_>, unheld: usize) {
     page.push_str("<!DOCTYPE html>\n<html lang=\"en\">\n<head>\n<meta charset=\"utf-8\">\n");
     page.push_str("<meta name=\"viewport\" content=\"width=device-width, initial-scale=1\">\n");
     page.push_str("<title>The site</title>\n");
@@ -69,6 +71,7 @@ fn push_opening(page: &mut Page, report: &SiteReport<'_>) {
     push_moment(page, report.moment);
     page.push_str("</h1>\n<p>");
     page.push_str(health_sentence(Health::of(Some(report.journal.state))));
+    push_unheld(page, unheld);
     let counts = report.counts;
     let (points, operators) = (counts.point_sessions, counts.operator_sessions);
     write!(
@@ -87,6 +90,29 @@ fn health_sentence(health: Health) -> &'static str {
             "<strong>The device of its journal is full: changes are refused until there is room.</strong>"
         }
         Health::JournalBroken => "<strong>Its journal can't be written.</strong>",
+    }
+}
+
+/// Returns how many connected points aren't known to have all their profiles, for the top of the
+/// status page.
+fn unheld_points(report: &SiteReport<'_>, calls: &[CallSummary]) -> usize {
+    let mut points = 0usize;
+    for (news, calls) in report.points.iter().zip(calls) {
+        if news.connection.since.is_some() && calls.unheld > 0 {
+            points = points.saturating_add(1);
+        }
+    }
+    points
+}
+
+/// Appends to the top of the status page how many connected points aren't known to have all their
+/// profiles, if any.
+fn push_unheld(page: &mut Page, points: usize) {
+    if points > 0 {
+        write!(
+            page,
+            " <strong>Connected points without a profile that is meant for them: {points}.</strong>"
+        );
     }
 }
 
@@ -173,6 +199,7 @@ fn push_calls(page: &mut Page, point: &PointSummary<'_>) {
     );
     push_count(page, "Calls confirmed", point.calls.confirmed);
     push_count(page, "Calls rejected", point.news.rejections);
+    push_count(page, "Messages refused", point.news.refusals);
 }
 
 /// Appends to the status page what an operator has to do about a charge point, if anything.
@@ -180,14 +207,37 @@ fn push_warnings(page: &mut Page, point: &PointSummary<'_>) {
     if let Some(rejection) = &point.news.rejection {
         push_rejection(page, rejection);
     }
-    if point.calls.may_have_forgotten {
-        page.push_str("<p class=\"warning\">It booted, and may have forgotten its profiles: ");
+    if let Some(refused) = point.news.refused {
+        push_refused(page, refused);
+    }
+    for row in point.book.view().rows {
+        push_profile_state(page, row, point.profile_state_of(row));
+    }
+    if point.calls.may_have_lost {
+        page.push_str("<p class=\"warning\">It may have lost profiles: ");
         page.push_str("audit it, or install them anew.</p>\n");
     }
     if point.calls.audit == AuditOutcome::Differs {
         page.push_str("<p class=\"warning\">In its last audit it told another schedule: ");
         page.push_str("install its profiles anew, and audit it again.</p>\n");
     }
+}
+
+/// Appends to the status page the warning that a charge point isn't known to have an installed
+/// profile, unless it has it.
+fn push_profile_state(page: &mut Page, row: &Row, state: ProfileState) {
+    let what = match state {
+        ProfileState::Held => return,
+        ProfileState::Sent => "the point hasn't confirmed it yet",
+        ProfileState::Unsure => "the point may have lost it",
+        ProfileState::Rejected => "the point rejected it, and doesn't have it",
+    };
+    let (purpose, id) = (purpose_name(row.profile.purpose), row.profile.id);
+    let connector = row.connector;
+    write!(
+        page,
+        "<p class=\"warning\">{purpose} {id} at connector {connector}: {what}.</p>\n"
+    );
 }
 
 /// Appends to the status page the warning that a charge point rejected a call, with its reason.
@@ -200,6 +250,14 @@ fn push_rejection(page: &mut Page, rejection: &Rejection) {
     page.push_str(" at ");
     push_moment(page, rejection.moment);
     push_element(page, ": ", rejection.reason.as_str(), "</p>\n");
+}
+
+/// Appends to the status page the warning that a charge point's last faulty message was refused.
+fn push_refused(page: &mut Page, refused: RefusedMessage) {
+    let (code, description) = (refused.fault.code(), refused.fault.description());
+    page.push_str("<p class=\"warning\">Its message at ");
+    push_moment(page, refused.moment);
+    write!(page, " was refused: {code} {description}</p>\n");
 }
 
 /// The text in place of a moment that wasn't observed.

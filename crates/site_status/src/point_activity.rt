@@ -3,7 +3,7 @@
 ghost use Rattle.std.specs.Prelude.{◌≡◌, ◌==◌, IfOk};
 ghost use Rattle.site_status.specs.News.{action_of, connected, left, replied, resumed, seen, unseen};
 
-use messages::ActionKind;
+use messages::{ActionKind, CallFault};
 use ocpp_scalars::Instant;
 use std::alloc::{AllocError, Global};
 
@@ -18,12 +18,13 @@ pub struct PointActivity {
     pub boot: Option<Boot>,
     /// The last call that was sent to it.
     pub sent: Option<SentMoment>,
-    /// The number of the last install that it confirmed and didn't reject.
-    pub installed: Option<u64>,
     /// The number of calls that it rejected, including those before the program began, and the last
     /// of them.
     pub rejections: u64,
     pub rejection: Option<Rejection>,
+    /// The number of its messages that were refused, and the last of them.
+    pub refusals: u64,
+    pub refused: Option<RefusedMessage>,
 }
 
 /// The newest link of a point. Links are numbered from 1, in the order in which points get them.
@@ -47,6 +48,13 @@ pub struct Boot {
 pub struct SentMoment {
     pub number: u64,
     pub action: ActionKind,
+    pub moment: Instant,
+}
+
+/// A message of a point that was refused: it was answered with a CALLERROR.
+#[derive(Clone, Copy, PartialEq, Eq)]
+pub struct RefusedMessage {
+    pub fault: CallFault,
     pub moment: Instant,
 }
 
@@ -77,6 +85,7 @@ pub enum Observation {
     Heard { moment: Instant },
     Booted(Boot),
     Sent(SentMoment),
+    Refused(RefusedMessage),
 }
 
 impl Connection {
@@ -121,9 +130,10 @@ impl PointActivity {
             heard: None,
             boot: None,
             sent: None,
-            installed: None,
             rejections: 0,
             rejection: None,
+            refusals: 0,
+            refused: None,
         }
     }
 
@@ -140,9 +150,10 @@ impl PointActivity {
             heard: self.heard,
             boot: self.boot,
             sent: self.sent,
-            installed: self.installed,
             rejections: self.rejections,
             rejection,
+            refusals: self.refusals,
+            refused: self.refused,
         })
     }
 
@@ -155,6 +166,10 @@ impl PointActivity {
             Observation::Heard { moment } => self.heard = Some(moment),
             Observation::Booted(boot) => self.boot = Some(boot),
             Observation::Sent(sent) => self.sent = Some(sent),
+            Observation::Refused(message) => {
+                self.refusals = self.refusals.saturating_add(1);
+                self.refused = Some(message);
+            }
         }
     }
 
@@ -170,20 +185,14 @@ impl PointActivity {
         ensures action { result ≡ action_of self.old.sent call }
     {
         let action = self.action_of(call);
-        match rejection {
-            Some(reason) => {
-                self.rejections = self.rejections.saturating_add(1);
-                self.rejection = Some(Rejection {
-                    call,
-                    action,
-                    moment,
-                    reason,
-                });
-            }
-            // Without the call's action it isn't known to be an install, so the warning after a
-            // boot stays.
-            None if action == Some(ActionKind::SetChargingProfile) => self.installed = Some(call),
-            None => {}
+        if let Some(reason) = rejection {
+            self.rejections = self.rejections.saturating_add(1);
+            self.rejection = Some(Rejection {
+                call,
+                action,
+                moment,
+                reason,
+            });
         }
         action
     }

@@ -2,11 +2,13 @@
 
 use crate::calls::{in_flight_calls, in_flight_since, waiting_calls};
 use crate::point_activity::PointActivity;
-use crate::reboot::{Reboot, may_have_forgotten};
+use crate::reboot::{lost_at_boot, may_have_lost, unheld_profiles};
 use crate::site_report::SiteReport;
 use messages::AuditOutcome;
 use ocpp_scalars::Instant;
 use point_book::PointBook;
+use profile::Row;
+use site_core::{Machine, ProfileState};
 use std::alloc::{AllocError, Global};
 
 /// The summary of a charge point.
@@ -14,8 +16,17 @@ use std::alloc::{AllocError, Global};
 pub(crate) struct PointSummary<'a> {
     pub(crate) id: &'a str,
     pub(crate) news: &'a PointActivity,
+    pub(crate) machine: &'a Machine,
     pub(crate) book: &'a PointBook,
     pub(crate) calls: CallSummary,
+}
+
+impl PointSummary<'_> {
+    /// Returns what the charge point is known to have of one of its installed profiles, for the
+    /// texts of the status port.
+    pub(crate) fn profile_state_of(&self, row: &Row) -> ProfileState {
+        self.machine.profile_state_of(self.id, row, self.calls.lost)
+    }
 }
 
 /// The summary of the calls to a charge point.
@@ -29,7 +40,11 @@ pub(crate) struct CallSummary {
     pub(crate) in_flight: usize,
     pub(crate) in_flight_since: Option<Instant>,
     pub(crate) audit: AuditOutcome,
-    pub(crate) may_have_forgotten: bool,
+    /// The first call whose profile it can't have lost when it last booted.
+    pub(crate) lost: u64,
+    pub(crate) may_have_lost: bool,
+    /// The number of installed profiles that it isn't known to have.
+    pub(crate) unheld: u64,
 }
 
 /// Summarizes the calls to each charge point for the texts of the status port, in the order of the
@@ -40,37 +55,35 @@ pub(crate) fn calls_of_points(
 ) -> Result<Vec<CallSummary>, AllocError> {
     let mut all = Vec::new(alloc);
     for place in 0..report.points.len() {
-        let calls = calls_at(alloc, report, place)?;
-        all.push(calls)?;
+        all.push(calls_at(report, place))?;
     }
     Ok(all)
 }
 
 /// Summarizes the calls to the point at a place for the status port, as no calls if the site has no
 /// point there.
-fn calls_at(
-    alloc: Global,
-    report: &SiteReport<'_>,
-    place: usize,
-) -> Result<CallSummary, AllocError> {
+fn calls_at(report: &SiteReport<'_>, place: usize) -> CallSummary {
     let machine = report.machine;
     let (Some(news), Some(point)) = (report.points.get(place), machine.site().point(place)) else {
-        return Ok(no_calls());
+        return no_calls();
     };
     let (Some(book), Some(outbox)) = (machine.book_of(point.id), machine.outbox_of(point.id)) else {
-        return Ok(no_calls());
+        return no_calls();
     };
     let audit = machine.audit_of(point.id);
-    let reboot = Reboot::of(alloc, news, book, outbox, audit)?;
-    Ok(CallSummary {
+    let rows = book.view().rows;
+    let lost = lost_at_boot(news.boot, audit);
+    CallSummary {
         confirmed: outbox.first_number(),
         waiting: waiting_calls(outbox),
         waiting_since: waiting_since_at(report, place),
         in_flight: in_flight_calls(outbox),
         in_flight_since: in_flight_since(outbox, news.sent),
         audit: audit.map_or(AuditOutcome::NoAudit, |audit| audit.outcome()),
-        may_have_forgotten: may_have_forgotten(reboot),
-    })
+        lost,
+        may_have_lost: may_have_lost(machine, point.id, lost, rows),
+        unheld: unheld_profiles(machine, point.id, lost, rows),
+    }
 }
 
 /// Returns since when a call to the point at a place waits, if one does, for the texts of the
@@ -91,7 +104,9 @@ fn no_calls() -> CallSummary {
         in_flight: 0,
         in_flight_since: None,
         audit: AuditOutcome::NoAudit,
-        may_have_forgotten: false,
+        lost: 0,
+        may_have_lost: false,
+        unheld: 0,
     }
 }
 
@@ -109,6 +124,7 @@ pub(crate) fn summary_at<'a>(
     Some(PointSummary {
         id,
         news,
+        machine,
         book,
         calls,
     })

@@ -1,43 +1,68 @@
-//! The test whether a point may have forgotten its profiles.
+//! The profiles that a point may have lost, at a boot or before an audit in which it differed.
 
-ghost use Rattle.std.specs.Prelude.{◌≡◌, IfOk, option_map};
-ghost use Rattle.site_status.specs.Reboot.{agreed_in, first_call_at, has_installed, is_before, is_install_of, is_installed_by, may_have_forgotten, reboot_of, waiting_bodies};
+ghost use Rattle.std.specs.Prelude.{◌≡◌, option_map};
+ghost use Rattle.std.specs.List.{list_any};
+ghost use Rattle.site_core.specs.State.{profile_state_of};
+ghost use Rattle.site_status.specs.Reboot.{agreed_in, is_before, is_unsure, lost_at_boot, may_have_lost};
 
-use crate::point_activity::{Boot, PointActivity};
-use messages::{AuditOutcome, CallBody};
-use point_book::PointBook;
+use crate::point_activity::Boot;
+use messages::AuditOutcome;
 use profile::Row;
-use site_core::{Outbox, PointAudit};
-use std::alloc::{AllocError, Global};
+use site_core::{Machine, Outbox, PointAudit, ProfileState};
 
-/// The facts that decide whether a point may have forgotten its profiles. Calls are numbered in
-/// their order.
-#[derive(Clone, Copy, PartialEq, Eq)]
-pub struct Reboot {
-    /// The first call that the point hadn't confirmed at its last boot.
-    pub first_call: Option<u64>,
-    /// The last install that it confirmed and accepted.
-    pub installed: Option<u64>,
-    /// The audit in which it agreed, if that was its last one.
-    pub agreed: Option<u64>,
-    /// Whether it should have a profile whose install is no longer in its outbox.
-    pub has_profiles: bool,
-}
-
-/// Returns whether a point may have forgotten its profiles: it should have some, has booted, and
-/// has confirmed no install and agreed in no audit since.
-pub fn may_have_forgotten(reboot: Reboot) -> bool
-    ensures { result ≡ may_have_forgotten reboot }
+/// Returns the first call whose profile a point can't have lost when it last booted: the first one
+/// that it hadn't confirmed then. 0 if it hasn't booted, or has agreed in an audit since.
+pub fn lost_at_boot(boot: Option<Boot>, audit: Option<&PointAudit>) -> u64
+    ensures { result ≡ lost_at_boot boot (option_map (λ asked. asked.now) audit.entry) }
 {
-    let Some(first) = reboot.first_call else {
-        return false;
-    };
-    reboot.has_profiles && is_before(reboot.installed, first) && is_before(reboot.agreed, first)
+    match boot {
+        Some(boot) if is_before(agreed_in(audit), boot.first_call) => boot.first_call,
+        _ => 0,
+    }
 }
 
-/// Returns whether a charge point has confirmed no such install or audit since the boot with this
-/// first unconfirmed call, for the status port's warning.
-pub(crate) fn is_before(call: Option<u64>, first: u64) -> bool
+/// Returns whether a point may have lost one of these installed profiles: it accepted the profile
+/// by a call before the one of the number `lost`, or before an audit in which it differed.
+pub fn may_have_lost(machine: &Machine, point: &str, lost: u64, rows: &[Row]) -> bool
+    ensures { result ≡ may_have_lost machine.now point.now lost rows.now }
+{
+    rows.iter().any(|row| is_unsure(machine.profile_state_of(point, row, lost)))
+}
+
+/// Returns how many of these installed profiles a point isn't known to have, for the texts of the
+/// status port.
+pub(crate) fn unheld_profiles(machine: &Machine, point: &str, lost: u64, rows: &[Row]) -> u64 {
+    let mut unheld = 0u64;
+    for row in rows {
+        if machine.profile_state_of(point, row, lost) != ProfileState::Held {
+            unheld = unheld.saturating_add(1);
+        }
+    }
+    unheld
+}
+
+/// Returns a boot that was kept of a point with these calls. When it booted, the point had
+/// confirmed no more calls than it has now.
+pub fn resumed_boot(boot: Boot, outbox: &Outbox) -> Boot {
+    Boot {
+        moment: boot.moment,
+        // The boot may have been kept beside another journal, which had more calls.
+        first_call: boot.first_call.min(outbox.first_number()),
+    }
+}
+
+/// Returns the first call whose profile the point of an identity can't have lost in a boot that was
+/// kept of it.
+pub fn lost_at_kept_boot(machine: &Machine, point: &str, boot: Boot) -> u64 {
+    match machine.outbox_of(point) {
+        Some(outbox) => lost_at_boot(Some(resumed_boot(boot, outbox)), machine.audit_of(point)),
+        None => 0,
+    }
+}
+
+/// Returns whether there is no such call, or the charge point had confirmed it before it booted and
+/// may have lost what came by it.
+fn is_before(call: Option<u64>, first: u64) -> bool
     ensures { result ≡ is_before call first }
 {
     match call {
@@ -46,52 +71,8 @@ pub(crate) fn is_before(call: Option<u64>, first: u64) -> bool
     }
 }
 
-impl Reboot {
-    /// Returns the facts about a point with this book and this outbox.
-    pub fn of(
-        alloc: Global,
-        news: &PointActivity,
-        book: &PointBook,
-        outbox: &Outbox,
-        audit: Option<&PointAudit>,
-    ) -> Result<Reboot, AllocError>
-        ensures { IfOk result (λ reboot. reboot ≡ reboot_of news.now book.now outbox.now
-            (option_map (λ asked. asked.now) audit.entry)) }
-    {
-        let has_profiles = has_profiles(alloc, book, outbox)?;
-        Ok(Reboot {
-            first_call: first_call_at(news.boot),
-            installed: news.installed,
-            agreed: agreed_in(audit),
-            has_profiles,
-        })
-    }
-}
-
-/// Returns the first call that a charge point hadn't confirmed at its last boot, if it booted, for
-/// the status port's warning.
-fn first_call_at(boot: Option<Boot>) -> Option<u64>
-    ensures { result ≡ first_call_at boot }
-{
-    match boot {
-        Some(boot) => Some(boot.first_call),
-        None => None,
-    }
-}
-
-/// Returns whether a charge point should have a profile whose install isn't in its outbox, for the
-/// status port's warning after a boot.
-fn has_profiles(alloc: Global, book: &PointBook, outbox: &Outbox) -> Result<bool, AllocError>
-    ensures { IfOk result (λ has.
-        has ≡ has_installed book.now.rows (waiting_bodies outbox.now)) }
-{
-    // A point can't have forgotten a profile whose install it hasn't confirmed.
-    let bodies = outbox.bodies(alloc)?;
-    Ok(has_installed(book.view().rows, bodies.as_slice()))
-}
-
-/// Returns the number of a charge point's last audit (GetCompositeSchedule), if the point agreed in
-/// it, for the status port's warning after a boot.
+/// Returns the call of a charge point's last audit, if the point agreed in that: it had its
+/// profiles then.
 fn agreed_in(audit: Option<&PointAudit>) -> Option<u64>
     ensures { result ≡ agreed_in (option_map (λ asked. asked.now) audit.entry) }
 {
@@ -102,30 +83,9 @@ fn agreed_in(audit: Option<&PointAudit>) -> Option<u64>
     }
 }
 
-/// Returns whether a charge point should have a profile whose install is none of these waiting
-/// calls, for the status port's warning after a boot.
-fn has_installed(rows: &[Row], calls: &[CallBody]) -> bool
-    ensures { result ≡ has_installed rows.now calls.now }
+/// Whether a charge point accepted an installed profile, and may have lost it since.
+fn is_unsure(state: ProfileState) -> bool
+    ensures { result ≡ is_unsure state }
 {
-    rows.iter().any(|row| !is_installed_by(calls, row))
-}
-
-/// Returns whether one of these unconfirmed calls to a charge point installs a row's charging
-/// profile, for the status port's warning after a boot.
-fn is_installed_by(calls: &[CallBody], row: &Row) -> bool
-    ensures { result ≡ is_installed_by calls.now row.now }
-{
-    calls.iter().any(|call| is_install_of(row, call))
-}
-
-/// Returns whether a call to a charge point installs a row's charging profile, for the status
-/// port's warning after a boot.
-fn is_install_of(row: &Row, call: &CallBody) -> bool
-    ensures { result ≡ is_install_of row.now call.now }
-{
-    match call {
-        // A point has at most one profile of an id: an install of the same id replaces it.
-        CallBody::Set { profile, .. } => profile.id == row.profile.id,
-        CallBody::Clear(_) | CallBody::Audit { .. } | CallBody::RemoteStart { .. } => false,
-    }
+    state == ProfileState::Unsure
 }

@@ -1,13 +1,14 @@
 //! The state of a site as JSON (RFC 8259).
 
 use crate::health::Health;
-use crate::point_activity::{PointActivity, Rejection};
+use crate::point_activity::{PointActivity, RefusedMessage, Rejection};
 use crate::point_summary::{PointSummary, calls_of_points, summary_at};
 use crate::site_report::{SiteCounts, SiteReport};
 use messages::purpose_name;
 use page_text::JsonPage;
 use point_book::PointBook;
 use profile::Row;
+use site_core::ProfileState;
 use std::alloc::{AllocError, Global};
 use transactions::Transaction;
 
@@ -64,16 +65,18 @@ fn push_point(page: &mut JsonPage, point: &PointSummary<'_>) {
     page.begin_object();
     page.text("id", point.id);
     push_news(page, point.news);
-    page.flag("mayHaveForgotten", point.calls.may_have_forgotten);
+    page.flag("mayHaveForgotten", point.calls.may_have_lost);
+    page.number("unheld", point.calls.unheld);
     page.number("confirmed", point.calls.confirmed);
     page.number("inFlight", point.calls.in_flight as u64);
     page.instant("inFlightSince", point.calls.in_flight_since);
     page.number("waiting", point.calls.waiting as u64);
     page.instant("waitingSince", point.calls.waiting_since);
     push_rejected(page, point.news);
+    push_refused(page, point.news);
     page.text("audit", point.calls.audit.name());
     push_transactions(page, point.book);
-    push_profiles(page, point.book);
+    push_profiles(page, point);
     page.end_object();
 }
 
@@ -111,6 +114,20 @@ fn push_rejection(page: &mut JsonPage, rejection: &Rejection) {
     page.end_object();
 }
 
+/// Appends the number of a charge point's messages that were refused to the status port's JSON, and
+/// the last of them.
+fn push_refused(page: &mut JsonPage, news: &PointActivity) {
+    page.number("refusals", news.refusals);
+    let Some(RefusedMessage { fault, moment }) = news.refused else {
+        return page.null("refused");
+    };
+    page.object("refused");
+    page.instant("moment", Some(moment));
+    page.text("errorCode", fault.code());
+    page.text("errorDescription", fault.description());
+    page.end_object();
+}
+
 /// Appends the active transactions of a charge point to the status port's JSON, without their
 /// idTags.
 fn push_transactions(page: &mut JsonPage, book: &PointBook) {
@@ -135,21 +152,23 @@ fn push_transaction(page: &mut JsonPage, connector: u32, active: &Transaction) {
 }
 
 /// Appends the charging profiles of a point to the status port's JSON.
-fn push_profiles(page: &mut JsonPage, book: &PointBook) {
+fn push_profiles(page: &mut JsonPage, point: &PointSummary<'_>) {
     page.array("profiles");
-    for row in book.view().rows {
-        push_profile(page, row);
+    for row in point.book.view().rows {
+        push_profile(page, row, point.profile_state_of(row));
     }
     page.end_array();
 }
 
-/// Appends an installed charging profile to the status port's JSON, without its schedule.
-fn push_profile(page: &mut JsonPage, row: &Row) {
+/// Appends an installed charging profile to the status port's JSON, without its schedule, with what
+/// its point is known to have of it.
+fn push_profile(page: &mut JsonPage, row: &Row, state: ProfileState) {
     page.begin_object();
     page.integer("chargingProfileId", row.profile.id);
     page.text("chargingProfilePurpose", purpose_name(row.profile.purpose));
     page.number("stackLevel", u64::from(row.profile.stack_level));
     page.number("connectorId", u64::from(row.connector));
     page.instant("installed", Some(row.moment));
+    page.text("state", state.name());
     page.end_object();
 }

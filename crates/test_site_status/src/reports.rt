@@ -1,12 +1,12 @@
 //! A small site, and the observations of its points.
 
-use messages::ActionKind;
-use ocpp_scalars::Instant;
+use messages::{ActionKind, CallFault};
+use ocpp_scalars::{Instant, Refusal};
 use site_core::Machine;
 use site_rules::read_site;
 use site_status::{
-    Boot, JournalReport, JournalState, Observation, PointActivity, SentMoment, SiteCounts,
-    SiteReport,
+    Boot, JournalReport, JournalState, Observation, PointActivity, RefusedMessage, SentMoment,
+    SiteCounts, SiteReport,
 };
 use std::alloc::Global;
 use std::process::Abort;
@@ -32,7 +32,7 @@ pub(crate) fn machine(rt: &impl Abort, alloc: Global) -> Machine {
 }
 
 /// Returns the observations of a small site's points, for tests of the status port. The first point
-/// booted, was sent call 0, and rejected it; the second has none.
+/// booted, was sent call 0, rejected it, and sent a faulty message; the second has none.
 pub(crate) fn news(rt: &impl Abort, alloc: Global) -> Vec<PointActivity> {
     let mut points = Vec::new(alloc);
     points.push(first_news(rt, alloc)).expect(rt, "error");
@@ -41,7 +41,7 @@ pub(crate) fn news(rt: &impl Abort, alloc: Global) -> Vec<PointActivity> {
 }
 
 /// Returns the observations of a small site's first point, for tests of the status port: it booted,
-/// was sent call 0, and rejected it.
+/// was sent call 0, rejected it, and sent a message that was refused.
 fn first_news(rt: &impl Abort, alloc: Global) -> PointActivity {
     let mut news = PointActivity::new();
     news.see(Observation::Connected {
@@ -60,6 +60,10 @@ fn first_news(rt: &impl Abort, alloc: Global) -> PointActivity {
     }));
     let reason = String::from_str(alloc, REASON).expect(rt, "error");
     let _ = news.reply(0, Some(reason), at(rt, 4));
+    news.see(Observation::Refused(RefusedMessage {
+        fault: CallFault::Refused(Refusal::UnknownConnector),
+        moment: at(rt, 6),
+    }));
     news
 }
 

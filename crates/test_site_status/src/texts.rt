@@ -7,7 +7,7 @@ use std::alloc::Global;
 use std::process::Abort;
 
 const STATE: &str =
-    r#"{"moment":"2025-01-01T00:01:00Z","health":"device full","sessions":{"points":1,"operators":2},"seats":256,"freeSeats":253,"changes":4,"answers":5,"refusedHandshakes":6,"turnedAway":7,"journal":{"bytes":1234,"syncs":9,"syncMicroseconds":12003450},"points":[{"id":"CP1","connectedSince":"2025-01-01T00:00:01Z","lastText":"2025-01-01T00:00:02Z","booted":"2025-01-01T00:00:02Z","mayHaveForgotten":false,"confirmed":0,"inFlight":0,"inFlightSince":null,"waiting":1,"waitingSince":"2025-01-01T00:00:05Z","rejections":1,"rejected":{"call":0,"action":"ClearChargingProfile","moment":"2025-01-01T00:00:04Z","reason":"no <room> & \"none\" \\ 'either'\n"},"audit":"None","transactions":[],"profiles":[]},{"id":"CP2","connectedSince":null,"lastText":null,"booted":null,"mayHaveForgotten":false,"confirmed":0,"inFlight":0,"inFlightSince":null,"waiting":1,"waitingSince":null,"rejections":0,"rejected":null,"audit":"None","transactions":[],"profiles":[]}]}
+    r#"{"moment":"2025-01-01T00:01:00Z","health":"device full","sessions":{"points":1,"operators":2},"seats":256,"freeSeats":253,"changes":4,"answers":5,"refusedHandshakes":6,"turnedAway":7,"journal":{"bytes":1234,"syncs":9,"syncMicroseconds":12003450},"points":[{"id":"CP1","connectedSince":"2025-01-01T00:00:01Z","lastText":"2025-01-01T00:00:02Z","booted":"2025-01-01T00:00:02Z","mayHaveForgotten":false,"unheld":0,"confirmed":0,"inFlight":0,"inFlightSince":null,"waiting":1,"waitingSince":"2025-01-01T00:00:05Z","rejections":1,"rejected":{"call":0,"action":"ClearChargingProfile","moment":"2025-01-01T00:00:04Z","reason":"no <room> & \"none\" \\ 'either'\n"},"refusals":1,"refused":{"moment":"2025-01-01T00:00:06Z","errorCode":"PropertyConstraintViolation","errorDescription":"UnknownConnector"},"audit":"None","transactions":[],"profiles":[]},{"id":"CP2","connectedSince":null,"lastText":null,"booted":null,"mayHaveForgotten":false,"unheld":0,"confirmed":0,"inFlight":0,"inFlightSince":null,"waiting":1,"waitingSince":null,"rejections":0,"rejected":null,"refusals":0,"refused":null,"audit":"None","transactions":[],"profiles":[]}]}
 "#;
 
 /// Some of the metrics' lines.
@@ -35,7 +35,10 @@ central_call_waiting_seconds{point="CP1"} 55
 central_calls_in_flight{point="CP1"} 0
 central_calls_confirmed_total{point="CP2"} 0
 central_calls_rejected_total{point="CP1"} 1
+central_messages_refused_total{point="CP1"} 1
+central_messages_refused_total{point="CP2"} 0
 central_point_may_have_forgotten{point="CP1"} 0
+central_point_unheld_rows{point="CP1"} 0
 central_point_audit_differs{point="CP2"} 0"#;
 
 /// The section of the first point in the page.
@@ -47,6 +50,7 @@ const PARTS: &str = r#"<html lang="en">
 <li>from 00:01 <b>32.0 A</b> the connector&#39;s ceiling</li>
 <a href="/points/CP1/1.svg">the picture of CP1, connector 1</a>
 : no &lt;room&gt; &amp; &quot;none&quot; \ &#39;either&#39;
+ was refused: PropertyConstraintViolation UnknownConnector</p>
 <h2>CP2</h2>"#;
 
 /// Checks in a test that the status port's JSON of a small site is the text written by hand.
