@@ -120,6 +120,9 @@ def each_point(site, operator, _point):
     expect("both", (status, out), (0, b'P1 [3,"clear",{"status":"Accepted"}]\nP2 [3,"clear",{"status":"Unknown"}]\n'))
     nothing = b"P2 clear: warning: this clears nothing: the point has no profile that matches its criteria\n"
     expect("what is said", said, b"P1 clear" + GONE + nothing)
+    status, out, said = site.call("--all", "--clear", '{"id":77}', at="")
+    expect("neither", (status, out), (0, b'P1 [3,"clear",{"status":"Unknown"}]\nP2 [3,"clear",{"status":"Unknown"}]\n'))
+    expect("what is said of both", said, nothing.replace(b"P2", b"P1, P2"))
     expect("a fault of both", site.set(profile(5, [6], **TX), "--all", at="", connector=1)[:2], (
         2, b"P1 ! set-profile HasFault\nP2 ! set-profile HasFault\n"))
 

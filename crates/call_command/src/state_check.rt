@@ -2,11 +2,11 @@
 
 use command_io::{ProgramFault, now};
 use journal_file::read_journal_script;
-use operator_calls::{CallScript, Caller, GivenCall, Visit, script_of_calls};
+use operator_calls::{CallScript, Caller, GivenCall, SharedWarnings, Visit, script_of_calls};
 use replay::ReplayFault;
 use site_checks::PlayedCalls;
 use site_rules::Site;
-use std::alloc::{AllocGlobal, Global};
+use std::alloc::AllocGlobal;
 use std::fs::File;
 use std::rt::{Clock, Files};
 
@@ -33,29 +33,32 @@ pub fn check_visits<R: Files<File = File> + Clock + Print + Eprint + AllocGlobal
     };
     let CallScript { script, lines } = made;
     let mut played = PlayedCalls::behind(rt, alloc, script.as_slice(), lines, site)?;
+    let mut shared = SharedWarnings::new(alloc);
     for visit in visits {
-        let passed = passed_calls(alloc, caller, &mut played, calls, &*visit)?;
+        let passed = passed_calls(caller, &mut played, &mut shared, calls, &*visit)?;
         visit.calls = passed;
     }
+    caller.say_shared(&shared)?;
     Ok(())
 }
 
 /// Returns those calls of `call` to a point that have no fault by the point's state. They are the
 /// next lines of the script that is played.
 fn passed_calls<R: Print + Eprint + AllocGlobal>(
-    alloc: Global,
     caller: &mut Caller<'_, R>,
     played: &mut PlayedCalls<'_>,
+    shared: &mut SharedWarnings,
     calls: &[GivenCall],
     visit: &Visit,
 ) -> Result<Vec<usize>, ProgramFault> {
+    let alloc = caller.rt.alloc();
     let mut passed = Vec::new(alloc);
     for place in &visit.calls {
         let Some(call) = calls.get(*place) else {
             continue;
         };
         let findings = played.find_in_next(alloc, visit.id.as_str(), call.frame.as_str())?;
-        if caller.passes_at(visit.label(), call, findings.as_slice())? {
+        if caller.passes_at(visit.label(), call, findings.as_slice(), shared)? {
             passed.push(*place)?;
         }
     }

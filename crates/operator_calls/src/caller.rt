@@ -5,6 +5,7 @@ ghost use Rattle.findings.specs.ExitStatus.{has_fault};
 
 use crate::given_call::GivenCall;
 use crate::later_changes::LaterChange;
+use crate::shared_warnings::SharedWarnings;
 use crate::undo::UNDO;
 use client_lines::ClientFault;
 use findings::{Finding, Severity, has_fault};
@@ -100,19 +101,35 @@ impl<'a, R: Print + Eprint + AllocGlobal> Caller<'a, R> {
     }
 
     /// Returns whether the call of an option is to be sent to a point, by these findings. Reports
-    /// them, with the point's identity if the URL lacks it.
+    /// them. If the URL lacks the point's identity, faults are reported with it, and the others are
+    /// added to those that points share.
     pub fn passes_at(
         &mut self,
         point: Option<&str>,
         call: &GivenCall,
         findings: &[Finding],
+        shared: &mut SharedWarnings,
     ) -> Result<bool, ClientFault>
         ensures sent { IfOk result (λ is_sent.
             is_sent ≡ (self.old.sending.force || not (has_fault findings.now))) }
     {
         let label = self.label_of(point)?;
-        self.say_findings(label.as_str(), call.name, findings)?;
+        match point {
+            Some(point) => {
+                self.say_faults(label.as_str(), call.name, findings)?;
+                shared.add(point, call.name, findings)?;
+            }
+            None => self.say_findings("", call.name, findings)?,
+        }
         self.passes_with(label.as_str(), call.name, findings)
+    }
+
+    /// Reports the warnings that points share, each once.
+    pub fn say_shared(&self, shared: &SharedWarnings) -> Result<(), ClientFault> {
+        for line in shared.lines()? {
+            self.say(line);
+        }
+        Ok(())
     }
 
     /// Returns whether `call` is to send an operator's message with these findings. If not, prints
@@ -206,6 +223,18 @@ impl<'a, R: Print + Eprint + AllocGlobal> Caller<'a, R> {
                 severity => format!(in alloc; "{label}{name}: {severity}: {message}")?,
             };
             self.say(words);
+        }
+        Ok(())
+    }
+
+    /// Prints the faults in an operator's message to standard error, for `call`, each after the label
+    /// of its point and the name of the message.
+    fn say_faults(&self, label: &str, name: &str, findings: &[Finding]) -> Result<(), ClientFault> {
+        for finding in findings {
+            if let Severity::Fault = finding.severity {
+                let message = &finding.message;
+                self.say(format!(in self.rt.alloc(); "{label}{name}: {message}")?);
+            }
         }
         Ok(())
     }
