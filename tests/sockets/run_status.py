@@ -13,9 +13,9 @@ from xml.etree import ElementTree
 from audits import schedule_reply
 from browser import browser, contrast, schemes, seen_at
 from raw_client import TEXT, RawClient, frame_bytes
-from run_data import SITE, Data, SmallDevice, read
+from run_data import SITE, Data, SmallDevice, read, transaction_of
 from serving import ENVIRONMENT, PATIENCE, Running, Unexpected, expect, free_port, until
-from texts import CALL_0, accepted, ask, call, error, heartbeat, install, plain_site, profile, rejected, start
+from texts import CALL_0, accepted, ask, call, clear, error, heartbeat, install, install_call, plain_site, profile, rejected, start
 
 sys.path.insert(0, os.path.join(os.path.dirname(os.path.realpath(__file__)), ".."))
 from png_colours import shares_of_colours
@@ -160,7 +160,7 @@ def figures_that_follow(program):
 def point_that_may_have_forgotten(program):
     """A point that booted behind its last install is told, until it has confirmed one or agreed in an audit."""
     fields = profile(1, [7.0])
-    with Data() as data, Running(program, SITE, data.path, has_status=True) as running:
+    with Data() as data, Running(program, SITE, data.path, has_status=True, after_boot="nothing") as running:
         forgotten = lambda: point_of(running)["mayHaveForgotten"]
         with RawClient.connected(running, "/operator/P1") as operator, RawClient.connected(running, "/P1") as point:
             operator.texts_of(install("i", fields))
@@ -188,10 +188,41 @@ def point_that_may_have_forgotten(program):
             expect("once it is confirmed anew", (forgotten(), states_of(running)), (False, ["held", "held"]))
 
 
+def profiles_after_a_boot(program):
+    """A point that has booted gets its profiles again: those of the whole point first, those of transactions last, and nothing twice."""
+    tariff, fuse = profile(2, [16.0]), profile(1, [20.0], purpose="ChargePointMaxProfile")
+    of_car = profile(3, [10.0], purpose="TxProfile", transactionId=1)
+    with Data() as data, Running(program, SITE, data.path, has_status=True) as running:
+        with RawClient.connected(running, "/operator/P1") as operator, RawClient.connected(running, "/P1") as point:
+            for text in (install("t", tariff), install("f", fuse)):
+                operator.texts_of(text)
+            expect("a transaction", transaction_of(point.texts_of(start("s"))[0]), 1)
+            operator.texts_of(install("c", of_car, connector=1))
+            for number in range(4):
+                point.texts_of(accepted(str(number)))
+            expect("before the boot", states_of(running), ["held"] * 3)
+            point.texts_of(boot("b"))
+            expect("behind the boot", (states_of(running), point_of(running)["waiting"]), (["sent"] * 3, 3))
+            point.texts_of(boot("again"))
+            expect("behind another one", [point_of(running)[what] for what in ("inFlight", "waiting")], [1, 2])
+            calls = [install_call(4, fuse), install_call(5, tariff), install_call(6, of_car, connector=1)]
+            came = [text for text in point.texts_of(accepted("4")) + point.texts_of(accepted("5")) if "SetChargingProfile" in text]
+            expect("what comes next", came, calls[1:])
+            point.texts_of(accepted("6"))
+            expect("once all are confirmed", (states_of(running), point_of(running)["unheld"]), (["held"] * 3, 0))
+            expect("the order of the profiles", [entry["chargingProfileId"] for entry in point_of(running)["profiles"]], [1, 2, 3])
+            operator.texts_of(clear("x", id=1))
+            point.texts_of(boot("last"))
+            expect("a cleared one", [entry["chargingProfileId"] for entry in point_of(running)["profiles"]], [2, 3])
+    for word, status in (("nothing", 0), ("all", 4)):
+        done = subprocess.run([program, "run", "--site", "F", "--data", "D", "--listen", "127.0.0.1:0", "--after-boot", word], capture_output=True, timeout=PATIENCE, check=False, env=ENVIRONMENT)
+        expect(f"--after-boot {word}", done.returncode == 4 and b"--after-boot" in done.stderr, status == 4)
+
+
 def replies_that_accept_nothing(program):
     """What isn't `Accepted` rejects an install, and shows nothing of what the point has. That no profile matched leaves nothing of a clear undone."""
     fields = profile(1, [7.0])
-    with Data() as data, Running(program, SITE, data.path, has_status=True) as running:
+    with Data() as data, Running(program, SITE, data.path, has_status=True, after_boot="nothing") as running:
         with RawClient.connected(running, "/operator/P1") as operator, RawClient.connected(running, "/P1") as point:
             operator.texts_of(install("i", fields))
             point.texts_of(heartbeat("h"))
@@ -265,7 +296,7 @@ def boots_over_restarts(program):
     fields = profile(1, [7.0])
     forgotten = lambda running: point_of(running)["mayHaveForgotten"]
     with Data() as data:
-        with Running(program, SITE, data.path, has_status=True) as running:
+        with Running(program, SITE, data.path, has_status=True, after_boot="nothing") as running:
             with RawClient.connected(running, "/operator/P1") as operator, RawClient.connected(running, "/P1") as point:
                 operator.texts_of(install("i", fields))
                 point.texts_of(heartbeat("h"))
@@ -280,7 +311,7 @@ def boots_over_restarts(program):
                 other.texts_of(boot("b"))
                 until("the other's boot too", lambda: len(boots_in(data)) == 2)
         journal = data.bytes()
-        with Running(program, SITE, data.path, has_status=True) as running:
+        with Running(program, SITE, data.path, has_status=True, after_boot="nothing") as running:
             expect("behind a restart", (forgotten(running), point_of(running)["booted"]), (True, moment))
             expect("of one without profiles", point_of(running, "P2")["mayHaveForgotten"], False)
             expect("whether the journal has the boot", data.bytes().startswith(journal) and b"boot" not in data.bytes(), True)
@@ -293,7 +324,7 @@ def boots_over_restarts(program):
                 point.texts_of(accepted("2"))
                 expect("once it is confirmed", forgotten(running), False)
                 expect("the boots in the folder", [line[1] for line in boots_in(data)], ["P1", "P2"])
-        with Running(program, SITE, data.path, has_status=True) as running:
+        with Running(program, SITE, data.path, has_status=True, after_boot="nothing") as running:
             expect("behind another restart", forgotten(running), False)
             expect("what check says then", remarks_on_boots(program, data), [])
 
@@ -544,6 +575,7 @@ def tests():
     yield "each path", each_path
     yield "figures that follow", figures_that_follow
     yield "a point that may have forgotten", point_that_may_have_forgotten
+    yield "profiles after a boot", profiles_after_a_boot
     yield "replies that accept nothing", replies_that_accept_nothing
     yield "an audit that differs", an_audit_that_differs
     yield "boots over restarts", boots_over_restarts

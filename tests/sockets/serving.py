@@ -172,9 +172,10 @@ class Running(Serving):
     `resumed` is what it says that it goes on with: points, profiles, transactions, calls. It runs below what `under` says.
     """
 
-    def __init__(self, program, site, data, seats=None, under=(), call_timeout=None, keys=None, has_status=False, is_status_open=False, **more):
+    def __init__(self, program, site, data, seats=None, under=(), call_timeout=None, keys=None, has_status=False, is_status_open=False, after_boot=None, **more):
         super().__init__(program, site, None, **more)
         self.data = data
+        self.after_boot = after_boot
         self.seats = seats
         self.under = list(under)
         self.call_timeout = call_timeout
@@ -187,7 +188,7 @@ class Running(Serving):
     def _command(self, path, address):
         self.status_port = free_port() if self.has_status else None
         status = f"127.0.0.1:{self.status_port}" if self.has_status else None
-        numbers = {"--seats": self.seats, "--call-timeout": self.call_timeout, "--keys": self.keys, "--status": status}
+        numbers = {"--seats": self.seats, "--call-timeout": self.call_timeout, "--keys": self.keys, "--status": status, "--after-boot": self.after_boot}
         options = [word for name, number in numbers.items() if number is not None for word in (name, str(number))]
         options += ["--status-open"] if self.is_status_open else []
         return [*self.under, self.program, "run", "--site", path, "--data", self.data, "--listen", address, *options]

@@ -98,6 +98,9 @@ pub enum ProgramFault {
     /// An address to listen at has no port.
     #[error("central: command line: --listen and --status want HOST:PORT, such as 127.0.0.1:9000")]
     NoPort,
+    /// After a boot a point gets its profiles again, or nothing.
+    #[error("central: command line: --after-boot has the value nothing, or isn't given")]
+    AfterBoot,
     /// Without keys, no client on another machine may connect.
     #[error("central: command line: without --keys it listens at this machine alone, such as 127.0.0.1:9000")]
     NoKeys,
@@ -157,7 +160,7 @@ impl ProgramFault {
             ProgramFault::NoZone | ProgramFault::ZoneElsewhere | ProgramFault::ZonePastCalendar =>
                 4,
             ProgramFault::NoPort | ProgramFault::NoKeys | ProgramFault::KeyName => 4,
-            ProgramFault::StatusOpen | ProgramFault::StatusUrl => 4,
+            ProgramFault::StatusOpen | ProgramFault::StatusUrl | ProgramFault::AfterBoot => 4,
             ProgramFault::NoStatus => 3,
         }
     }

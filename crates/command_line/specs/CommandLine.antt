@@ -64,15 +64,16 @@ with_counts app =
     (numbered 1 max_workers (optional (codes "workers"))))
     (numbered 1 max_call_timeout (optional (codes "call-timeout")))
 
--- the status port: `[--status B] [--status-open]`
+-- the status port, and boots: `[--status B] [--status-open] [--after-boot nothing]`
 abbrev pub with_status : App → App
 with_status app =
-    with_rule (with_rule app
+    with_rule (with_rule (with_rule app
     (optional (codes "status")))
-    (flag (codes "status-open"))
+    (flag (codes "status-open")))
+    (optional (codes "after-boot"))
 
 -- `run --site F --data DIR --listen A [--keys FILE] [--seats N] [--workers N]
--- [--call-timeout SECONDS] [--status B] [--status-open]`
+-- [--call-timeout SECONDS] [--status B] [--status-open] [--after-boot nothing]`
 abbrev pub run_command : App
 run_command = with_status (with_counts (with_places (new_app (codes "run"))))
 
@@ -325,6 +326,8 @@ pub record IsRunning (rows : List Row) (running : Running) : Type 0 where
   pub keys : first_of (codes "keys") rows ≡ option_map (λ text. text.now) running.keys
   pub status : first_of (codes "status") rows ≡ option_map (λ text. text.now) running.status
   pub status_open : IsFlag (codes "status-open") rows running.is_status_open
+  pub after_boot :
+      first_of (codes "after-boot") rows ≡ option_map (λ text. text.now) running.after_boot
 
 -- the owner of the key to make
 pub record IsKeyMaking (rows : List Row) (making : KeyMaking) : Type 0 where

@@ -107,6 +107,10 @@ pub const RUN_STATUS_HELP: &str =
 /// Help of `--status-open`.
 pub const STATUS_OPEN_HELP: &str = "Allow a status port address beyond loopback";
 
+/// Help of `--after-boot`.
+pub const AFTER_BOOT_HELP: &str =
+    "With 'nothing', don't send a point its profiles again after it has booted";
+
 /// Notes on `run`, with examples.
 pub const RUN_NOTES: &str = "F is a site file; 'central replay --help' shows one. Prints
   resumed P points, R profiles, T transactions, C calls waiting

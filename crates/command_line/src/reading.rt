@@ -167,6 +167,7 @@ fn running_of<'a>(given: &ArgMatches<'a>) -> Option<Running<'a>>
         keys,
         status,
         is_status_open,
+        after_boot: text_of(given, "after-boot"),
     })
 }
 

@@ -81,6 +81,8 @@ pub struct Running<'a> {
     pub status: Option<&'a str>,
     /// Whether that address may be one other than this machine's own.
     pub is_status_open: bool,
+    /// The word for what a point gets again after a boot, if one is given.
+    pub after_boot: Option<&'a str>,
 }
 
 /// The owner of the key to make.

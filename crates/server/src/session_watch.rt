@@ -69,7 +69,11 @@ impl<R: Wait + Clock> SessionWatch<'_, R> {
         }
         self.see(Observation::Heard { moment });
         match event {
-            SessionEvent::Boot => self.hear_boot(context, core, moment),
+            SessionEvent::Boot => {
+                self.hear_boot(context, core, moment);
+                // Its profiles may be installed again, which adds calls.
+                self.see_calls(context, core, moment);
+            }
             SessionEvent::Reply { call, rejection } => {
                 let reply = PointReply {
                     call,
@@ -108,8 +112,7 @@ impl<R: Wait + Clock> SessionWatch<'_, R> {
         self.say_made(core, without_reply(self.seats.alloc, call));
     }
 
-    /// Records when an operator's session last added a call to the point, for the status page of
-    /// the site.
+    /// Records when a call was last added to the session's point, for the status page of the site.
     fn see_calls<W: World>(&self, context: &Context<'_, W>, core: &SessionCore, moment: Instant) {
         let seats = self.seats;
         let book = context.shared.lock(context.rt);

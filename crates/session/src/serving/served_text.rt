@@ -240,7 +240,7 @@ fn perform_noted<W: World>(
 }
 
 /// Returns whether the step of a session's message is a Confirm: the point's reply to its call.
-fn is_confirm(step: &Step) -> bool
+pub(crate) fn is_confirm(step: &Step) -> bool
     ensures { result ≡ is_confirm step.now }
 {
     matches!(step, Step::Confirm { .. })

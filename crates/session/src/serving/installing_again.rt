@@ -1,0 +1,200 @@
+//! Installs the profiles of a charge point again after it has booted, since it may have lost them.
+
+ghost use Rattle.std.specs.Prelude.{IfSome};
+ghost use Rattle.session.specs.Noting.{IsEntryToNote};
+ghost use Rattle.session.specs.Perform.{IsOfText};
+ghost use Rattle.session.specs.Serving.{KeepsPass};
+
+use crate::context::Context;
+use crate::serving::noting::{note_performed, prepare_message};
+use crate::serving::reading::read_message;
+use crate::serving::served_text::is_confirm;
+use crate::session_core::SessionCore;
+use crate::step::perform;
+use journal::Entry;
+use messages::{CallBody, push_payload};
+use ocpp_scalars::{Instant, Moments};
+use ocppj_frame::{push_call_head, push_frame_end};
+use profile::{Purpose, Row};
+use site_core::{Machine, ProfileState, Step};
+use std::alloc::{AllocError, Global};
+use texts::SentText;
+use version_store::Pass;
+use world::World;
+
+/// The purposes in the order in which their profiles are installed again: what bounds the whole
+/// point comes first.
+const PURPOSES: [Purpose; 3] = [
+    Purpose::ChargePointMaxProfile,
+    Purpose::TxDefaultProfile,
+    Purpose::TxProfile,
+];
+
+/// The id of the messages, by which people find them in the journal. No answer is read.
+const MESSAGE_ID: &str = "after-boot";
+
+/// A profile of a point, and the message that installs it again.
+#[derive(Drop)]
+struct Install {
+    profile: i32,
+    text: String,
+}
+
+/// Installs the profiles of a session's point again after it has booted, as an operator would: the
+/// calls to it wait behind those that wait already. A profile is left out if it was replaced or
+/// cleared meanwhile, or its call has no reply yet. Without memory, or room in the outbox, the
+/// others stay as they are.
+pub fn install_again<W: World>(
+    context: &Context<'_, W>,
+    core: &SessionCore,
+    pass: &mut Pass<W::Changes, W::Answers>,
+)
+    ensures { KeepsPass pass.old pass.new }
+{
+    let point = core.point_id().as_str();
+    let (Some(now), Ok(operator), Ok(profiles)) = (
+        context.clock.now(),
+        operator_of(context, point),
+        profiles_in_order(context, point),
+    ) else {
+        return;
+    };
+    for profile in profiles {
+        let text = present_text(context, point, profile);
+        if let Ok(Some(text)) = text {
+            let install = Install { profile, text };
+            install_one(context, &operator, pass, now, &install);
+        }
+    }
+}
+
+/// Returns a session of the central system itself, as an operator's of this point, by which
+/// profiles are installed again.
+fn operator_of<W: World>(context: &Context<'_, W>, point: &str) -> Result<SessionCore, AllocError> {
+    let book = context.shared.lock(context.rt);
+    let unit = book.present().site().unit();
+    drop(book);
+    SessionCore::operator(context.alloc, point, unit)
+}
+
+/// Returns the ids of a point's profiles in the order in which they are installed again after a
+/// boot.
+fn profiles_in_order<W: World>(
+    context: &Context<'_, W>,
+    point: &str,
+) -> Result<Vec<i32>, AllocError> {
+    let mut profiles = Vec::new(context.alloc);
+    let book = context.shared.lock(context.rt);
+    let Some(found) = book.present().book_of(point) else {
+        return Ok(profiles);
+    };
+    for purpose in &PURPOSES {
+        for row in found.view().rows {
+            if row.profile.purpose == *purpose {
+                profiles.push(row.profile.id)?;
+            }
+        }
+    }
+    Ok(profiles)
+}
+
+/// Returns the message that installs a point's profile again after a boot, if one does.
+fn present_text<W: World>(
+    context: &Context<'_, W>,
+    point: &str,
+    profile: i32,
+) -> Result<Option<String>, AllocError> {
+    let book = context.shared.lock(context.rt);
+    install_text(context.alloc, book.present(), point, profile)
+}
+
+/// Returns the message that installs a point's profile of this id again after a boot. There is none
+/// if the profile isn't installed, or its call has no reply yet.
+fn install_text(
+    alloc: Global,
+    machine: &Machine,
+    point: &str,
+    profile: i32,
+) -> Result<Option<String>, AllocError> {
+    let Some(row) = row_of(machine, point, profile) else {
+        return Ok(None);
+    };
+    let body = CallBody::Set {
+        connector: row.connector,
+        profile: row.profile.copy()?,
+    };
+    let mut text = String::new(alloc);
+    push_call_head(&mut text, MESSAGE_ID, body.action())?;
+    push_payload(&mut text, &body)?;
+    push_frame_end(&mut text)?;
+    Ok(Some(text))
+}
+
+/// Returns the installed profile of this id, unless its call to the point has no reply yet.
+fn row_of<'a>(machine: &'a Machine, point: &str, profile: i32) -> Option<&'a Row> {
+    let rows = machine.book_of(point)?.view().rows;
+    let row = rows.iter().find(|row| row.profile.id == profile)?;
+    match machine.profile_state_of(point, row, 0) {
+        ProfileState::Sent => None,
+        ProfileState::Held | ProfileState::Unsure | ProfileState::Rejected => Some(row),
+    }
+}
+
+/// Installs a profile of a point again after a boot, if memory suffices and it can be noted.
+fn install_one<W: World>(
+    context: &Context<'_, W>,
+    operator: &SessionCore,
+    pass: &mut Pass<W::Changes, W::Answers>,
+    moment: Instant,
+    install: &Install,
+)
+    ensures { KeepsPass pass.old pass.new }
+{
+    let frame = install.text.as_str();
+    let Ok(mut todo) = read_message(context, operator, moment, frame) else {
+        return;
+    };
+    let sent = SentText::new(moment, operator.side(), operator.point_id().as_str(), frame);
+    let step = todo.take_step();
+    let Ok(entry) = prepare_message(context, &sent, &step) else {
+        return;
+    };
+    if let Some(step) = step {
+        perform_if_present(context, pass, step, entry, install);
+    }
+}
+
+/// Makes the step that installs a point's profile again after a boot, and notes it in the journal,
+/// unless the profile has changed since its message was made. An operator's change meanwhile is
+/// newer. The lock is held in between.
+fn perform_if_present<W: World>(
+    context: &Context<'_, W>,
+    pass: &mut Pass<W::Changes, W::Answers>,
+    step: Step,
+    entry: Option<Entry>,
+    install: &Install,
+)
+    requires of_text { IsOfText step }
+    requires entry { IfSome entry (IsEntryToNote step) }
+    ensures { KeepsPass pass.old pass.new }
+{
+    let confirms = is_confirm(&step);
+    let mut book = context.shared.lock(context.rt);
+    if !is_present(context.alloc, book.present(), &step, install) {
+        return;
+    }
+    let before = book.recorded();
+    let performed = perform(&mut book, pass, step);
+    note_performed(context, &book, before, entry, confirms, &performed);
+}
+
+/// Returns whether the message that installs a profile again after a boot would be the same now.
+fn is_present(alloc: Global, machine: &Machine, step: &Step, install: &Install) -> bool {
+    let Step::Install { point, .. } = step else {
+        return false;
+    };
+    match install_text(alloc, machine, point.as_str(), install.profile) {
+        Ok(Some(text)) => text.as_str() == install.text.as_str(),
+        Ok(None) | Err(AllocError) => false,
+    }
+}
