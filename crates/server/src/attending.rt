@@ -14,7 +14,7 @@ use server_core::{
 use server_ports::IncomingStream;
 use session::{
     Context, Ended, Received, SentCall, SessionCore, SessionEvent, WatchedSocket, answer_next,
-    install_again, send_call,
+    send_call,
 };
 use std::rt::Clock;
 use std::sync::Wait;
@@ -103,10 +103,8 @@ fn attend_next<R: Wait + Clock, W: World>(
     ensures { KeepsPass pass.old pass.new }
 {
     let rt = &watch.seats.rt;
-    let received = answer_next(&*context, watched, core, pass)?;
-    if is_boot(&received) && watch.seats.options.sends_again {
-        install_again(context, core, pass);
-    }
+    let installs_again = watch.seats.options.installs_again;
+    let received = answer_next(&*context, watched, core, pass, installs_again)?;
     let is_last = !watched.has_kept();
     let socket = watched.websocket();
     let sent = match received {
@@ -148,17 +146,6 @@ fn attend_next<R: Wait + Clock, W: World>(
         return Err(Ended::Broken);
     }
     Ok(())
-}
-
-/// Returns whether a message that a session has answered is a BootNotification of its point.
-fn is_boot(received: &Received) -> bool {
-    matches!(
-        received,
-        Received::Message {
-            event: SessionEvent::Boot,
-            ..
-        }
-    )
 }
 
 /// Sends a session's silent client one WebSocket ping, and ends the session after a longer silence.

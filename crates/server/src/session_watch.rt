@@ -71,7 +71,7 @@ impl<R: Wait + Clock> SessionWatch<'_, R> {
         match event {
             SessionEvent::Boot => {
                 self.hear_boot(context, core, moment);
-                // Its profiles may be installed again, which adds calls.
+                // Its profiles may have been installed again, which adds calls.
                 self.see_calls(context, core, moment);
             }
             SessionEvent::Reply { call, rejection } => {

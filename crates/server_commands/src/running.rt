@@ -71,7 +71,7 @@ pub fn run_file<
     requires workers { 1 ≤ running.workers }
     requires seats { 1 ≤ running.seats }
 {
-    let sends_again = sends_again(running.after_boot)?;
+    let installs_again = installs_again(running.after_boot)?;
     let (site, digest) = read_digested_site(rt, running.site)?;
     let keys = read_keys(rt, running.keys)?;
     let opened = open_journal(rt, running.folder)?;
@@ -91,7 +91,7 @@ pub fn run_file<
             call_timeout: running.call_timeout,
             keys,
             address: String::from_str(rt.alloc(), running.listen)?,
-            sends_again,
+            installs_again,
         },
         status,
         status_address: if running.is_status_open {
@@ -108,8 +108,8 @@ pub fn run_file<
     run_counted::<Brand, Brand, Brand, R>(rt, plan, blanks, (Unnamed::new(), Unnamed::new()))
 }
 
-/// Returns whether `run` sends a point its profiles again after a boot, by `--after-boot`.
-fn sends_again(after_boot: Option<&str>) -> Result<bool, ProgramFault> {
+/// Returns whether `run` installs a point's profiles again after a boot, by `--after-boot`.
+fn installs_again(after_boot: Option<&str>) -> Result<bool, ProgramFault> {
     match after_boot {
         None => Ok(true),
         Some("nothing") => Ok(false),

@@ -19,8 +19,8 @@ pub struct SeatOptions {
     pub keys: Option<Keys>,
     /// The address at which the site listens, as it was given.
     pub address: String,
-    /// Whether a point gets its profiles again after it has booted.
-    pub sends_again: bool,
+    /// Whether the profiles of a point are installed again after it has booted.
+    pub installs_again: bool,
 }
 
 /// The state that all seats of a site share, without its book and its journal.

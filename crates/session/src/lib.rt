@@ -14,7 +14,7 @@ pub use context::Context;
 pub use outcome::{Outcome, Performed};
 pub use serving::{
     Breach, Ended, Received, SentCall, Served, SessionEvent, WatchedSocket, answer_message,
-    answer_next, claim_link, install_again, release_link, send_call, serve_session, serve_socket,
+    answer_next, claim_link, release_link, send_call, serve_session, serve_socket,
 };
 pub use session_core::{Peer, SessionCore};
 pub use step::perform;

@@ -22,7 +22,6 @@ use calls::lose;
 pub use calls::{claim_link, send_call};
 use crossbeam_channel::Sender;
 pub use ended::{Breach, Ended};
-pub use installing_again::install_again;
 use journal::{Journal, NoJournal};
 use ocpp_scalars::Moments;
 pub use received::{Received, SentCall, SessionEvent};
@@ -105,7 +104,7 @@ fn answer_texts<W: World, S: Read + Write + Drop, K: MaskKeys + Drop>(
     ensures { KeepsPass pass.old pass.new }
 {
     for _text in context.rt.forever() {
-        match answer_next(context, socket, core, pass) {
+        match answer_next(context, socket, core, pass, false) {
             Ok(Received::Message { .. } | Received::Control { .. }) => {}
             // `serve` sets no read timeout, so a read that gives up counts as a failure.
             Ok(Received::Nothing) => return Ended::Broken,

@@ -166,7 +166,7 @@ fn watch<C: Ledger, A: Ledger, R: Abort + Wait + Clock>(
     let (rt, mut socket, mut pass) = (desk.rt, socket, pass);
     let mut watched = WatchedSocket::new(rt, &mut socket, most_of_own);
     for _message in 0..20u32 {
-        match answer_next(&*desk, &mut watched, core, &mut pass) {
+        match answer_next(&*desk, &mut watched, core, &mut pass, false) {
             Ok(Received::Nothing) => return (None, pass),
             Ok(_) => {}
             Err(ended) => return (Some(ended), pass),

@@ -44,7 +44,7 @@ struct Install {
 /// calls to it wait behind those that wait already. A profile is left out if it was replaced or
 /// cleared meanwhile, or its call has no reply yet. Without memory, or room in the outbox, the
 /// others stay as they are.
-pub fn install_again<W: World>(
+pub(crate) fn install_again<W: World>(
     context: &Context<'_, W>,
     core: &SessionCore,
     pass: &mut Pass<W::Changes, W::Answers>,

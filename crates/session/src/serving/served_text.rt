@@ -15,6 +15,7 @@ use crate::outcome::{Outcome, Performed};
 use crate::serving::audits::{OpenAudit, audit_confirmed, audit_to_judge, judge_reply};
 use crate::serving::calls::send_call;
 use crate::serving::ended::{Ended, ended_unsaved};
+use crate::serving::installing_again::install_again;
 use crate::serving::noting::{note_performed, prepare_message};
 use crate::serving::reading::read_message;
 use crate::serving::received::{Incoming, Received, SessionEvent};
@@ -37,12 +38,14 @@ use world::World;
 
 /// Waits for the next WebSocket message, and serves it if it is a text message. Returns `Nothing`
 /// if the read times out. An error ends the session. The client of a watched socket may be gone
-/// before the answer is there: then none is sent.
+/// before the answer is there: then none is sent. With `installs_again`, a point's profiles are
+/// installed again before its BootNotification is answered.
 pub fn answer_next<W: World, S: SessionSocket>(
     context: &Context<'_, W>,
     socket: &mut S,
     core: &SessionCore,
     pass: &mut Pass<W::Changes, W::Answers>,
+    installs_again: bool,
 ) -> Result<Received, Ended>
     ensures { KeepsPass pass.old pass.new }
 {
@@ -64,6 +67,11 @@ pub fn answer_next<W: World, S: SessionSocket>(
         event,
         seen,
     } = answer_message(context, socket, core, pass, now, frame)?;
+    if installs_again && matches!(event, SessionEvent::Boot) {
+        // The lines noted by now are kept before the answer leaves. A point that has it doesn't
+        // boot again.
+        install_again(context, core, pass);
+    }
     socket.still_there()?;
     if let Some(answer) = &answer {
         let cleared = clear_to_leave(context.journal, answer.as_str(), &seen)?;
