@@ -222,6 +222,44 @@ def profiles_after_a_boot(program):
         expect(f"--after-boot {word}", done.returncode == 4 and b"--after-boot" in done.stderr, status == 4)
 
 
+def limit_of(fields):
+    """The limit of a profile's first period."""
+    return fields["csChargingProfiles"]["chargingSchedule"]["chargingSchedulePeriod"][0]["limit"]
+
+
+def changes_beside_boots(program):
+    """A profile that an operator replaces while its point boots again and again is the operator's newest, not one that a boot brings back."""
+    changes, ended = 300, threading.Event()
+
+    def boots_and_obeys(point):
+        for number in range(10_000):
+            texts = [] if ended.is_set() else point.texts_of(boot(f"b{number}"))
+            while calls := [json.loads(text) for text in texts if text.startswith("[2,")]:
+                texts = [text for told in calls for text in point.texts_of(accepted(told[1]))]
+            if ended.is_set():
+                break
+
+    with Data() as data, Running(program, SITE, data.path, has_status=True) as running:
+        with RawClient.connected(running, "/operator/P1") as operator, RawClient.connected(running, "/P1") as point:
+            beside = threading.Thread(target=boots_and_obeys, args=(point,))
+            beside.start()
+            try:
+                for limit in range(1, changes + 1):
+                    expect(f"change {limit}", operator.texts_of(install(f"i{limit}", profile(1, [limit]))), [accepted(f"i{limit}")])
+            finally:
+                ended.set()
+                beside.join(PATIENCE)
+        lines = [line for line in data.bytes().decode().splitlines() if "SetChargingProfile" in line]
+        frames = [json.loads(line[line.index("[2,"):]) for line in lines]
+        installs = [(frame[1] == "after-boot", limit_of(frame[3])) for frame in frames]
+        stale = [later for (_, before), (is_again, later) in zip(installs, installs[1:]) if is_again and later != before]
+        expect("what boots brought back", stale, [])
+        again = sum(is_again for is_again, _ in installs)
+        expect(f"whether boots installed it again ({again} times)", again > 0, True)
+        shown = json.loads(read(program, data, "show", "--json")[1])["points"][0]["profiles"]
+        expect("what is installed", [limit_of(row) for row in shown], [changes])
+
+
 def replies_that_accept_nothing(program):
     """What isn't `Accepted` rejects an install, and shows nothing of what the point has. That no profile matched leaves nothing of a clear undone."""
     fields = profile(1, [7.0])
@@ -579,6 +617,7 @@ def tests():
     yield "figures that follow", figures_that_follow
     yield "a point that may have forgotten", point_that_may_have_forgotten
     yield "profiles after a boot", profiles_after_a_boot
+    yield "changes beside boots", changes_beside_boots
     yield "replies that accept nothing", replies_that_accept_nothing
     yield "an audit that differs", an_audit_that_differs
     yield "boots over restarts", boots_over_restarts
