@@ -8,7 +8,7 @@ from field import IS_PROVED, UNREADING, all_are_cut_off, close_all, in_threads
 from raw_client import CONTINUATION, TEXT, frame_bytes
 from run_crowds import filled, is_hostile
 from serving import expect
-from texts import accepted, call, install, profile
+from texts import accepted, ask, call, install, profile
 
 # Characters and elements of a long text. What isn't proved is too slow for the longest ones.
 LONG = 1_000_000 if IS_PROVED else 50_000
@@ -91,9 +91,23 @@ def line_breaks(field):
     field.tell(f"{field.changes} of them are in the journal")
 
 
+def ask_with_long_answer(field):
+    """An ask of three days at a point with a daily fuse of 24 limits: its answer has some 72 periods."""
+    fuse = profile(1, [10, 11] * 12, purpose="ChargePointMaxProfile", kind="Recurring", recurrencyKind="Daily")
+    with field.stranger() as operator:
+        expect("an install", operator.texts_of(install("fuse", fuse)), [accepted("fuse")])
+    field.changes += 1
+    return ask("x" * 36, duration=3 * 86_400)
+
+
 def unread_answers(field):
-    """Clients on all seats that ask on and on, and read nothing: `run` closes them 10 seconds after there is no room for an answer."""
-    block = frame_bytes(TEXT, call("x" * 36, "PointStatus").encode()) * 200
+    """Clients on all seats that ask on and on, and read nothing: `run` closes them 10 seconds after there is no room for an answer.
+
+    Of `run` they want long answers: it answers each of them 80 times a second, and a system with BBR as its congestion control takes
+    in half a megabyte for each before a write waits. `serve` counts its schedules, so of it they ask what it doesn't count.
+    """
+    text = call("x" * 36, "PointStatus") if field.door == "serve" else ask_with_long_answer(field)
+    block = frame_bytes(TEXT, text.encode()) * 200
     clients = field.strangers(field.seats if IS_PROVED else 32, **UNREADING)
     sent, began = [0] * len(clients), time.monotonic()
     for client in clients:
