@@ -105,10 +105,13 @@ abbrev pub moved_all : BothStates → List Move → BothStates
 moved_all old [] = old
 moved_all old (move ∷ later) = moved_all (moved old move) later
 
+abbrev pub has_id_of : Profile → Row → Bool
+has_id_of profile row = int_eq row.profile.id profile.id
+
 -- no lasting row has the id of a profile
 abbrev pub HasNewId : List Row → Profile → Type 0
 HasNewId rows profile =
-    (row : Row) → IsAmong row rows → lasts row ≡ true → int_eq row.profile.id profile.id ≡ false
+    (row : Row) → IsAmong row rows → lasts row ≡ true → has_id_of profile row ≡ false
 
 -- The point accepts the call in flight only if it has obeyed it. A transaction begins without a
 -- profile, or with a TxProfile that has no lasting one's id. The point's transactions leave its
