@@ -14,7 +14,7 @@ from run_crowds import GIVES_BACK
 from run_data import Data, read
 from run_keys import Keys, basic
 from serving import PATIENCE, Running, Serving, Unexpected, expect
-from texts import OCPP, call, heartbeat, site
+from texts import OCPP, call, heartbeat, limit_of, site
 
 HERE = os.path.dirname(os.path.abspath(__file__))
 IS_PROVED = "UNPROVED" not in os.environ
@@ -266,10 +266,6 @@ class Field:
                 expect("the operator comes back", client.shake_hands("/operator/P1", [PROTOCOL, *self.login("ann")]).status, 101)
                 text = client.texts_of(call("s", "PointStatus"))[0]
                 expect("the version", json.loads(text)[2]["status"], "Accepted")
-
-
-def limit_of(install):
-    return install["csChargingProfiles"]["chargingSchedule"]["chargingSchedulePeriod"][0]["limit"]
 
 
 def in_threads(count, work, patience=PATIENCE):

@@ -1,5 +1,7 @@
 """The status port of a site that is run: its paths, who reads it, and figures that follow what happened."""
+import functools
 import http.client
+import itertools
 import json
 import os
 import re
@@ -15,7 +17,7 @@ from browser import browser, contrast, schemes, seen_at
 from raw_client import TEXT, RawClient, frame_bytes
 from run_data import SITE, Data, SmallDevice, read, transaction_of
 from serving import ENVIRONMENT, PATIENCE, Running, Unexpected, expect, free_port, until
-from texts import CALL_0, accepted, ask, call, clear, error, heartbeat, install, install_call, plain_site, profile, rejected, start
+from texts import CALL_0, accepted, ask, call, clear, error, heartbeat, install, install_call, limit_of, plain_site, profile, rejected, start
 
 sys.path.insert(0, os.path.join(os.path.dirname(os.path.realpath(__file__)), ".."))
 from png_colours import shares_of_colours
@@ -217,35 +219,37 @@ def profiles_after_a_boot(program):
         running.kill()  # the boot was answered, so what it brought is in the journal
         with Running(program, SITE, data.path, has_status=True) as again:
             expect("after a kill", states_of(again), ["sent", "sent"])
-    for word, status in (("nothing", 0), ("all", 4)):
-        done = subprocess.run([program, "run", "--site", "F", "--data", "D", "--listen", "127.0.0.1:0", "--after-boot", word], capture_output=True, timeout=PATIENCE, check=False, env=ENVIRONMENT)
-        expect(f"--after-boot {word}", done.returncode == 4 and b"--after-boot" in done.stderr, status == 4)
+    # The site file isn't there, which a command line without a fault comes to.
+    for word, ended in (("nothing", (3, False)), ("all", (4, True))):
+        words = [program, "run", "--site", "F", "--data", "D", "--listen", "127.0.0.1:0", "--after-boot", word]
+        done = subprocess.run(words, capture_output=True, timeout=PATIENCE, check=False, env=ENVIRONMENT)
+        expect(f"how --after-boot {word} ends", (done.returncode, b"--after-boot" in done.stderr), ended)
 
 
-def limit_of(fields):
-    """The limit of a profile's first period."""
-    return fields["csChargingProfiles"]["chargingSchedule"]["chargingSchedulePeriod"][0]["limit"]
+def boots_and_obeys(point, obeyed, ended):
+    """A point boots again and again, and obeys each call. It adds the limits of the profiles that it is given."""
+    for number in itertools.count():
+        if ended.is_set():
+            break
+        texts = point.texts_of(boot(f"b{number}"))
+        while calls := [json.loads(text) for text in texts if text.startswith("[2,")]:
+            obeyed += [limit_of(told[3]) for told in calls if told[2] == "SetChargingProfile"]
+            texts = [text for told in calls for text in point.texts_of(accepted(told[1]))]
 
 
 def changes_beside_boots(program):
     """A profile that an operator replaces while its point boots again and again is the operator's newest, not one that a boot brings back."""
-    changes, ended = 300, threading.Event()
-
-    def boots_and_obeys(point):
-        for number in range(10_000):
-            texts = [] if ended.is_set() else point.texts_of(boot(f"b{number}"))
-            while calls := [json.loads(text) for text in texts if text.startswith("[2,")]:
-                texts = [text for told in calls for text in point.texts_of(accepted(told[1]))]
-            if ended.is_set():
-                break
-
+    changes, obeyed, ended = 300, [], threading.Event()
     with Data() as data, Running(program, SITE, data.path, has_status=True) as running:
         with RawClient.connected(running, "/operator/P1") as operator, RawClient.connected(running, "/P1") as point:
-            beside = threading.Thread(target=boots_and_obeys, args=(point,))
+            beside = threading.Thread(target=boots_and_obeys, args=(point, obeyed, ended))
             beside.start()
             try:
                 for limit in range(1, changes + 1):
                     expect(f"change {limit}", operator.texts_of(install(f"i{limit}", profile(1, [limit]))), [accepted(f"i{limit}")])
+                    if limit % 3 == 0:
+                        # A boot installs again only what has no call on its way.
+                        until(f"the point obeyed change {limit}", functools.partial(obeyed.__contains__, limit))
             finally:
                 ended.set()
                 beside.join(PATIENCE)

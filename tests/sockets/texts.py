@@ -68,6 +68,11 @@ def install(message_id, fields, connector=0):
     return call(message_id, "SetChargingProfile", {"connectorId": connector, "csChargingProfiles": fields})
 
 
+def limit_of(fields):
+    """The limit of the first period that a SetChargingProfile's fields have."""
+    return fields["csChargingProfiles"]["chargingSchedule"]["chargingSchedulePeriod"][0]["limit"]
+
+
 def clear(message_id, **criteria):
     return call(message_id, "ClearChargingProfile", criteria)
 
