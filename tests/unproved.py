@@ -22,8 +22,11 @@ PROGRAM = os.path.join(TOP, "packaging", "out", "central")
 LANES = 2
 # Seconds that one test of the crates may take where all processors are busy.
 LONGEST = "1200"
-# Tests that would take an hour without a proof: of its 10,000 books it makes these.
-BOOKS = ("test_books/books_at_random.rt", "for seed in 0..10_000u32", "for seed in 0..100u32")
+# Tests that would take an hour without a proof, and what they do instead.
+FEWER = (
+    ("test_books/books_at_random.rt", "for seed in 0..10_000u32", "for seed in 0..100u32"),
+    ("test_core/forgetting_point.rt", "for _ in 0..100_000u32", "for _ in 0..1_000u32"),
+)
 # The longest first, so that no lane is left with one at the end.
 LONG = ("run_histories", "crowds", "runs", "run_kills", "run_deadlines", "run_crowds", "replays")
 SUBJECT = re.compile(r'^    "(\w+)": \w+,$', re.MULTILINE)
@@ -68,12 +71,13 @@ class Played(Task):
         return 0, 1, f"status {done.returncode}, {differs}\n{done.stderr.decode(errors='replace')}"
 
 
-def with_fewer_books(folder):
-    path = os.path.join(folder, "crates", one_crate.NAME, "src", BOOKS[0])
-    text = one_crate.read(path)
-    if text.count(BOOKS[1]) != 1:
-        sys.exit(f"tests/unproved.py: {BOOKS[0]} has no line '{BOOKS[1]}'")
-    one_crate.write(path, text.replace(*BOOKS[1:]))
+def with_fewer_turns(folder):
+    for name, line, fewer in FEWER:
+        path = os.path.join(folder, "crates", one_crate.NAME, "src", name)
+        text = one_crate.read(path)
+        if text.count(line) != 1:
+            sys.exit(f"tests/unproved.py: {name} has no line '{line}'")
+        one_crate.write(path, text.replace(line, fewer))
 
 
 def subjects():
@@ -154,7 +158,7 @@ def main():
     began = time.monotonic()
     with tempfile.TemporaryDirectory(prefix="central-unproved-") as folder:
         one_crate.copied_sources(TOP, folder)
-        with_fewer_books(folder)
+        with_fewer_turns(folder)
         lanes = Lanes(tasks_over(folder))
         threads = [threading.Thread(target=lanes.work, daemon=True) for _ in range(LANES)]
         for thread in threads:

@@ -321,12 +321,10 @@ def states_of(running):
 
 
 def boots_in(data):
-    """The file of boots of a folder: none where it isn't there, or a line in its words each."""
-    path = os.path.join(data.path, "boots")
-    if not os.path.isfile(path):
-        return None
-    with open(path, encoding="latin-1") as file:
-        return [line.split(" ") for line in file.read().splitlines()]
+    """The boots in the journal of a folder: the moment, the point and the first call that it hadn't confirmed."""
+    lines = [line.split(" ", 4) for line in data.bytes().decode().splitlines() if '"BootNotification"' in line]
+    expect("whose lines they are", [words[1] for words in lines], ["point"] * len(lines))
+    return [[moment, point, number] for moment, _, point, number, _ in lines]
 
 
 def remarks_on_boots(program, data):
@@ -337,9 +335,10 @@ def remarks_on_boots(program, data):
 
 
 def boots_over_restarts(program):
-    """A restart knows which points booted, and so does `check`, until an install is confirmed behind it."""
+    """A restart knows which points booted, and so do `check` and `show`, until an install is confirmed behind it."""
     fields = profile(1, [7.0])
     forgotten = lambda running: point_of(running)["mayHaveForgotten"]
+    shown_states = lambda data, *at: [row["state"] for row in json.loads(read(program, data, "show", "--json", *at)[1])["points"][0]["profiles"]]
     with Data() as data:
         with Running(program, SITE, data.path, has_status=True, after_boot="nothing") as running:
             with RawClient.connected(running, "/operator/P1") as operator, RawClient.connected(running, "/P1") as point:
@@ -347,19 +346,21 @@ def boots_over_restarts(program):
                 point.texts_of(heartbeat("h"))
                 point.texts_of(accepted("0"))
                 point.texts_of(accepted("1"))
-                expect("before a boot", (boots_in(data), remarks_on_boots(program, data)), ([], []))
+                point.texts_of(heartbeat("k"))  # the replies are on the disk before its answer leaves
+                before = state(running)["moment"]
+                expect("before a boot", (boots_in(data), remarks_on_boots(program, data), shown_states(data)), ([], [], ["held"]))
+                until("the clock went on", lambda: state(running)["moment"] > before)
                 point.texts_of(boot("b"))
-                until("the boot is in the folder", lambda: bool(boots_in(data)))
                 moment = point_of(running)["booted"]
                 expect("its line", boots_in(data), [[moment, "P1", "2"]])
             with RawClient.connected(running, "/P2") as other:
                 other.texts_of(boot("b"))
-                until("the other's boot too", lambda: len(boots_in(data)) == 2)
-        journal = data.bytes()
+                expect("the other's boot too", [words[1:] for words in boots_in(data)], [["P1", "2"], ["P2", "0"]])
+            running.kill()
         with Running(program, SITE, data.path, has_status=True, after_boot="nothing") as running:
-            expect("behind a restart", (forgotten(running), point_of(running)["booted"]), (True, moment))
+            expect("behind a kill", (forgotten(running), point_of(running)["booted"]), (True, moment))
             expect("of one without profiles", point_of(running, "P2")["mayHaveForgotten"], False)
-            expect("whether the journal has the boot", data.bytes().startswith(journal) and b"boot" not in data.bytes(), True)
+            expect("what show says", (shown_states(data), shown_states(data, "--at", before)), (["unsure"], ["held"]))
             wanted = f"script: P1, at the end: remark: it booted at {moment}, and may have forgotten its profiles: audit it, or install them anew"
             expect("what check says", remarks_on_boots(program, data), [wanted])
             with RawClient.connected(running, "/operator/P1") as operator, RawClient.connected(running, "/P1") as point:
@@ -367,37 +368,33 @@ def boots_over_restarts(program):
                 expect("with the install that waits", (forgotten(running), remarks_on_boots(program, data)), (False, []))
                 point.texts_of(heartbeat("h"))
                 point.texts_of(accepted("2"))
-                expect("once it is confirmed", forgotten(running), False)
-                expect("the boots in the folder", [line[1] for line in boots_in(data)], ["P1", "P2"])
+                point.texts_of(heartbeat("l"))
+                expect("once it is confirmed", (forgotten(running), states_of(running)), (False, ["held"]))
         with Running(program, SITE, data.path, has_status=True, after_boot="nothing") as running:
-            expect("behind another restart", forgotten(running), False)
+            expect("behind another restart", (forgotten(running), states_of(running)), (False, ["held"]))
             expect("what check says then", remarks_on_boots(program, data), [])
 
 
 def boots_on_a_full_device(program):
-    """That boots can't be kept is said once, until they can be again."""
+    """A boot that can't be kept isn't accepted, so the point says it again, and then it is known."""
     with SmallDevice() as data:
         if data is None:
             return
-        with Running(program, SITE, data.path, has_status=True) as running:
-            with RawClient.connected(running, "/P1") as point, RawClient.connected(running, "/P2") as other:
-                for client in (point, other):
-                    client.texts_of(heartbeat("h"))
-                    client.texts_of(accepted("0"))
-                data.fill()
-                for client in (point, other):
-                    client.texts_of(boot("b"))
-                    time.sleep(1.5)  # at most once a second they are to be kept
-                expect("what is kept", boots_in(data), [])
-                data.has_room_again()
-                point.texts_of(boot("c"))
-                until("all are kept", lambda: sorted(line[1] for line in boots_in(data)) == ["P1", "P2"])
-            said = [line for line in running.kill_and_hear().decode().splitlines() if "boots: they can't be kept" in line]
-            expect(f"how often it is said: {said}", len(said), 1)
+        with Running(program, SITE, data.path, has_status=True) as running, RawClient.connected(running, "/P1") as point:
+            point.texts_of(heartbeat("h"))
+            point.texts_of(accepted("0"))
+            data.fill()
+            refused = error("b", "InternalError", "OutOfMemory")
+            until("a boot isn't accepted", lambda: point.texts_of(boot("b"))[:1] == [refused])
+            known = len(boots_in(data))
+            data.has_room_again()
+            until("it is accepted again", lambda: point.texts_of(boot("b"))[:1] != [refused])
+            expect("what is kept", len(boots_in(data)) > known, True)
+            expect("whether it is known", bool(point_of(running)["booted"]), True)
 
 
-def faulty_boots(program):
-    """Lines that are no boots are left out, and a start without a file of boots goes on."""
+def boots_of_an_earlier_version(program):
+    """Earlier versions kept boots in a file beside the journal. A start makes them lines of the journal, and the file goes."""
     fields = profile(1, [7.0])
     with Data() as data:
         path = os.path.join(data.path, "boots")
@@ -408,32 +405,19 @@ def faulty_boots(program):
                 point.texts_of(accepted("0"))
                 point.texts_of(accepted("1"))
                 point.texts_of(heartbeat("k"))  # the replies are on the disk before its answer leaves
+            expect("whether there is such a file", os.path.exists(path), False)
+        earlier = data.bytes().replace(b"central journal 2 ", b"central journal 1 ", 1)
+        data.write(earlier)
         with open(path, "wb") as file:
-            file.write(b"2025-01-01T00:00:00Z P1 99\nP2\n2025-01-01T00:00:00Z P9 0\n2025-01-01 P2 0\n\n2025-01-01T00:00:00Z P2 x\n\xff P2 0\n")
-            file.write(b"2025-01-01T00:00:00Z\n2025-01-01T00:00:00Z P2 \n2025-01-01T00:00:00Z P2 -1\n2025-01-01T00:00:00Z P2 1 2\n")
-            file.write(b"2025-01-01T00:00:00Z P2 18446744073709551616\n 2025-01-01T00:00:00Z P2 1\n2025-01-01T00:00:00Z P2")
-        left_out = f"central: {path}: 13 of its lines are of no point's boot, and are left out\n"
-        status, printed, said = read(program, data, "check")
-        expect("what check says", (status, said, printed.count("it booted at 2025-01-01T00:00:00Z")), (0, left_out, 1))
-        with Running(program, SITE, data.path, has_status=True) as running:
-            expect("the boots", [point_of(running, name)["booted"] for name in ("P1", "P2")], ["2025-01-01T00:00:00Z", None])
-            with RawClient.connected(running, "/operator/P1") as operator, RawClient.connected(running, "/P1") as point:
-                expect("of another journal", point_of(running)["mayHaveForgotten"], True)
-                operator.texts_of(install("j", fields))
-                point.texts_of(heartbeat("h"))
-                point.texts_of(accepted("2"))
-                expect("behind an install", point_of(running)["mayHaveForgotten"], False)
-                point.texts_of(boot("b"))
-                until("its boot is in the folder", lambda: [line[1:] for line in boots_in(data)] == [["P1", "3"]])
-            said = running.kill_and_hear().decode().splitlines(True)
-            expect("what is said", [line for line in said if path in line or "boots" in line], [left_out])
-        os.remove(path)
-        os.mkdir(path)
-        with Running(program, SITE, data.path, has_status=True) as running:
-            with RawClient.connected(running, "/P1") as point:
-                point.texts_of(boot("b"))
-            said = running.kill_and_hear().decode().splitlines(True)
-            expect("what is said of a folder", [line for line in said if "boots" in line], [f"central: {path}: Is a directory (os error 21)\n"] * 2)
+            file.write(b"2025-01-01T00:00:00Z P1 2\nP2\n2025-01-01T00:00:00Z P9 0\n2025-01-01 P2 0\n\n\xff P2 0\n2025-01-01T00:00:00Z P2")
+        for name in ("first", "second"):
+            with Running(program, SITE, data.path, has_status=True) as running:
+                expect(f"the boots behind the {name} start", [point_of(running, name)["booted"] for name in ("P1", "P2")], ["2025-01-01T00:00:00Z", None])
+                expect(f"what it may have forgotten behind the {name}", states_of(running), ["unsure"])
+                expect(f"where they are behind the {name}", (os.path.exists(path), boots_in(data)), (False, [["2025-01-01T00:00:00Z", "P1", "2"]]))
+        expect("what check says", len(remarks_on_boots(program, data)), 1)
+        formats = [line.split(" ")[2] for line in data.bytes().decode().splitlines() if line.startswith("central journal ")]
+        expect("the formats", (formats, data.bytes().startswith(earlier)), (["1", "2"], True))
 
 
 def calls_that_wait(program):
@@ -626,7 +610,7 @@ def tests():
     yield "an audit that differs", an_audit_that_differs
     yield "boots over restarts", boots_over_restarts
     yield "boots on a full device", boots_on_a_full_device
-    yield "faulty boots", faulty_boots
+    yield "boots of an earlier version", boots_of_an_earlier_version
     yield "calls that wait", calls_that_wait
     yield "as a table", as_a_table
     yield "slow clients", slow_clients

@@ -191,10 +191,10 @@ def faulty_journals(program):
     """The first line that can't be, or doesn't fit, is named with its number."""
     with Data() as data:
         whole = journal_of_a_day(program, data).split(b"\n")
-    sha = b"central journal 1 sha256:"
+    sha = b"central journal 2 sha256:"
     for name, lines, said in (
         ("no journal", [b"something else", *whole[1:]], "line 1: not a journal"),
-        ("another format", [whole[0].replace(sha, b"central journal 2 sha256:"), *whole[1:]], "line 1: a journal of another format"),
+        ("another format", [whole[0].replace(sha, b"central journal 3 sha256:"), *whole[1:]], "line 1: a journal of another format"),
         ("no digest", [sha + b"xyz", *whole[1:]], "line 1: no digest of a site file"),
         ("a line left out", whole[:4] + whole[5:], "line 5: "),
         ("two lines exchanged", [*whole[:2], whole[3], whole[2], *whole[4:]], "line 3: "),
@@ -229,9 +229,9 @@ def one_process_at_a_time(program):
 def who_may_read(program):
     """What a run makes is for its own user alone: the lines have idTags."""
     with Data() as data, Running(program, SITE, data.path):
-        paths = ("", "journal", "boots", "reserve")
+        paths = ("", "journal", "reserve")
         modes = [os.stat(os.path.join(data.path, path)).st_mode & 0o777 for path in paths]
-        expect("the modes", modes, [0o700, 0o600, 0o600, 0o600])
+        expect("the modes", modes, [0o700, 0o600, 0o600])
 
 
 def begun_at_once(program):

@@ -121,10 +121,8 @@ If a point connects again, its older connection is closed.
 DIR/journal has a line for each change, written and synced before the change is acknowledged. A restart
 replays these lines; each has to draw the number that it drew before. A torn last line was never
 acknowledged, and is cut. With another site file, the first line that doesn't fit is named. Only one
-process runs on a folder. DIR/boots has the points that booted and have confirmed no install since:
-'central check --data' names those that may have forgotten their profiles. While the device is full,
-changes are answered InternalError. If the journal can't be written for another reason, the program
-exits with status 3. It may be killed at any moment.
+process runs on a folder. While the device is full, changes are answered InternalError. If the journal
+can't be written for another reason, the program exits with status 3. It may be killed at any moment.
 
 Example:
   central run --site site.json --data /var/lib/central --listen 127.0.0.1:9000

@@ -1,5 +1,5 @@
 -- The law holds by an invariant: what is true of each lasting row and its delivery.
-use Rattle.std.proofs.Common.{◌≡◌, ℕ, ℤ, zero, suc, ◌+◌, ◌<◌, ◌≤◌, ◌==◌, Bool, true, false, not, ◌&&◌, ◌||◌, ◌⊎◌, inl, inr, cond, List, [], ◌∷◌, ◌++◌, filter, map, drop, length, max, nat_le, nat_lt, Option, None, Some, refl, sym, ap, ◌∙◌, subst, arith}
+use Rattle.std.proofs.Common.{◌≡◌, ℕ, ℤ, zero, suc, ◌+◌, ◌-◌, ◌<◌, ◌≤◌, ◌==◌, Bool, true, false, not, ◌&&◌, ◌||◌, ◌⊎◌, inl, inr, cond, List, [], ◌∷◌, ◌++◌, filter, map, drop, length, max, nat_le, nat_lt, Option, None, Some, refl, sym, ap, ◌∙◌, subst, arith, length-append}
 use Rattle.std.specs.Prelude.{option_and_then, slice_get}
 use Rattle.std.specs.List.{position, cons_option}
 use Rattle.std.specs.Ordering.{int_eq}
@@ -17,9 +17,9 @@ use Rattle.messages.specs.declared.call.CallBody.{CallBody}
 use Rattle.messages.specs.declared.call.CallBody.TheVariants.{Set, Clear, Audit, RemoteStart}
 use Rattle.site_core.specs.declared.deliveries.Delivery.{Delivery}
 use Rattle.site_core.specs.declared.deliveries.ProfileState.TheVariants.{Held, Sent, Unsure, Rejected}
-use Rattle.site_core.specs.Delivery.{is_delivery_of, is_among, is_replaced, remains_beside, with_delivery, rejected_by, delivery_of, deliveries_after_reply, lost_before, profile_state_by}
+use Rattle.site_core.specs.Delivery.{is_delivery_of, is_among, is_replaced, remains_beside, with_delivery, rejected_by, delivery_of, deliveries_after_reply, lost_after_audit, lost_by_verdict, profile_state_by}
 use Rattle.site_core.specs.Outbox.{is_unconfirmed, is_number_of_first, is_number_in_flight, confirmed, numbered, clear_all}
-use Rattle.site_core.specs.ChargePoint.{ChargePointState, Deed, Installs, Clears, Starts, Stops, Attaches, Loses, Sends, Confirms, Audits, Judges, RemoteStarts, opening_point, point_after, point_with, rows_by_call, brought_at_start}
+use Rattle.site_core.specs.ChargePoint.{ChargePointState, Deed, Installs, Clears, Starts, Stops, Attaches, Loses, Sends, Confirms, Audits, Judges, RemoteStarts, Boots, opening_point, point_after, point_with, rows_by_call, brought_at_start}
 use Rattle.site_core.specs.WaitingStart.{ended_start}
 use Rattle.site_core.specs.declared.waiting_starts.WaitingStart.{WaitingStart}
 use Rattle.site_rules.specs.Site.{PointEntry, SiteState}
@@ -30,7 +30,12 @@ use Rattle.site_core.specs.CallOrder.{PointsFollowHistories, deed_by, deeds_from
 use Rattle.stacking.specs.Limits.{max_rows}
 use Rattle.stacking.specs.Rows.{rows_begun, transaction_row}
 use Rattle.site_core.specs.Outbox.{OutboxState, sendable, sent, sent_by}
-use Rattle.held_law.specs.Held.{IsAmong, lasts, OwnState, BothStates, HasHeldProfiles, MachinesKnowWhatIsHeld, with_any, deeds_in, Move, Does, Obeys, ChangesTransactions, HasProfile, HasNewId, IsHonest, AreHonest, HeldProfilesAreHad, Boots, first_unconfirmed, opening, moved, moved_all, obeyed_first}
+use Rattle.site_core.specs.Audit.{AuditState, judged_audit, settled}
+use Rattle.site_core.specs.Equal.{same_transactions}
+use Rattle.transactions.specs.declared.transaction.Transaction.{Transaction}
+use Rattle.sweep_compiler.specs.declared.verdict.Verdict.{Verdict}
+use Rattle.sweep_compiler.specs.declared.verdict.Verdict.TheVariants as verdicts
+use Rattle.held_law.specs.Held.{IsAmong, lasts, OwnState, BothStates, HasHeldProfiles, MachinesKnowWhatIsHeld, with_any, deeds_in, Move, Does, Obeys, ChangesTransactions, HasProfile, HasNewId, IsHonest, AreHonest, HeldProfilesAreHad, Restarts, opening, moved, moved_all, obeyed_first}
 
 -- ---- tests
 
@@ -251,6 +256,15 @@ still_obeyed (RemoteStart connector id_tag profile) rows others each obeyed = tt
 
 -- ---- the invariant
 
+-- the point itself, and the first call whose profile it can't have lost
+record OwnSince : Type 0 where
+  rows : List Row
+  has_obeyed : Bool
+  lost : ℕ
+
+abbrev since : OwnState → ℕ → OwnSince
+since own lost = record { rows = own.rows; has_obeyed = own.has_obeyed; lost = lost }
+
 -- of a lasting row and its delivery, with these unconfirmed calls to a point with these rows:
 record IsDelivered (calls : List Call) (next : ℕ) (own : List Row) (lost : ℕ) (row : Row)
     (delivery : Delivery) : Type 0 where
@@ -273,7 +287,7 @@ HasObeyed [] rows = ⊥
 HasObeyed (call ∷ later) rows = IsObeyed call.body rows
 
 record Holds (rows : List Row) (deliveries : List Delivery) (calls : List Call) (next : ℕ)
-    (own : OwnState) : Type 0 where
+    (own : OwnSince) : Type 0 where
   delivered : (row : Row) → IsAmong row rows → lasts row ≡ true
       → (delivery : Delivery) → IsAmong delivery deliveries → is_delivery_of row delivery ≡ true
       → IsDelivered calls next own.rows own.lost row delivery
@@ -284,7 +298,7 @@ record Holds (rows : List Row) (deliveries : List Delivery) (calls : List Call) 
 -- ---- fewer rows
 
 fewer_rows : (rows others : List Row) (deliveries : List Delivery) (calls : List Call) (next : ℕ)
-    (own : OwnState)
+    (own : OwnSince)
     → ((row : Row) → IsAmong row others → lasts row ≡ true → IsAmong row rows)
     → Holds rows deliveries calls next own → Holds others deliveries calls next own
 fewer_rows rows others deliveries calls next own fewer holds = record {
@@ -297,7 +311,7 @@ fewer_rows rows others deliveries calls next own fewer holds = record {
 
 -- a delivery of a profile that no lasting row has
 other_delivery : (rows others : List Row) (deliveries : List Delivery) (new : Delivery)
-    (calls : List Call) (next : ℕ) (own : OwnState)
+    (calls : List Call) (next : ℕ) (own : OwnSince)
     → ((row : Row) → IsAmong row others → lasts row ≡ true
     → IsAmong row rows × (is_delivery_of row new ≡ false))
     → Holds rows deliveries calls next own
@@ -360,7 +374,7 @@ added_below calls next body below =
     (λ c is. let one = below c is in omega (arith, one)) (omega arith)
 
 added_call : (rows others : List Row) (deliveries : List Delivery) (calls : List Call) (next : ℕ)
-    (body : CallBody) (own : OwnState)
+    (body : CallBody) (own : OwnSince)
     → ((row : Row) → IsAmong row others → lasts row ≡ true → IsAmong row rows × Keeps body row)
     → Holds rows deliveries calls next own
     → Holds others deliveries (calls ++ record { number = next; body = body } ∷ []) (next + 1) own
@@ -397,7 +411,7 @@ new_pair calls next row own lost below =
     }
 
 installs : (rows : List Row) (row : Row) (deliveries : List Delivery) (calls : List Call)
-    (next : ℕ) (own : OwnState)
+    (next : ℕ) (own : OwnSince)
     → Holds rows deliveries calls next own
     → Holds (installed rows row)
     (with_delivery rows deliveries
@@ -518,7 +532,7 @@ rejected_pair calls next own lost row delivery is = record {
 }
 
 accepts_first : (rows : List Row) (deliveries : List Delivery) (call : Call) (later : List Call)
-    (next : ℕ) (own : OwnState)
+    (next : ℕ) (own : OwnSince)
     → own.has_obeyed ≡ true → Holds rows deliveries (call ∷ later) next own
     → Holds rows deliveries later next (record own { has_obeyed = false })
 accepts_first rows deliveries call later next own has holds = record {
@@ -550,7 +564,7 @@ same_row number row was delivery same of_row =
     ∙ ap (λ (d : Delivery). is_delivery_of row d) same ∙ of_row
 
 rejects_first : (rows : List Row) (deliveries : List Delivery) (call : Call) (later : List Call)
-    (next : ℕ) (own : OwnState)
+    (next : ℕ) (own : OwnSince)
     → Holds rows deliveries (call ∷ later) next own
     → Holds rows (map (rejected_by call.number) deliveries) later next
     (record own { has_obeyed = false })
@@ -579,7 +593,7 @@ rejects_first rows deliveries call later next own holds = record {
 
 -- a reply that confirms nothing
 rejects_none : (rows : List Row) (deliveries : List Delivery) (calls : List Call) (next : ℕ)
-    (own : OwnState) (number : ℕ)
+    (own : OwnSince) (number : ℕ)
     → Holds rows deliveries calls next own
     → Holds rows (map (rejected_by number) deliveries) calls next own
 rejects_none rows deliveries calls next own number holds = record {
@@ -604,7 +618,7 @@ rejects_none rows deliveries calls next own number holds = record {
 
 -- a point that keeps its lasting profiles
 own_changes : (rows : List Row) (deliveries : List Delivery) (calls : List Call) (next : ℕ)
-    (own : OwnState) (others : List Row)
+    (own : OwnSince) (others : List Row)
     → ((row : Row) → IsAmong row own.rows → lasts row ≡ true → IsAmong row others)
     → Holds rows deliveries calls next own
     → Holds rows deliveries calls next (record own { rows = others })
@@ -631,10 +645,15 @@ own_changes rows deliveries calls next own others stays holds = record {
     first [] obeyed = absurd obeyed
     first (call ∷ later) obeyed = still_obeyed call.body own.rows others each obeyed
 
+abbrev obeyed_since : ℕ → List Call → OwnSince → OwnSince
+obeyed_since moment [] own = own
+obeyed_since moment (call ∷ later) own =
+    record own { rows = rows_by_call moment call.body own.rows; has_obeyed = true }
+
 obeys : (rows : List Row) (deliveries : List Delivery) (calls : List Call) (next : ℕ)
-    (own : OwnState) (moment : ℕ)
+    (own : OwnSince) (moment : ℕ)
     → Holds rows deliveries calls next own
-    → Holds rows deliveries calls next (obeyed_first moment calls own)
+    → Holds rows deliveries calls next (obeyed_since moment calls own)
 obeys rows deliveries [] next own moment holds = holds
 obeys rows deliveries (call ∷ later) next own moment holds = record {
   delivered = λ row is lasting delivery given of_row.
@@ -653,20 +672,25 @@ obeys rows deliveries (call ∷ later) next own moment holds = record {
   obeyed = λ has. obeys_call moment call.body own.rows;
 }
 
+-- the number of the first unconfirmed call, or else of the next one
+abbrev first_number : List Call → ℕ → ℕ
+first_number [] next = next
+first_number (call ∷ later) next = call.number
+
 -- a confirmed delivery came before the first unconfirmed call
 was_before : (calls : List Call) (next : ℕ) (own : List Row) (lost : ℕ) (row : Row)
     (delivery : Delivery)
     → IsDelivered calls next own lost row delivery
     → is_unconfirmed calls delivery.call ≡ false
-    → delivery.call < first_unconfirmed calls next
+    → delivery.call < first_number calls next
 was_before [] next own lost row delivery is none = is.drawn
 was_before (call ∷ later) next own lost row delivery is none = is.past none call (inl refl)
 
 boots : (rows : List Row) (deliveries : List Delivery) (calls : List Call) (next : ℕ)
-    (own : OwnState) (left : List Row)
+    (own : OwnSince) (left : List Row)
     → Holds rows deliveries calls next own
     → Holds rows deliveries calls next
-    (record { rows = left; has_obeyed = false; lost = first_unconfirmed calls next })
+    (record { rows = left; has_obeyed = false; lost = first_number calls next })
 boots rows deliveries calls next own left holds = record {
   delivered = λ row is lasting delivery given of_row.
       let pair = holds.delivered row is lasting delivery given of_row in
@@ -686,10 +710,6 @@ boots rows deliveries calls next own left holds = record {
 
 -- ---- deeds
 
-abbrev Inv : BothStates → Type 0
-Inv both = Holds both.central.book.rows both.central.deliveries both.central.outbox.calls
-    both.central.outbox.next both.own
-
 sent_calls : (outbox : OutboxState) → (sent outbox).calls ≡ outbox.calls
 sent_calls outbox = go (sendable outbox)
   where
@@ -705,7 +725,7 @@ sent_next outbox = go (sendable outbox)
     go (Some call) = refl
 
 same_calls : (rows : List Row) (deliveries : List Delivery) (calls others : List Call)
-    (next number : ℕ) (own : OwnState)
+    (next number : ℕ) (own : OwnSince)
     → calls ≡ others → next ≡ number → Holds rows deliveries calls next own
     → Holds rows deliveries others number own
 same_calls rows deliveries calls others next number own same equal holds =
@@ -746,7 +766,7 @@ begun_row rows connector moment id profile tx given is lasting =
 
 begins : (rows : List Row) (connector moment : ℕ) (id : ℤ) (profile : Profile)
     (start : Option WaitingStart) (old : ChargePointState) (calls : List Call) (next : ℕ)
-    (own : OwnState)
+    (own : OwnSince)
     → is_tx profile.purpose ≡ true → HasNewId old.book.rows profile
     → Holds old.book.rows old.deliveries calls next own
     → Holds (rows_begun old.book.rows connector moment id (Some profile))
@@ -777,7 +797,7 @@ drop_first : (call : Call) (later : List Call) → drop 1 (call ∷ later) ≡ l
 drop_first call later = refl
 
 confirms_first : (rows : List Row) (deliveries : List Delivery) (calls : List Call) (next : ℕ)
-    (own : OwnState) (number : ℕ) (accepted : Bool)
+    (own : OwnSince) (number : ℕ) (accepted : Bool)
     → is_number_of_first calls number ≡ true
     → (accepted ≡ true → own.has_obeyed ≡ true)
     → Holds rows deliveries calls next own
@@ -797,7 +817,7 @@ confirms_first rows deliveries (call ∷ later) next own number false first hone
     (rejects_first rows deliveries call later next own holds))
 
 confirms_none : (rows : List Row) (deliveries : List Delivery) (calls : List Call) (next : ℕ)
-    (own : OwnState) (number : ℕ) (accepted : Bool)
+    (own : OwnSince) (number : ℕ) (accepted : Bool)
     → Holds rows deliveries calls next own
     → Holds rows (deliveries_after_reply number accepted deliveries) calls next own
 confirms_none rows deliveries calls next own number true holds = holds
@@ -805,7 +825,7 @@ confirms_none rows deliveries calls next own number false holds =
     rejects_none rows deliveries calls next own number holds
 
 confirms : (rows : List Row) (deliveries : List Delivery) (outbox : OutboxState)
-    (own : OwnState) (number : ℕ) (accepted : Bool)
+    (own : OwnSince) (number : ℕ) (accepted : Bool)
     → (accepted ≡ true → is_number_in_flight outbox number ≡ true → own.has_obeyed ≡ true)
     → Holds rows deliveries outbox.calls outbox.next own
     → Holds rows (deliveries_after_reply number accepted deliveries)
@@ -834,76 +854,337 @@ confirms rows deliveries outbox own number accepted honest holds =
         (sym (and_no own.has_obeyed))
         (confirms_none rows deliveries outbox.calls outbox.next own number accepted holds)
 
+-- ---- the numbers of the calls
+
+-- the calls are numbered up to the next one
+abbrev AreNumbered : List Call → ℕ → Type 0
+AreNumbered [] next = Unit {0}
+AreNumbered (call ∷ later) next =
+    (call.number + length (call ∷ later) ≡ next) × AreNumbered later next
+
+-- of these calls the first one isn't before a number
+record GoOnFrom (lost : ℕ) (calls : List Call) (next : ℕ) : Type 0 where
+  numbered : AreNumbered calls next
+  past : lost ≤ first_number calls next
+
+numbered_more : (calls : List Call) (next : ℕ) (body : CallBody) → AreNumbered calls next
+    → AreNumbered (calls ++ record { number = next; body = body } ∷ []) (next + 1)
+numbered_more [] next body are = (refl, tt)
+numbered_more (call ∷ later) next body are =
+    let more = length-append later (record { number = next; body = body } ∷ []) in
+    (omega (arith, are.0, more), numbered_more later next body are.1)
+
+first_same : (calls : List Call) (next : ℕ) (body : CallBody)
+    → first_number calls next
+    ≡ first_number (calls ++ record { number = next; body = body } ∷ []) (next + 1)
+first_same [] next body = refl
+first_same (call ∷ later) next body = refl
+
+with_more : (lost : ℕ) (calls : List Call) (next : ℕ) (body : CallBody)
+    → GoOnFrom lost calls next
+    → GoOnFrom lost (calls ++ record { number = next; body = body } ∷ []) (next + 1)
+with_more lost calls next body go = record {
+  numbered = numbered_more calls next body go.numbered;
+  past = subst (λ (n : ℕ). lost ≤ n) (first_same calls next body) go.past;
+}
+
+without_first : (lost : ℕ) (calls : List Call) (next : ℕ) → GoOnFrom lost calls next
+    → GoOnFrom lost (drop 1 calls) next
+without_first lost [] next go = go
+without_first lost (call ∷ []) next go =
+    let at = go.numbered.0 in
+    let past = go.past in
+    record { numbered = tt; past = omega (arith, at, past) }
+without_first lost (call ∷ (second ∷ later)) next go =
+    let at = go.numbered.0 in
+    let then = go.numbered.1.0 in
+    let past = go.past in
+    record { numbered = go.numbered.1; past = omega (arith, at, then, past) }
+
+after_confirm : (lost number : ℕ) (outbox : OutboxState)
+    → GoOnFrom lost outbox.calls outbox.next
+    → GoOnFrom lost (confirmed outbox number).calls (confirmed outbox number).next
+after_confirm lost number outbox go = by (is_number_in_flight outbox number)
+  where
+    gone : OutboxState
+    gone = record outbox { calls = drop 1 outbox.calls; is_in_flight = false }
+
+    by : (b : Bool) → GoOnFrom lost (cond b gone outbox).calls (cond b gone outbox).next
+    by true = without_first lost outbox.calls outbox.next go
+    by false = go
+
+-- the first unconfirmed call by its number, and by the count of calls
+counted : (calls : List Call) (next : ℕ) → AreNumbered calls next
+    → first_number calls next ≡ next - length calls
+counted [] next are = omega arith
+counted (call ∷ later) next are =
+    let at = are.0 in
+    omega (arith, at)
+
 -- ---- all moves
 
+abbrev HoldsFor : ChargePointState → OwnSince → Type 0
+HoldsFor central own =
+    Holds central.book.rows central.deliveries central.outbox.calls central.outbox.next own
+
+record Inv (both : BothStates) : Type 0 where
+  -- the first call whose profile the point can't have lost
+  lost : ℕ
+  holds : HoldsFor both.central (since both.own lost)
+  -- the central system assumes no less
+  told : both.own.has_told ≡ true → lost ≤ both.central.lost_before
+  goes : GoOnFrom lost both.central.outbox.calls both.central.outbox.next
+
 -- a deed leaves the rows, or takes some away, and adds a call that leaves those that remain
-adds : (both : BothStates) (others : List Row) (body : CallBody)
+adds : (central : ChargePointState) (own : OwnSince) (others : List Row) (body : CallBody)
     → ((row : Row) → IsAmong row others → lasts row ≡ true
-    → IsAmong row both.central.book.rows × Keeps body row)
-    → Inv both
-    → Holds others both.central.deliveries
-    (both.central.outbox.calls ++ record { number = both.central.outbox.next; body = body } ∷ [])
-    (both.central.outbox.next + 1) both.own
-adds both others body fewer holds =
-    added_call both.central.book.rows others both.central.deliveries both.central.outbox.calls
-    both.central.outbox.next body both.own fewer holds
+    → IsAmong row central.book.rows × Keeps body row)
+    → HoldsFor central own
+    → Holds others central.deliveries
+    (central.outbox.calls ++ record { number = central.outbox.next; body = body } ∷ [])
+    (central.outbox.next + 1) own
+adds central own others body fewer holds =
+    added_call central.book.rows others central.deliveries central.outbox.calls
+    central.outbox.next body own fewer holds
+
+-- after a verdict other than Agrees the central system assumes no less
+abbrev StillAssumes : Verdict → Type 0
+StillAssumes verdict =
+    (now : List (Option Transaction)) (audit : Option AuditState) (lost_before : ℕ)
+    → lost_before ≤ lost_after_audit (judged_audit now verdict audit) lost_before
+
+differs_assumes : StillAssumes verdicts.Differs
+differs_assumes now None lost_before = omega arith
+differs_assumes now (Some audit) lost_before =
+    by (same_transactions audit.asked.book.transactions now)
+  where
+    by : (b : Bool)
+        → lost_before
+        ≤ lost_by_verdict audit.number (Some (settled b verdicts.Differs)) lost_before
+    by true = le-max_left lost_before audit.number
+    by false = omega arith
+
+rejected_assumes : StillAssumes verdicts.Rejected
+rejected_assumes now None lost_before = omega arith
+rejected_assumes now (Some audit) lost_before =
+    by (same_transactions audit.asked.book.transactions now)
+  where
+    by : (b : Bool)
+        → lost_before
+        ≤ lost_by_verdict audit.number (Some (settled b verdicts.Rejected)) lost_before
+    by true = omega arith
+    by false = omega arith
+
+unsettled_assumes : StillAssumes verdicts.Unsettled
+unsettled_assumes now None lost_before = omega arith
+unsettled_assumes now (Some audit) lost_before =
+    by (same_transactions audit.asked.book.transactions now)
+  where
+    by : (b : Bool)
+        → lost_before
+        ≤ lost_by_verdict audit.number (Some (settled b verdicts.Unsettled)) lost_before
+    by true = omega arith
+    by false = omega arith
+
+judges : (both : BothStates) (verdict : Verdict) → StillAssumes verdict → Inv both
+    → Inv (moved both (Does (Judges verdict)))
+judges both verdict still inv = record {
+  lost = inv.lost;
+  holds = inv.holds;
+  told = λ has_told.
+      let no_less = inv.told has_told in
+      let more = still both.central.book.transactions both.central.audit
+      both.central.lost_before in
+      omega (arith, no_less, more);
+  goes = inv.goes;
+}
+
+-- a point that agrees has all that it accepted
+agrees : (both : BothStates) → IsHonest both (Does (Judges verdicts.Agrees)) → Inv both
+    → Inv (moved both (Does (Judges verdicts.Agrees)))
+agrees both honest inv = by both.own.has_told refl
+  where
+    by : (b : Bool) → both.own.has_told ≡ b → Inv (moved both (Does (Judges verdicts.Agrees)))
+    by true told = record {
+      lost = 0;
+      holds = record {
+        delivered = λ row is lasting delivery given of_row.
+            let pair = inv.holds.delivered row is lasting delivery given of_row in
+            record {
+              drawn = pair.drawn;
+              kept = pair.kept;
+              brings = pair.brings;
+              past = pair.past;
+              had = λ accepted none kept.
+                  honest told row delivery is lasting given of_row accepted none;
+            };
+        below = inv.holds.below;
+        rising = inv.holds.rising;
+        obeyed = inv.holds.obeyed;
+      };
+      told = λ has_told. omega arith;
+      goes = record { numbered = inv.goes.numbered; past = omega arith };
+    }
+    by false untold = record {
+      lost = inv.lost;
+      holds = inv.holds;
+      told = λ has_told. let clash : true ≡ false = sym has_told ∙ untold in absurd (cc clash);
+      goes = inv.goes;
+    }
 
 does : (both : BothStates) (deed : Deed) → IsHonest both (Does deed) → Inv both
     → Inv (moved both (Does deed))
-does both (Installs row) honest holds =
-    installs both.central.book.rows row both.central.deliveries both.central.outbox.calls
-    both.central.outbox.next both.own holds
-does both (Clears criteria) honest holds =
-    adds both (cleared both.central.book.rows criteria) (Clear criteria)
-    (λ row is lasting.
-    let stays = filtered (λ (r : Row). not (matches criteria r)) both.central.book.rows row is in
-    (stays.0, not_true (matches criteria row) stays.1)) holds
-does both (Starts connector begin number None) honest holds =
-    fewer_rows both.central.book.rows
-    (without_transaction_profiles both.central.book.rows connector)
-    both.central.deliveries both.central.outbox.calls both.central.outbox.next both.own
-    (λ row is lasting. without_filtered _ both.central.book.rows row is) holds
-does both (Starts connector begin number (Some profile)) honest holds =
-    begins both.central.book.rows connector begin.timestamp number profile
-    (ended_start both.central.outbox both.central.waiting connector) both.central
-    both.central.outbox.calls both.central.outbox.next both.own honest.0 honest.1 holds
-does both (Stops connector) honest holds =
-    fewer_rows both.central.book.rows
-    (without_transaction_profiles both.central.book.rows connector)
-    both.central.deliveries both.central.outbox.calls both.central.outbox.next both.own
-    (λ row is lasting. without_filtered _ both.central.book.rows row is) holds
-does both (Attaches link) honest holds = holds
-does both Loses honest holds = holds
-does both Sends honest holds =
-    same_calls both.central.book.rows both.central.deliveries both.central.outbox.calls
-    (sent both.central.outbox).calls both.central.outbox.next (sent both.central.outbox).next
-    both.own (sym (sent_calls both.central.outbox)) (sym (sent_next both.central.outbox)) holds
-does both (Confirms number true) honest holds =
-    confirms both.central.book.rows both.central.deliveries both.central.outbox both.own number
-    true (λ accepts. honest) holds
-does both (Confirms number false) honest holds =
-    confirms both.central.book.rows both.central.deliveries both.central.outbox both.own number
-    false (λ accepts. absurd (cc accepts)) holds
-does both (Audits connector duration unit) honest holds =
-    adds both both.central.book.rows (Audit connector duration unit)
-    (λ row is lasting. (is, tt)) holds
-does both (Judges verdict) honest holds = holds
-does both (RemoteStarts connector id_tag profile) honest holds =
-    adds both both.central.book.rows (RemoteStart connector id_tag profile)
-    (λ row is lasting. (is, tt)) holds
+does both (Installs row) honest inv = record {
+  lost = inv.lost;
+  holds = installs both.central.book.rows row both.central.deliveries both.central.outbox.calls
+      both.central.outbox.next (since both.own inv.lost) inv.holds;
+  told = inv.told;
+  goes = with_more inv.lost both.central.outbox.calls both.central.outbox.next
+      (Set row.connector row.profile) inv.goes;
+}
+does both (Clears criteria) honest inv = record {
+  lost = inv.lost;
+  holds = adds both.central (since both.own inv.lost) (cleared both.central.book.rows criteria)
+      (Clear criteria)
+      (λ row is lasting.
+      let stays = filtered (λ (r : Row). not (matches criteria r)) both.central.book.rows row is in
+      (stays.0, not_true (matches criteria row) stays.1)) inv.holds;
+  told = inv.told;
+  goes = with_more inv.lost both.central.outbox.calls both.central.outbox.next (Clear criteria)
+      inv.goes;
+}
+does both (Starts connector begin number None) honest inv = record {
+  lost = inv.lost;
+  holds = fewer_rows both.central.book.rows
+      (without_transaction_profiles both.central.book.rows connector)
+      both.central.deliveries both.central.outbox.calls both.central.outbox.next
+      (since both.own inv.lost)
+      (λ row is lasting. without_filtered _ both.central.book.rows row is) inv.holds;
+  told = inv.told;
+  goes = inv.goes;
+}
+does both (Starts connector begin number (Some profile)) honest inv = record {
+  lost = inv.lost;
+  holds = begins both.central.book.rows connector begin.timestamp number profile
+      (ended_start both.central.outbox both.central.waiting connector) both.central
+      both.central.outbox.calls both.central.outbox.next (since both.own inv.lost) honest.0
+      honest.1 inv.holds;
+  told = inv.told;
+  goes = inv.goes;
+}
+does both (Stops connector) honest inv = record {
+  lost = inv.lost;
+  holds = fewer_rows both.central.book.rows
+      (without_transaction_profiles both.central.book.rows connector)
+      both.central.deliveries both.central.outbox.calls both.central.outbox.next
+      (since both.own inv.lost)
+      (λ row is lasting. without_filtered _ both.central.book.rows row is) inv.holds;
+  told = inv.told;
+  goes = inv.goes;
+}
+does both (Attaches link) honest inv =
+    record { lost = inv.lost; holds = inv.holds; told = inv.told; goes = inv.goes }
+does both Loses honest inv =
+    record { lost = inv.lost; holds = inv.holds; told = inv.told; goes = inv.goes }
+does both Sends honest inv =
+    let calls = sym (sent_calls both.central.outbox) in
+    let next = sym (sent_next both.central.outbox) in
+    record {
+      lost = inv.lost;
+      holds = same_calls both.central.book.rows both.central.deliveries
+          both.central.outbox.calls (sent both.central.outbox).calls both.central.outbox.next
+          (sent both.central.outbox).next (since both.own inv.lost) calls next inv.holds;
+      told = inv.told;
+      goes = subst (λ (n : ℕ). GoOnFrom inv.lost (sent both.central.outbox).calls n) next
+          (subst (λ (cs : List Call). GoOnFrom inv.lost cs both.central.outbox.next) calls
+          inv.goes);
+    }
+does both (Confirms number true) honest inv = record {
+  lost = inv.lost;
+  holds = confirms both.central.book.rows both.central.deliveries both.central.outbox
+      (since both.own inv.lost) number true (λ accepts. honest) inv.holds;
+  told = inv.told;
+  goes = after_confirm inv.lost number both.central.outbox inv.goes;
+}
+does both (Confirms number false) honest inv = record {
+  lost = inv.lost;
+  holds = confirms both.central.book.rows both.central.deliveries both.central.outbox
+      (since both.own inv.lost) number false (λ accepts. absurd (cc accepts)) inv.holds;
+  told = inv.told;
+  goes = after_confirm inv.lost number both.central.outbox inv.goes;
+}
+does both (Audits connector duration unit) honest inv = record {
+  lost = inv.lost;
+  holds = adds both.central (since both.own inv.lost) both.central.book.rows
+      (Audit connector duration unit) (λ row is lasting. (is, tt)) inv.holds;
+  told = inv.told;
+  goes = with_more inv.lost both.central.outbox.calls both.central.outbox.next
+      (Audit connector duration unit) inv.goes;
+}
+does both (Judges verdicts.Agrees) honest inv = agrees both honest inv
+does both (Judges verdicts.Differs) honest inv =
+    judges both verdicts.Differs differs_assumes inv
+does both (Judges verdicts.Rejected) honest inv =
+    judges both verdicts.Rejected rejected_assumes inv
+does both (Judges verdicts.Unsettled) honest inv =
+    judges both verdicts.Unsettled unsettled_assumes inv
+does both (RemoteStarts connector id_tag profile) honest inv = record {
+  lost = inv.lost;
+  holds = adds both.central (since both.own inv.lost) both.central.book.rows
+      (RemoteStart connector id_tag profile) (λ row is lasting. (is, tt)) inv.holds;
+  told = inv.told;
+  goes = with_more inv.lost both.central.outbox.calls both.central.outbox.next
+      (RemoteStart connector id_tag profile) inv.goes;
+}
+does both (Boots moment) honest inv = record {
+  lost = inv.lost;
+  holds = inv.holds;
+  told = λ has_told.
+      let past = inv.goes.past in
+      let same = counted both.central.outbox.calls both.central.outbox.next inv.goes.numbered in
+      omega (arith, past, same);
+  goes = inv.goes;
+}
+
+-- what a point that obeys has, and what the central system knows of its boots
+same_obeyed : (moment : ℕ) (calls : List Call) (own : OwnState) (lost : ℕ)
+    → obeyed_since moment calls (since own lost) ≡ since (obeyed_first moment calls own) lost
+same_obeyed moment [] own lost = refl
+same_obeyed moment (call ∷ later) own lost = refl
+
+tells_the_same : (moment : ℕ) (calls : List Call) (own : OwnState)
+    → (obeyed_first moment calls own).has_told ≡ own.has_told
+tells_the_same moment [] own = refl
+tells_the_same moment (call ∷ later) own = refl
 
 moves : (both : BothStates) (move : Move) → IsHonest both move → Inv both
     → Inv (moved both move)
-moves both (Does deed) honest holds = does both deed honest holds
-moves both (Obeys moment) honest holds =
-    obeys both.central.book.rows both.central.deliveries both.central.outbox.calls
-    both.central.outbox.next both.own moment holds
-moves both (ChangesTransactions rows) honest holds =
-    own_changes both.central.book.rows both.central.deliveries both.central.outbox.calls
-    both.central.outbox.next both.own rows honest holds
-moves both (Boots rows) honest holds =
-    boots both.central.book.rows both.central.deliveries both.central.outbox.calls
-    both.central.outbox.next both.own rows holds
+moves both (Does deed) honest inv = does both deed honest inv
+moves both (Obeys moment) honest inv =
+    let calls = both.central.outbox.calls in
+    record {
+      lost = inv.lost;
+      holds = subst (λ (own : OwnSince). HoldsFor both.central own)
+          (same_obeyed moment calls both.own inv.lost)
+          (obeys both.central.book.rows both.central.deliveries calls both.central.outbox.next
+          (since both.own inv.lost) moment inv.holds);
+      told = λ has_told. inv.told (sym (tells_the_same moment calls both.own) ∙ has_told);
+      goes = inv.goes;
+    }
+moves both (ChangesTransactions rows) honest inv = record {
+  lost = inv.lost;
+  holds = own_changes both.central.book.rows both.central.deliveries both.central.outbox.calls
+      both.central.outbox.next (since both.own inv.lost) rows honest inv.holds;
+  told = inv.told;
+  goes = inv.goes;
+}
+moves both (Restarts rows) honest inv = record {
+  lost = first_number both.central.outbox.calls both.central.outbox.next;
+  holds = boots both.central.book.rows both.central.deliveries both.central.outbox.calls
+      both.central.outbox.next (since both.own inv.lost) rows inv.holds;
+  told = λ has_told. absurd (cc has_told);
+  goes = record { numbered = inv.goes.numbered; past = omega arith };
+}
 
 all_moves : (both : BothStates) (later : List Move) → AreHonest both later → Inv both
     → Inv (moved_all both later)
@@ -913,10 +1194,15 @@ all_moves both (move ∷ later) honest holds =
 
 opens : (entry : PointEntry) (rows : List Row) → Inv (opening entry rows)
 opens entry rows = record {
-  delivered = λ row is lasting delivery given of_row. absurd is;
-  below = λ call is. first call is;
-  rising = ((λ call is. absurd is), tt);
-  obeyed = λ none. absurd (cc none);
+  lost = 0;
+  holds = record {
+    delivered = λ row is lasting delivery given of_row. absurd is;
+    below = λ call is. first call is;
+    rising = ((λ call is. absurd is), tt);
+    obeyed = λ none. absurd (cc none);
+  };
+  told = λ has_told. omega arith;
+  goes = record { numbered = (refl, tt); past = omega arith };
 }
   where
     first : (call : Call) → IsAmong call (numbered 0 (clear_all ∷ [])) → call.number < 1
@@ -945,13 +1231,6 @@ is_held false true c held = absurd (cc held)
 is_held false false true held = absurd (cc held)
 is_held false false false held = (refl, refl, refl)
 
--- a call that isn't before either of two isn't before the first
-is_past : (call lost other : ℕ) → nat_lt call (max lost other) ≡ false → lost ≤ call
-is_past call lost other past =
-    let above : max lost other ≤ call = ltb-false call (max lost other) past in
-    let more : lost ≤ max lost other = le-max_left lost other in
-    omega (arith, above, more)
-
 held_delivery : (deliveries : List Delivery) (row : Row) (calls : List Call) (lost : ℕ)
     (found : Option Delivery)
     → delivery_of deliveries row ≡ found → profile_state_by calls lost found ≡ Held
@@ -966,13 +1245,13 @@ held_delivery deliveries row calls lost (Some delivery) found held =
     (delivery, at.0, at.1, facts.0, facts.1, facts.2)
 
 has_held : (both : BothStates) → Inv both → HasHeldProfiles both
-has_held both holds row lost enough is lasting held =
+has_held both inv row told is lasting held =
     let found = held_delivery both.central.deliveries row both.central.outbox.calls
-    (max lost (lost_before both.central.audit))
-    (delivery_of both.central.deliveries row) refl held in
-    let past = is_past found.0.call lost (lost_before both.central.audit) found.5 in
-    (holds.delivered row is lasting found.0 found.1 found.2).had found.3 found.4
-    (omega (arith, enough, past))
+    both.central.lost_before (delivery_of both.central.deliveries row) refl held in
+    let no_less = inv.told told in
+    let past = ltb-false found.0.call both.central.lost_before found.5 in
+    (inv.holds.delivered row is lasting found.0 found.1 found.2).had found.3 found.4
+    (omega (arith, no_less, past))
 
 pub held_profiles_are_had : HeldProfilesAreHad
 held_profiles_are_had entry rows later honest =
@@ -1025,7 +1304,7 @@ moved_central both (Does deed ∷ later) = moved_central (moved both (Does deed)
 moved_central both (Obeys moment ∷ later) = moved_central (moved both (Obeys moment)) later
 moved_central both (ChangesTransactions rows ∷ later) =
     moved_central (moved both (ChangesTransactions rows)) later
-moved_central both (Boots rows ∷ later) = moved_central (moved both (Boots rows)) later
+moved_central both (Restarts rows ∷ later) = moved_central (moved both (Restarts rows)) later
 
 events_central : (point : ChargePointState) (events : List Event)
     → point_by_all point events ≡ after_deeds point (deeds_from point events)

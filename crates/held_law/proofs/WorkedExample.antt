@@ -8,9 +8,9 @@ use Rattle.profile.specs.declared.row.Row.{Row}
 use Rattle.profile.specs.declared.unit.Unit.TheVariants.{A}
 use Rattle.site_rules.specs.Site.{PointEntry}
 use Rattle.site_core.specs.declared.deliveries.ProfileState.TheVariants.{Held, Sent, Unsure, Rejected}
-use Rattle.site_core.specs.ChargePoint.{Installs, Attaches, Sends, Confirms}
+use Rattle.site_core.specs.ChargePoint.{Installs, Attaches, Sends, Confirms, Boots}
 use Rattle.site_core.specs.State.{profile_state_at}
-use Rattle.held_law.specs.Held.{BothStates, Move, Does, Obeys, Boots, AreHonest, opening, moved_all}
+use Rattle.held_law.specs.Held.{BothStates, Move, Does, Obeys, Restarts, AreHonest, opening, moved_all}
 
 -- one point with a ceiling of 63.0 A and one connector of 32.0 A
 abbrev entry : PointEntry
@@ -50,7 +50,7 @@ installed = Does (Attaches 1) ∷ Does Sends ∷ Obeys 5 ∷ Does (Confirms 0 tr
 abbrev after : BothStates
 after = moved_all (opening entry []) installed
 
-is_sent : profile_state_at after.central 0 row ≡ Sent
+is_sent : profile_state_at after.central row ≡ Sent
 is_sent = refl
 
 -- it obeys that call, too, and accepts it
@@ -62,19 +62,19 @@ is_honest : AreHonest (opening entry []) (Does (Attaches 1) ∷ Does Sends ∷ O
     ∷ [])
 is_honest = (tt, (tt, (tt, ((λ is. refl), (tt, (tt, (tt, ((λ is. refl), tt))))))))
 
-is_held : profile_state_at accepted.central accepted.own.lost row ≡ Held
+is_held : profile_state_at accepted.central row ≡ Held
 is_held = refl
 
--- it boots
+-- it restarts, and says so
 abbrev booted : BothStates
-booted = moved_all accepted (Boots [] ∷ [])
+booted = moved_all accepted (Restarts [] ∷ Does (Boots 20) ∷ [])
 
-is_unsure : profile_state_at booted.central booted.own.lost row ≡ Unsure
+is_unsure : profile_state_at booted.central row ≡ Unsure
 is_unsure = refl
 
 -- or it rejects that call
 abbrev rejected : BothStates
 rejected = moved_all after (Does (Confirms 1 false) ∷ [])
 
-is_rejected : profile_state_at rejected.central 0 row ≡ Rejected
+is_rejected : profile_state_at rejected.central row ≡ Rejected
 is_rejected = refl

@@ -7,9 +7,9 @@ use site_core::histories_go_on_from_any_state;
 
 /// The law that a point has each ChargePointMaxProfile and TxDefaultProfile that is held, if it
 /// accepts a call only once it has obeyed it. It may reject calls, and forget everything at any
-/// boot. Sendings and replies may be lost, and calls may be obeyed again. Only the moments of the
-/// installs may differ. `profile_state_of` has to be given the first call that the point hadn't
-/// confirmed when it last booted, or a later one.
+/// boot, once it has said that it booted. It agrees in an audit only while it has what it accepted.
+/// Sendings and replies may be lost, and calls may be obeyed again. Only the moments of the
+/// installs may differ.
 pub fn held_profiles_are_had()
     ensures { HeldProfilesAreHad }
 {}

@@ -47,9 +47,8 @@ with_number number drawn is =
 
 pub changes : ChangesAreRestored
 unfolding restored
-changes state text id kind step made number asks change is drawn =
-    ap (λ (a : Asked). change_asked a >>= made_with state (Some number)) asks
-    ∙ ap (λ (b : Bool). cond b (Ok step) (Err OtherStep) >>= made_with state (Some number)) change
+changes state text step made number asks is drawn =
+    ap (λ (r : Result Step RestoreFault). r >>= made_with state (Some number)) asks
     ∙ made_again state step made (Some number) is
     (with_number number (number_drawn made.reply made.after.numbers.version) drawn)
 

@@ -42,6 +42,7 @@ change_at (steps.Start point connector begin) is = is_at _ _ refl
 change_at (steps.Stop point number) is = is_at _ _ refl
 change_at (steps.Audit point connector duration) is = is_at _ _ refl
 change_at (steps.RemoteStart point connector id_tag profile) is = is_at _ _ refl
+change_at (steps.Boot point moment) is = is_at _ _ refl
 change_at step is = absurd (cc is)
 
 abbrev ok_step : Step → Result Step RestoreFault
@@ -59,6 +60,8 @@ asked_at (asked.Step id kind one) step is = go (is_change one) refl is
         → cond change (ok_step one) (Err OtherStep) ≡ Ok step → IsAtPoint step
     go true change is = same_step one step (change_at one change) is
     go false change is = absurd (cc is)
+asked_at (asked.Boot id point moment) step is =
+    same_step (steps.Boot point moment) step (is_at _ _ refl) is
 asked_at message step is = absurd (cc is)
 
 confirm_at : (link : ℕ) (message : Asked) (step : Step) → confirm_asked link message ≡ Ok step

@@ -52,12 +52,14 @@ no_number old (steps.Stop point number) replies.Ended version change own none = 
 no_number old (steps.Stop point number) replies.NoSuch version change own none = refl
 no_number old (steps.Audit point connector duration) (replies.Audited call unit) version change own none = absurd (cc none)
 no_number old (steps.RemoteStart point connector id_tag profile) (replies.Called call) version change own none = absurd (cc none)
+no_number old (steps.Boot point moment) (replies.Booted first) version change own none = absurd (cc none)
 no_number old (steps.Install point row) reply version change own none = absurd (cc own)
 no_number old (steps.Clear point criteria) reply version change own none = absurd (cc own)
 no_number old (steps.Start point connector begin) reply version change own none = absurd (cc own)
 no_number old (steps.Stop point number) reply version change own none = absurd (cc own)
 no_number old (steps.Audit point connector duration) reply version change own none = absurd (cc own)
 no_number old (steps.RemoteStart point connector id_tag profile) reply version change own none = absurd (cc own)
+no_number old (steps.Boot point moment) reply version change own none = absurd (cc own)
 no_number old step reply version change own none = absurd (cc change)
 
 pub change_folds : (step : Step) → is_change step ≡ true → may_fold step ≡ true

@@ -1,7 +1,6 @@
 -- The noted event of a step, whose line leads to the step's state.
-use Rattle.std.specs.Prelude.{ℕ, ◌≡◌, Bool, true, List, Option, Some, None, Ok, if◌then◌else◌}
+use Rattle.std.specs.Prelude.{ℕ, ◌≡◌, Bool, List, Option, Some, None, Ok, if◌then◌else◌}
 use Rattle.messages.specs.declared.call.Call.{Call}
-use Rattle.messages.specs.declared.action_kind.ActionKind.{ActionKind}
 use Rattle.messages.specs.declared.side.Side.{Side}
 use Rattle.messages.specs.declared.side.Side.TheVariants.{Point}
 use Rattle.sweep_compiler.specs.Verdict.{AuditRequest}
@@ -15,7 +14,7 @@ use Rattle.site_core.specs.declared.reply.Reply.TheVariants as replies
 use Rattle.site_core.specs.State.{MachineState, audit_job}
 use Rattle.site_core.specs.Step.{Made, stepped, no_answer}
 use Rattle.journal.specs.Line.{NotedState, LineState, message, reply, verdict, attached, sent, lost}
-use Rattle.journal.specs.Restore.{is_change, judged_exactly, number_drawn, restored}
+use Rattle.journal.specs.Restore.{is_change, change_asked, judged_exactly, number_drawn, restored}
 
 -- the event to note of a step that a message requests, with 0 for the number that it draws: none
 -- for a request for a schedule or a status
@@ -38,9 +37,8 @@ LeadsTo state line made = restored state line ≡ Ok made.after
 -- a change that was made and drew a number
 abbrev pub ChangesAreRestored : Type 0
 ChangesAreRestored =
-    (state : MachineState) (text : Sent) (id : List ℕ) (kind : ActionKind) (step : Step)
-    (made : Made) (number : ℕ) → asked_of text ≡ asked.Step id kind step → is_change step ≡ true
-    → IsStep state step made
+    (state : MachineState) (text : Sent) (step : Step) (made : Made) (number : ℕ)
+    → change_asked (asked_of text) ≡ Ok step → IsStep state step made
     → number_drawn made.reply made.after.numbers.version ≡ Some number
     → LeadsTo state (line_at text.moment text.point (message text.sender number text.frame)) made
 

@@ -27,8 +27,8 @@ use Rattle.journal.specs.Line.{NotedState, LineState, message, reply, verdict, a
 
 -- ---- the step of a line
 
--- a step of a message that changes something, or requests something of a point. Requests for a
--- schedule or a status change nothing that lasts
+-- a step of a message that changes something, or requests something of a point, or says that it has
+-- booted. Requests for a schedule or a status change nothing that lasts
 abbrev pub is_change : Step → Bool
 is_change (steps.Install point row) = true
 is_change (steps.Clear point criteria) = true
@@ -36,11 +36,13 @@ is_change (steps.Start point connector begin) = true
 is_change (steps.Stop point number) = true
 is_change (steps.Audit point connector duration) = true
 is_change (steps.RemoteStart point connector id_tag profile) = true
+is_change (steps.Boot point moment) = true
 is_change step = false
 
 -- the change that a message requests
 abbrev pub change_asked : Asked → Result Step RestoreFault
 change_asked (asked.Step id kind step) = if is_change step then Ok step else Err OtherStep
+change_asked (asked.Boot id point moment) = Ok (steps.Boot point moment)
 change_asked _ = Err OtherStep
 
 -- the confirm that a point's reply requests, over this link
@@ -76,7 +78,8 @@ step_noted state line (lost link) = Ok (steps.Lost line.point link)
 -- ---- the number that a step draws
 
 -- The number of a step with this reply that left the store at this version: the transaction's, the
--- call's, the link's, or else the version. None if nothing changed, or nothing was drawn.
+-- call's, the link's, at a boot that of the first unconfirmed call, or else the version. None if
+-- nothing changed, or nothing was drawn.
 abbrev pub number_drawn : Reply → ℕ → Option ℕ
 number_drawn replies.Accepted version = Some version
 number_drawn (replies.Started id) version = Some (unsigned_abs id)
@@ -85,6 +88,7 @@ number_drawn (replies.Audited call unit) version = Some call
 number_drawn (replies.Called call) version = Some call
 number_drawn (replies.Attached link) version = Some link
 number_drawn (replies.Sent call) version = Some call.number
+number_drawn (replies.Booted first) version = Some first
 number_drawn other version = None
 
 -- a number that is written has to be the drawn one

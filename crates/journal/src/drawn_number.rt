@@ -7,8 +7,9 @@ use crate::restore_fault::RestoreFault;
 use site_core::Reply;
 
 /// Returns the number that the journal has for a step with this reply, which left the store at this
-/// version: the number of the transaction, of the call or of the link, or else the version. Returns
-/// `None` for a step that changed nothing, and for one that draws no number.
+/// version: the number of the transaction, of the call or of the link, at a boot that of the first
+/// unconfirmed call, or else the version. Returns `None` for a step that changed nothing, and for
+/// one that draws no number.
 pub fn number_drawn(reply: &Reply, version: u64) -> Option<u64>
     ensures { result ≡ number_drawn reply.now version }
 {
@@ -19,6 +20,7 @@ pub fn number_drawn(reply: &Reply, version: u64) -> Option<u64>
         Reply::Audited { call, .. } | Reply::Called(call) => Some(*call),
         Reply::Attached(link) => Some(*link),
         Reply::Sent(call) => Some(call.number),
+        Reply::Booted(first) => Some(*first),
         Reply::Unknown
         | Reply::Repeated(_)
         | Reply::NoSuch

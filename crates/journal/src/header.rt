@@ -3,7 +3,8 @@
 ghost use Rattle.std.specs.Prelude.{ℕ, ◌≡◌, ◌≢◌, ◌++◌, List, string_bytes, IfNone, IfOk, IfSome, OnErr};
 ghost use Rattle.hex.specs.Hex.{encode_lower};
 ghost use Rattle.ocpp_scalars.specs.Appending.{Appends};
-ghost use Rattle.journal.specs.Header.{IsDigest, header_text, header_words};
+ghost use Rattle.journal.specs.Header.{IsDigest, beginning, header_text, header_words};
+ghost use Rattle.journal.specs.declared.header.Format.{Format};
 
 use hex::FromHex;
 use std::alloc::{AllocError, Global};
@@ -23,34 +24,76 @@ pub enum HeaderFault {
     NoDigest,
 }
 
-/// Appends the first line of a journal, with its line feed. The digest is the SHA-256 of the bytes
-/// of the site file.
+/// The format of a journal.
+#[derive(Clone, Copy, PartialEq, Eq)]
+pub enum Format {
+    /// Without the boots of points.
+    First,
+    /// The present one.
+    Second,
+}
+
+/// The contents of the first line of a journal.
+#[derive(Clone, Copy, PartialEq, Eq)]
+pub struct Header {
+    pub format: Format,
+    /// The SHA-256 of the bytes of the site file.
+    pub digest: [u8; 32],
+}
+
+impl Format {
+    /// Returns the beginning of the first line of a journal in this format.
+    fn beginning(self) -> &'static str
+        ensures { result.now ≡ beginning self }
+    {
+        match self {
+            Format::First => "central journal 1 sha256:",
+            Format::Second => "central journal 2 sha256:",
+        }
+    }
+}
+
+/// Appends the first line of a journal in the present format, with its line feed. The digest is the
+/// SHA-256 of the bytes of the site file.
 #[tactic(auto, unfolding(crate::specs::Header::header_words))]
 pub fn push_header(alloc: Global, text: &mut String, digest: &[u8; 32]) -> Result<(), AllocError>
     ensures { Appends result (string_bytes text.old) (string_bytes text.new)
         (header_text digest.now) }
 {
     let digits = hex::encode(alloc, digest.as_slice())?;
-    text.push_str("central journal 1 sha256:")?;
+    text.push_str(Format::Second.beginning())?;
     text.push_str(digits.as_str())?;
     text.push('\n')?;
     Ok(())
 }
 
-/// Reads the digest of the site file from the first line of a journal, without its line feed.
-#[tactic(auto, unfolding(crate::specs::Header::header_words))]
-pub fn read_header(line: &str) -> Result<[u8; 32], HeaderFault>
-    ensures read { IfOk result (λ digest. header_words digest ≡ line.now) }
-    ensures none { OnErr result
-        ((digest : List ℕ) → IsDigest digest → header_words digest ≢ line.now) }
+/// Reads the first line of a journal, without its line feed.
+pub fn read_header(line: &str) -> Result<Header, HeaderFault>
+    ensures read { IfOk result (λ header. header_words header.format header.digest ≡ line.now) }
+    ensures none { OnErr result ((format : Format) (digest : List ℕ) → IsDigest digest
+        → header_words format digest ≢ line.now) }
 {
-    let Some(digits) = strip(line, "central journal 1 sha256:") else {
-        return Err(fault_of(line));
+    let (format, digest) = match digest_in(line, Format::Second) {
+        Some(digest) => (Format::Second, digest),
+        None => match digest_in(line, Format::First) {
+            Some(digest) => (Format::First, digest),
+            None => return Err(fault_of(line)),
+        },
     };
-    match read_digest(digits) {
-        Some(digest) => Ok(digest),
-        None => Err(HeaderFault::NoDigest),
-    }
+    Ok(Header { format, digest })
+}
+
+/// Reads the digest of the site file from the first line of a journal of this format.
+#[tactic(auto, unfolding(crate::specs::Header::header_words))]
+fn digest_in(line: &str, format: Format) -> Option<[u8; 32]>
+    ensures some { IfSome result (λ digest. header_words format digest ≡ line.now) }
+    ensures none { IfNone result
+        ((digest : List ℕ) → IsDigest digest → header_words format digest ≢ line.now) }
+{
+    let Some(digits) = strip(line, format.beginning()) else {
+        return None;
+    };
+    read_digest(digits)
 }
 
 /// Returns the reason for which the first line of a file isn't that of a journal.
@@ -59,7 +102,7 @@ fn fault_of(line: &str) -> HeaderFault {
         return HeaderFault::NotAJournal;
     };
     match rest.split_once(' ') {
-        Some(("1", _)) => HeaderFault::NoDigest,
+        Some(("1" | "2", _)) => HeaderFault::NoDigest,
         Some(_) => HeaderFault::OtherFormat,
         None => HeaderFault::NotAJournal,
     }

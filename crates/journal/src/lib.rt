@@ -35,7 +35,7 @@ mod written_steps;
 pub use drawn_number::number_drawn;
 pub use entry::Entry;
 pub use forgetting::requests_can_be_left_out;
-pub use header::{HeaderFault, push_header, read_header};
+pub use header::{Format, Header, HeaderFault, push_header, read_header};
 pub use journal::{Journal, JournalFault, NoJournal};
 pub use laws::{answered_survives, entries_are_restored};
 pub use line::{Line, Noted, push_line};

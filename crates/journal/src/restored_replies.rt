@@ -43,7 +43,7 @@ pub(crate) fn confirm_call<C: Ledger, A: Ledger, N: ListName>(
                 accepted,
             },
         ) => confirm(book, point, link, call, accepted),
-        Ok(Asked::Nothing | Asked::Respond { .. } | Asked::Step { .. }) => {
+        Ok(Asked::Nothing | Asked::Respond { .. } | Asked::Step { .. } | Asked::Boot { .. }) => {
             Err(RestoreFault::OtherStep)
         }
         Err(_unread) => Err(RestoreFault::OutOfMemory),

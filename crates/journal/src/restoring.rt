@@ -99,6 +99,7 @@ fn change_asked(
                 Err(RestoreFault::OtherStep)
             }
         }
+        Ok(Asked::Boot { point, moment, .. }) => Ok(Step::Boot { point, moment }),
         Ok(Asked::Nothing | Asked::Respond { .. } | Asked::Confirm { .. }) => {
             Err(RestoreFault::OtherStep)
         }
@@ -106,8 +107,8 @@ fn change_asked(
     }
 }
 
-/// Returns whether a step changes a point's book, or requests something of the point, and so is
-/// noted in the journal with its message.
+/// Returns whether a step changes a point's book, requests something of the point or says that it
+/// has booted, and so is noted in the journal with its message.
 pub(crate) fn is_change(step: &Step) -> bool
     ensures { result ≡ is_change step.now }
 {
@@ -117,7 +118,8 @@ pub(crate) fn is_change(step: &Step) -> bool
         | Step::Start { .. }
         | Step::Stop { .. }
         | Step::Audit { .. }
-        | Step::RemoteStart { .. } => true,
+        | Step::RemoteStart { .. }
+        | Step::Boot { .. } => true,
         Step::Take(_)
         | Step::Compile(_)
         | Step::Answer(_)

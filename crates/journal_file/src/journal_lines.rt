@@ -2,7 +2,7 @@
 
 use crate::folder_fault::FolderFault;
 use crate::named_file::NamedFile;
-use journal::{HeaderFault, read_header, split_line, whole_lines};
+use journal::{Format, Header, HeaderFault, read_header, split_line, whole_lines};
 use std::alloc::{AllocError, Global};
 use std::mem;
 
@@ -33,8 +33,8 @@ pub struct JournalLines {
     /// The numbers of bytes and lines handed out in all, including lines that name site files.
     length: u64,
     count: u64,
-    /// The digest of the site file that applies to the lines handed out last.
-    site: Option<[u8; 32]>,
+    /// The line that names the site file of the lines handed out last.
+    site: Option<Header>,
     is_at_end: bool,
 }
 
@@ -93,7 +93,19 @@ impl JournalLines {
     /// Returns the digest of the site file that applies after the lines handed out. None if the
     /// file has no whole line.
     pub fn site(&self) -> Option<[u8; 32]> {
-        self.site
+        let header = self.site?;
+        Some(header.digest)
+    }
+
+    /// Returns whether the lines that follow those handed out may be of the present format.
+    pub fn has_present_format(&self) -> bool {
+        matches!(
+            self.site,
+            Some(Header {
+                format: Format::Second,
+                ..
+            })
+        )
     }
 
     /// Returns how many bytes the lines handed out have.
@@ -166,7 +178,7 @@ impl JournalLines {
         };
         match std::str::from_utf8(line) {
             Ok(text) => match read_header(text) {
-                Ok(digest) => self.site = Some(digest),
+                Ok(header) => self.site = Some(header),
                 Err(fault) => return Err(self.no_site_line(fault)),
             },
             Err(_) => return Err(self.no_site_line(HeaderFault::NotAJournal)),

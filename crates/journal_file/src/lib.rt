@@ -1,8 +1,8 @@
 //! The folder in which `central run` keeps a site: its journal, which is written, synced, restored,
-//! and read while the site runs; and the file of boots.
+//! and read while the site runs.
 #![tactic(auto)]
 
-mod boots_file;
+mod earlier_boots;
 mod folder_fault;
 mod journal_file;
 mod journal_lines;
@@ -16,7 +16,6 @@ mod restored_journal;
 mod restoring;
 mod script_end;
 
-pub use boots_file::{open_boots, read_boots};
 pub use folder_fault::FolderFault;
 pub use journal_file::JournalFile;
 pub use journal_lines::{JournalLines, JournalPart};

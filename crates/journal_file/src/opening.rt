@@ -1,5 +1,6 @@
 //! The folder of a running site. One process at a time owns its journal.
 
+use crate::earlier_boots::BOOTS;
 use crate::folder_fault::FolderFault;
 use crate::named_file::{NamedFile, report_error};
 use crate::reserve_file::ReserveFile;
@@ -21,6 +22,8 @@ const OWN_FOLDER: u32 = 0o700;
 pub struct OpenJournal {
     pub lines: NamedFile,
     pub reserve: ReserveFile,
+    /// The path of the file in which earlier versions kept boots.
+    pub boots: String,
 }
 
 /// Opens the journal of a folder for this process alone. Creates the folder and files that are
@@ -47,6 +50,7 @@ pub fn open_journal<R: Files<File = File> + Eprint + AllocGlobal>(
     Ok(OpenJournal {
         lines: NamedFile { file, path },
         reserve: ReserveFile::make(rt, reserve.as_str()),
+        boots: path_in(rt.alloc(), folder, BOOTS)?,
     })
 }
 

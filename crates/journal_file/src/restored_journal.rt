@@ -28,6 +28,7 @@ impl RestoredJournal {
         let OpenJournal {
             lines: NamedFile { file, path },
             reserve,
+            ..
         } = opened;
         let end = lines.length();
         let opened = match Log::open(rt.alloc(), SystemFile::new(file, end), end) {

@@ -2,6 +2,7 @@
 
 ghost use Rattle.std.specs.Prelude.{◌≡◌};
 
+use crate::earlier_boots::{note_earlier_boots, remove_earlier_boots};
 use crate::folder_fault::FolderFault;
 use crate::journal_file::JournalFile;
 use crate::journal_lines::{JournalLines, JournalPart};
@@ -58,9 +59,10 @@ pub fn restore_shared<
     let Some(now) = (SystemClock { rt }).now() else {
         return Err(FolderFault::Clock);
     };
+    let boots = String::from_str(rt.alloc(), opened.boots.as_str())?;
     let mut book = shared.lock(rt);
     let mut rejections = Rejections::new(rt.alloc(), book.present().site().len())?;
-    let (restored, added) = restore_book(
+    let (restored, mut added) = restore_book(
         rt,
         opened,
         digest,
@@ -69,6 +71,7 @@ pub fn restore_shared<
         &mut rejections,
         now,
     )?;
+    note_earlier_boots(rt, boots.as_str(), &mut book, &mut added)?;
     let resumed = count_resumed(book.present(), rejections.into_points());
     let states = book.recorded();
     drop(book);
@@ -77,14 +80,17 @@ pub fn restore_shared<
     // No thread writes these lines yet.
     journal.write_log_lines();
     match kept {
-        Ok(()) => Ok((journal, resumed)),
+        Ok(()) => {
+            remove_earlier_boots(rt, boots.as_str());
+            Ok((journal, resumed))
+        }
         Err(_) => Err(FolderFault::Write),
     }
 }
 
 /// Restores a site's book from its journal, each step with the number it drew, and takes the links
-/// from all points. A journal that is new or was written with another site file gets a line that
-/// names this one. A torn last line is cut: nothing in it was answered. Returns the journal, and
+/// from all points. A journal that is new, of an earlier format or of another site file gets a line
+/// that names this one. A torn last line is cut: nothing in it was answered. Returns the journal, and
 /// the lines to add to it.
 fn restore_book<
     C: Ledger,
@@ -109,7 +115,7 @@ fn restore_book<
     restored?;
     let kept = RestoredJournal::cut_torn(rt, opened, &journal)?;
     let mut added = String::new(alloc);
-    if !is_of_this_site {
+    if !(is_of_this_site && journal.has_present_format()) {
         push_header(alloc, &mut added, digest)?;
     }
     match lose_links(alloc, book, now, &mut added) {

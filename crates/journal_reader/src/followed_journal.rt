@@ -64,7 +64,6 @@ impl FollowedJournal {
         Standing {
             machine: &self.machine,
             points: self.calls.as_slice(),
-            lost: &[],
             held: &[],
             lines: self.lines,
             faults: 0,
@@ -322,6 +321,7 @@ impl<C: Ledger, A: Ledger> Follower<C, A> {
         if self.is_ended {
             return Ok(());
         }
+        let version = self.book.version();
         if let Err(unrestored) = restore(self.alloc, &mut self.book, &mut self.pass, text) {
             // `restore` gets one line at a time, so its own count says nothing.
             return Err(FolderFault::Unrestored(Unrestored {
@@ -330,7 +330,8 @@ impl<C: Ledger, A: Ledger> Follower<C, A> {
             }));
         }
         self.followed = said;
-        if is_counted(line, wanted) {
+        // An audit, a remote start and a boot change no limit.
+        if is_counted(line, wanted) && self.book.version() > version {
             self.changes = self.changes.saturating_add(1);
         }
         self.note_added_calls(line, wanted)?;
@@ -431,7 +432,7 @@ fn say_begun<R: Eprint + AllocGlobal>(
     Ok(false)
 }
 
-/// Returns whether a line of a journal is a change that `explain` counts: a message about the
+/// Returns whether `explain` counts the change of a line of a journal: it is a message about the
 /// followed point after the requested moment.
 fn is_counted(line: &Line<'_>, wanted: &FollowOptions<'_>) -> bool {
     match (&line.noted, wanted.counted_from) {

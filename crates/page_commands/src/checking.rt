@@ -2,11 +2,9 @@
 
 use command_io::{ProgramFault, print_page, read_key_bytes, read_script_of, read_site_bytes};
 use findings::{Finding, check_site, exit_status};
-use jobs::{Checking, Source};
-use journal_file::read_boots;
+use jobs::Checking;
 use site_checks::{PlayedScript, find_in_keys, push_findings, push_played, site_page};
 use site_rules::{Site, SiteFault, read_site};
-use site_status::Boot;
 use std::alloc::{AllocError, AllocGlobal, Global};
 use std::fs::File;
 use std::rt::{Clock, Files};
@@ -26,10 +24,8 @@ pub fn check_file<R: Files<File = File> + Clock + Input + Print + Eprint + Alloc
     let mut of_keys = check_keys(rt, checking.keys, bytes.as_slice(), findings.as_slice())?;
     let script = read_script_of(rt, checking.source)?;
     if let Some(site) = site_of(alloc, bytes.as_slice(), findings.as_slice())? {
-        let boots = boots_of(rt, checking.source, &site)?;
         let played = PlayedScript {
             script: script.as_slice(),
-            boots: boots.as_slice(),
             with_trace: checking.trace,
         };
         let mut page = String::new(alloc);
@@ -73,18 +69,5 @@ fn site_of(alloc: Global, bytes: &[u8], findings: &[Finding]) -> Result<Option<S
         Ok(site) => Ok(Some(site)),
         Err(SiteFault::OutOfMemory) => Err(AllocError),
         Err(_) => Ok(None),
-    }
-}
-
-/// Returns for `check` the boots of a site's points that the data folder keeps, each at the index
-/// of its point. Empty if no folder is named.
-fn boots_of<R: Files<File = File> + Eprint + AllocGlobal>(
-    rt: &R,
-    source: Source<'_>,
-    site: &Site,
-) -> Result<Vec<Option<Boot>>, AllocError> {
-    match source {
-        Source::Journal(folder) => read_boots(rt, folder, site),
-        Source::Input | Source::File(_) => Ok(Vec::new(rt.alloc())),
     }
 }

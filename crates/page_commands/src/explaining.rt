@@ -2,7 +2,7 @@
 
 ghost use Rattle.std.specs.Prelude.{◌≡◌, ◌≤◌, length};
 
-use crate::lost_profiles::{lost_calls, say_lost};
+use crate::lost_profiles::say_lost;
 use crate::picture_name::{PictureForm, picture_form};
 use crate::unconfirmed::say_unconfirmed;
 use crate::zone_file::{read_clock_shifts, zone_name};
@@ -73,8 +73,7 @@ pub fn explain_file<R: Files<File = File> + Input + Print + Eprint + Clock + All
         followed.unconfirmed_of(explaining.point),
         followed.waiting_since(),
     )?;
-    let lost = lost_calls(rt, folder, followed.machine(), explaining.at.is_some())?;
-    say_lost(rt, followed.machine(), explaining.point, lost.as_slice());
+    say_lost(rt, followed.machine(), explaining.point);
     print_explained(rt, presentation, followed.machine(), &ask)?;
     Ok(page_status(followed.is_as_wanted()))
 }

@@ -1,6 +1,5 @@
 //! The job of `central show`.
 
-use crate::lost_profiles::lost_calls;
 use command_io::{
     ProgramFault, note_refused_lines, page_status, print_page, read_digested_site, read_script_of,
     script_end,
@@ -34,10 +33,7 @@ pub fn show_file<R: Files<File = File> + Input + Print + Eprint + Clock + AllocG
         is_quiet: false,
     };
     let followed = follow_journal(rt, following)?;
-    let lost = lost_calls(rt, folder, followed.machine(), showing.at.is_some())?;
-    let mut standing = followed.standing();
-    standing.lost = lost.as_slice();
-    print_standing(rt, showing, &standing)?;
+    print_standing(rt, showing, &followed.standing())?;
     Ok(page_status(followed.is_as_wanted()))
 }
 

@@ -8,8 +8,9 @@
 //! - `- version`, `- requests`, `- events`, `- changes`, `- answers`: the version of the book, and
 //!   the numbers of kept requests, stored events, and counted changes and answers
 //! - `CP1 link`: the link over which a call is to be sent; `CP1 starts`: the number of waiting starts
-//! - `CP1 rows`: the number of profiles of a point; with the index of a profile, `CP1 transaction 0`
-//!   and `CP1 moment 0`: its transaction, and the moment of its install, in seconds after midnight
+//! - `CP1 rows`: the number of profiles of a point; with the index of a profile, `CP1 transaction 0`,
+//!   `CP1 moment 0` and `CP1 state 0`: its transaction, the moment of its install, in seconds after
+//!   midnight, and its state at the point
 
 use meaning::Composite;
 use profile::Row;
@@ -143,6 +144,10 @@ impl<C: Ledger, A: Ledger> Player<C, A> {
             "link" => Some(link_said(machine.link_to_send(point))),
             "starts" => number(machine.waiting_of(point).len() as u64),
             "rows" => number(rows_of(machine, point).len() as u64),
+            "state" => {
+                let row = rows_of(machine, point).get(words.number()? as usize)?;
+                Some((machine.profile_state_of(point, row).name(), None))
+            }
             name => told_of_row(rows_of(machine, point).get(words.number()? as usize)?, name),
         }
     }

@@ -9,6 +9,7 @@ use Rattle.messages.specs.declared.action_kind.ActionKind.{ActionKind}
 use Rattle.messages.specs.declared.action_kind.ActionKind.TheVariants as kinds
 use Rattle.messages.specs.declared.call.Call.{Call}
 use Rattle.messages.specs.declared.response.Response.{Response}
+use Rattle.messages.specs.declared.response.Response.TheVariants.{BootNotification}
 use Rattle.messages.specs.declared.side.Side.{Side}
 use Rattle.messages.specs.declared.side.Side.TheVariants as sides
 use Rattle.ocppj_frame.specs.ByCases.Message.{message_of_text}
@@ -351,6 +352,9 @@ asked_part laws old text (asked.Respond id response) is =
     no_step old.machine (lines.Answer id response ∷ []) (ap (λ l. l ++ []) (no_schedule id response is)) refl
 asked_part laws old text (asked.Step id kind step) is =
     at_once_part laws old.machine id kind step is
+asked_part laws old text (asked.Boot id point moment) is =
+    quiet_step laws old.machine (acts.Boot point moment)
+    (lines.Answer id (BootNotification moment) ∷ []) tt tt refl refl
 asked_part laws old text (asked.Confirm point number accepted) is =
     replied_part laws old.machine text point number accepted
 
@@ -396,6 +400,8 @@ hold_part laws old text (asked.Step id kind step) is = hold_step_part laws old i
 hold_part laws old text asked.Nothing is = asked_part laws old text asked.Nothing is
 hold_part laws old text (asked.Respond id response) is =
     asked_part laws old text (asked.Respond id response) is
+hold_part laws old text (asked.Boot id point moment) is =
+    asked_part laws old text (asked.Boot id point moment) is
 hold_part laws old text (asked.Confirm point number accepted) is =
     asked_part laws old text (asked.Confirm point number accepted) is
 

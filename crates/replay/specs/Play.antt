@@ -5,9 +5,11 @@ use Rattle.profile.specs.declared.unit.Unit.{Unit}
 use Rattle.messages.specs.declared.action_kind.ActionKind.{ActionKind}
 use Rattle.messages.specs.declared.action_kind.ActionKind.TheVariants.{GetCompositeSchedule}
 use Rattle.messages.specs.declared.response.Response.{Response}
+use Rattle.messages.specs.declared.response.Response.TheVariants.{BootNotification}
 use Rattle.messages.specs.declared.call.Call.{Call}
 use Rattle.messages.specs.declared.side.Side.{Side}
 use Rattle.messages.specs.declared.side.Side.TheVariants as sides
+use Rattle.site_core.specs.declared.step.Step.TheVariants as steps
 use Rattle.site_core.specs.declared.reply.Reply.{Reply}
 use Rattle.site_core.specs.declared.reply.Reply.TheVariants.{Taken}
 use Rattle.site_core.specs.State.{MachineState}
@@ -71,13 +73,19 @@ replied old step = record {
   after = with_machine old step.after;
 }
 
--- a message is answered at once, by its request
+-- A message is answered at once, by its request. The answer to a BootNotification doesn't depend on
+-- its step.
 abbrev pub asked_handled : PlayerState → texts.Sent → Asked → Handled
 asked_handled old text asked.Nothing = record { printed = []; change = Nothing; after = old }
 asked_handled old text (asked.Respond id response) =
     record { printed = lines.Answer id response ∷ []; change = Nothing; after = old }
 asked_handled old text (asked.Step id kind step) =
     answered old id kind (stepped_at_once old.machine step)
+asked_handled old text (asked.Boot id point moment) = record {
+  printed = lines.Answer id (BootNotification moment) ∷ [];
+  change = Nothing;
+  after = with_machine old (stepped_exactly old.machine (steps.Boot point moment)).after;
+}
 asked_handled old text (asked.Confirm point number accepted) =
     replied old (replied_by old.machine text point number accepted)
 

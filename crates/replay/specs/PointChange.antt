@@ -30,6 +30,7 @@ change_by (replies.Audited call asked) = Audit
 change_by replies.VerdictKept = Nothing
 change_by (replies.Status status) = Nothing
 change_by (replies.Called number) = RemoteStart
+change_by (replies.Booted first) = Nothing
 
 -- a refused step changes nothing
 abbrev pub change_of : Result Reply Refusal → PointChange

@@ -15,7 +15,7 @@ mod session_watch;
 pub use seat::keep_seat;
 pub use seats::{MAX_SEATS, SeatedBook, run_seats};
 pub use server_ports::{
-    BootKeeper, PathPeer, SeatContext, SeatOptions, Seats, ServeFault, StatusPort, WatchedSite,
-    begin_boots, begin_status, is_own_host, peer_of_path,
+    PathPeer, SeatContext, SeatOptions, Seats, ServeFault, StatusPort, WatchedSite, begin_status,
+    is_own_host, peer_of_path,
 };
 pub use serving::{MAX_SESSIONS, MAX_WORKERS, serve};

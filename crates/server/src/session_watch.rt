@@ -5,7 +5,7 @@ use ocpp_scalars::{Instant, Moments};
 use server_core::{PointReply, Rejected};
 use server_ports::Seats;
 use session::{Breach, Context, Ended, SentCall, SessionCore, SessionEvent};
-use site_status::{Boot, CallNumbers, Observation, RefusedMessage, SentMoment};
+use site_status::{CallNumbers, Observation, RefusedMessage, SentMoment};
 use std::alloc::{AllocError, Global};
 use std::rt::Clock;
 use std::sync::Wait;
@@ -70,7 +70,7 @@ impl<R: Wait + Clock> SessionWatch<'_, R> {
         self.see(Observation::Heard { moment });
         match event {
             SessionEvent::Boot => {
-                self.hear_boot(context, core, moment);
+                self.say(core, Event::Booted);
                 // Its profiles may have been installed again, which adds calls.
                 self.see_calls(context, core, moment);
             }
@@ -126,19 +126,6 @@ impl<R: Wait + Clock> SessionWatch<'_, R> {
                 .watch
                 .see_calls(&seats.rt, self.place, numbers, moment);
         }
-    }
-
-    /// Records the BootNotification of the session's point for the status page, with the number of
-    /// the first call not confirmed by then. Reports the boot on standard error.
-    fn hear_boot<W: World>(&self, context: &Context<'_, W>, core: &SessionCore, moment: Instant) {
-        let book = context.shared.lock(context.rt);
-        let first_call = match book.present().outbox_of(core.point_id().as_str()) {
-            Some(outbox) => outbox.first_number(),
-            None => 0,
-        };
-        drop(book);
-        self.see(Observation::Booted(Boot { moment, first_call }));
-        self.say(core, Event::Booted);
     }
 
     /// Records for the status page that a message of the session's point was refused. An action that

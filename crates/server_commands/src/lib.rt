@@ -1,7 +1,6 @@
 //! The commands that serve a site, `run` and `serve`, and the one that makes a key for it, `key`.
 #![tactic(auto)]
 
-mod kept_boots;
 mod key_making;
 mod running;
 mod serving;

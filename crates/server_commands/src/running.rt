@@ -2,7 +2,6 @@
 
 ghost use Rattle.std.specs.Prelude.{◌≡◌, ◌≤◌, ◌+◌, true};
 
-use crate::kept_boots::{BootsFile, KeptBoots};
 use crate::serving::stop_of;
 use command_io::{ProgramFault, read_digested_site, read_key_file};
 use ghost_list::{ListName, Unnamed};
@@ -11,8 +10,7 @@ use journal_file::{
     FolderFault, JournalFile, OpenJournal, Resumed, open_journal, report_error, restore_shared,
 };
 use server::{
-    SeatContext, SeatOptions, SeatedBook, Seats, StatusPort, WatchedSite, begin_boots,
-    begin_status, run_seats,
+    SeatContext, SeatOptions, SeatedBook, StatusPort, WatchedSite, begin_status, run_seats,
 };
 use site_keys::Keys;
 use site_rules::Site;
@@ -41,7 +39,6 @@ struct Plan<'a> {
     /// The SHA-256 of the site file.
     digest: [u8; 32],
     opened: OpenJournal,
-    boots: KeptBoots,
     listener: TcpListener,
     listen: &'a str,
     seats: u64,
@@ -75,14 +72,12 @@ pub fn run_file<
     let (site, digest) = read_digested_site(rt, running.site)?;
     let keys = read_keys(rt, running.keys)?;
     let opened = open_journal(rt, running.folder)?;
-    let boots = KeptBoots::read(rt, running.folder, &site)?;
     let listener = listen(rt, running.listen, keys.is_some(), ProgramFault::NoKeys)?;
     let status = listen_for_status(rt, &running)?;
     let plan = Plan {
         site,
         digest,
         opened,
-        boots,
         listener,
         listen: running.listen,
         seats: running.seats,
@@ -205,7 +200,6 @@ fn run_counted<
         site,
         digest,
         opened,
-        boots,
         listener,
         listen,
         seats,
@@ -230,8 +224,6 @@ fn run_counted<
     let site = SeatContext::make(*rt, rt.alloc(), shared, Arc::try_clone(&journal)?, options)?;
     let site = Arc::new(rt.alloc(), site)?;
     site.seats.resume_rejections(resumed.rejected);
-    site.resume_boots(boots.boots.as_slice())?;
-    keep_boots(&site.seats, boots.file)?;
     port.watch(&site)?;
     if let Err(fault) = run_seats(&site, listener, seats, workers as usize) {
         return Err(stop_of(fault));
@@ -282,20 +274,6 @@ fn begin_lines<
     match writer {
         Ok(_) => Ok(()),
         Err(_) => Err(ProgramFault::OutOfMemory),
-    }
-}
-
-/// Starts to keep the boots of points over a restart of `run`, if there is a file for them.
-fn keep_boots<R: Clock + Threads + Wait + Shareable>(
-    seats: &Arc<Seats<R>, Global>,
-    file: Option<BootsFile>,
-) -> Result<(), ProgramFault> {
-    let Some(file) = file else {
-        return Ok(());
-    };
-    match begin_boots(seats, file) {
-        Ok(()) => Ok(()),
-        Err(fault) => Err(stop_of(fault)),
     }
 }
 

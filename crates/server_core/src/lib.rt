@@ -2,7 +2,6 @@
 //! their deadlines, seats, long messages, observations of the points, lines for standard error.
 #![tactic(auto)]
 
-mod boot_changes;
 mod deadlines;
 mod free_seats;
 mod line_throttle;
@@ -15,7 +14,6 @@ mod site_watch;
 mod status_stream;
 mod unfinished_handshakes;
 
-pub use boot_changes::BootChanges;
 pub use deadlines::{
     LONGEST_HANDSHAKE, LONGEST_MESSAGE, LONGEST_SILENCE, LONGEST_STATUS, LONGEST_WRITE,
     SILENCE_BEFORE_CALL, SILENCE_BEFORE_PING, TICK,

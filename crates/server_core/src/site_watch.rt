@@ -1,24 +1,21 @@
 //! Observations of a site's connections.
 
-use crate::boot_changes::BootChanges;
 use messages::{ActionKind, ReplyStatus};
 use ocpp_scalars::Instant;
 use site_core::Machine;
 use site_status::{
-    Boot, CallMoments, CallNumbers, Observation, PointActivity, RejectedCalls, SentMoment,
-    SiteCounts,
+    CallMoments, CallNumbers, Observation, PointActivity, RejectedCalls, SentMoment, SiteCounts,
 };
 use std::alloc::{AllocError, Global};
 use std::sync::{Mutex, Wait};
 
-/// The observations of a site's connections since the program started, and the boots and rejections
-/// that were kept from before.
+/// The observations of a site's connections since the program started, and the rejections from
+/// before.
 #[derive(Drop)]
 pub struct SiteWatch {
     seen: Mutex<Seen>,
     /// When the calls to each point were added, by its place in the site.
     calls: Mutex<Vec<CallMoments>>,
-    boots: BootChanges,
 }
 
 /// The observations at a moment.
@@ -60,7 +57,6 @@ impl SiteWatch {
                 counts: no_counts(),
             }),
             calls: Mutex::new(calls),
-            boots: BootChanges::new(),
         })
     }
 
@@ -97,22 +93,9 @@ impl SiteWatch {
 
     /// Records an observation of the point at a place.
     pub fn see<R: Wait>(&self, rt: &R, place: usize, sighting: Observation) {
-        let is_boot = matches!(sighting, Observation::Booted(_));
         let mut seen = self.seen.lock(rt);
         if let Some(news) = seen.points.get_mut(place) {
             news.see(sighting);
-        }
-        drop(seen);
-        if is_boot {
-            self.boots.note(rt);
-        }
-    }
-
-    /// Records a boot of the point at a place from before the program started. It is kept already.
-    pub fn resume_boot<R: Wait>(&self, rt: &R, place: usize, boot: Boot) {
-        let mut seen = self.seen.lock(rt);
-        if let Some(news) = seen.points.get_mut(place) {
-            news.see(Observation::Booted(boot));
         }
     }
 
@@ -186,21 +169,6 @@ impl SiteWatch {
             Some(news) => news.connection.leave(link),
             None => false,
         }
-    }
-
-    /// Returns the flag that the boots to be kept have changed.
-    pub fn changed_boots(&self) -> &BootChanges {
-        &self.boots
-    }
-
-    /// Returns the last boot of each point, if it has booted.
-    pub fn boots<R: Wait>(&self, rt: &R, alloc: Global) -> Result<Vec<Option<Boot>>, AllocError> {
-        let seen = self.seen.lock(rt);
-        let mut boots = Vec::with_capacity(alloc, seen.points.len())?;
-        for news in &seen.points {
-            boots.push(news.boot)?;
-        }
-        Ok(boots)
     }
 
     /// Returns a copy of the observations.

@@ -4,7 +4,6 @@
 
 mod accepting;
 mod arrivals;
-mod boot_keeper;
 mod entry;
 mod handshake;
 mod incoming_stream;
@@ -22,7 +21,6 @@ mod workers;
 
 pub use accepting::accept_connections;
 pub use arrivals::{note_handshake_failure, note_operator, note_unknown};
-pub use boot_keeper::{BootKeeper, begin_boots};
 pub use entry::Access;
 pub use handshake::{ClientRequest, HandshakeFailure, shake_hands};
 pub use incoming_stream::IncomingStream;

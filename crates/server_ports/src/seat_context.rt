@@ -5,7 +5,6 @@ use ghost_list::ListName;
 use journal::Journal;
 use ocpp_scalars::Moments;
 use site_core::Machine;
-use site_status::{Boot, resumed_boot};
 use std::alloc::{AllocError, Global};
 use std::rt::Clock;
 use std::sync::ledger::Ledger;
@@ -46,22 +45,6 @@ impl<
             shared: Arc::new(alloc, shared)?,
             journal,
         })
-    }
-
-    /// Resumes the boots that were kept of points, each at the place of its point in the site.
-    pub fn resume_boots(&self, boots: &[Option<Boot>]) -> Result<(), AllocError> {
-        let seats = &self.seats;
-        let machine = copy_of(&seats.rt, &self.shared)?;
-        for (place, boot) in boots.iter().enumerate() {
-            let (Some(boot), Some(point)) = (*boot, machine.site().point(place)) else {
-                continue;
-            };
-            if let Some(outbox) = machine.outbox_of(point.id) {
-                let boot = resumed_boot(boot, outbox);
-                seats.watch.resume_boot(&seats.rt, place, boot);
-            }
-        }
-        Ok(())
     }
 }
 

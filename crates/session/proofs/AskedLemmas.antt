@@ -13,6 +13,7 @@ use Rattle.messages.specs.declared.action.Action.{Action}
 use Rattle.messages.specs.declared.action.Action.TheVariants as actions
 use Rattle.messages.specs.declared.action.RemoteStartTransaction.{RemoteStartTransaction}
 use Rattle.messages.specs.declared.action_kind.ActionKind.{ActionKind}
+use Rattle.messages.specs.declared.fixed_answer.FixedAnswer.TheVariants as answers
 use Rattle.messages.specs.declared.call_fault.CallFault.{CallFault}
 use Rattle.messages.specs.declared.side.Side.{Side}
 use Rattle.messages.specs.declared.side.Side.TheVariants as sides
@@ -66,6 +67,7 @@ own_by_action text id kind (actions.SetChargingProfile connector parts) =
     own_by_making text id kind connector (profile_of_parts parts)
 own_by_action text id kind (actions.RemoteStartTransaction start) =
     own_remotely text id kind start (remote_profile start.profile)
+own_by_action text id kind (actions.Answered answers.BootNotification) = tt
 own_by_action text id kind action = tt
 
 own_by_reading : (text : Sent) (id : List ℕ) (kind : ActionKind) (reading : Result Action CallFault)
@@ -99,6 +101,7 @@ confirms_own text = own_of_message text (message_of_text text.frame)
 of_call : (text : Sent) (id : List ℕ) (kind : ActionKind) (step : Step) → IsOfCall step
     → asked_of text ≡ asked.Step id kind step → AsksFor text step
 of_call text id kind (steps.Confirm point link call accepted) is asks = absurd is
+of_call text id kind (steps.Boot point moment) is asks = absurd is
 of_call text id kind step is asks = (id, kind, asks)
 
 of_asked : (text : Sent) (peer : Peer) (what : Asked) → text.sender ≡ side_of peer
@@ -108,6 +111,7 @@ of_asked text peer asked.Nothing side by_call own is = tt
 of_asked text peer (asked.Respond id response) side by_call own is = tt
 of_asked text peer (asked.Step id kind step) side by_call own is =
     of_call text id kind step by_call is
+of_asked text peer (asked.Boot id point moment) side by_call own is = (id, is)
 of_asked text (Operator unit) (asked.Confirm point call accepted) side by_call own is = tt
 of_asked text (Point None) (asked.Confirm point call accepted) side by_call own is = tt
 of_asked text (Point (Some link)) (asked.Confirm point call accepted) side by_call own is =

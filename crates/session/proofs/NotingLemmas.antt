@@ -1,5 +1,5 @@
 -- The line of a step that was made leads where the step led.
-use Rattle.std.proofs.Common.{◌≡◌, ℕ, List, Bool, true, false, Some, None, Option, Result, Ok, Err, IfSome, IfOk, option_map, inl, inr, refl, sym, subst}
+use Rattle.std.proofs.Common.{◌≡◌, ℕ, List, Bool, true, false, cond, Some, None, Option, Result, Ok, Err, IfSome, IfOk, option_map, inl, inr, refl, sym, ap, ◌∙◌, subst}
 use Rattle.ocpp_scalars.specs.declared.refusal.Refusal.{Refusal}
 use Rattle.meaning.specs.declared.said.Said.{Said}
 use Rattle.messages.specs.declared.call.Call.{Call}
@@ -24,7 +24,8 @@ use Rattle.journal.specs.Line as kinds
 use Rattle.journal.specs.declared.line.Noted.{Noted}
 use Rattle.journal.specs.MadeStep.{IsOfMadeStep}
 use Rattle.journal.specs.NotedStep.{ChangesAreRestored, ConfirmsAreRestored, VerdictsAreRestored, LinksAreRestored, SendsAreRestored, LossesAreRestored, IsStep, LeadsTo, line_at, noted_by}
-use Rattle.journal.specs.Restore.{is_change, number_drawn}
+use Rattle.journal.specs.declared.restore_fault.RestoreFault.TheVariants.{OtherStep}
+use Rattle.journal.specs.Restore.{is_change, change_asked, number_drawn}
 use Rattle.texts.specs.declared.asked.Asked.TheVariants as asked
 use Rattle.texts.specs.Asked.{asked_of}
 use Rattle.texts.specs.Said.{said_of}
@@ -296,12 +297,22 @@ noted_message (steps.Stop point number) side frame noted is by = (refl, cc)
 noted_message (steps.Audit point connector duration) side frame noted is by = (refl, cc)
 noted_message (steps.RemoteStart point connector id_tag profile) side frame noted is by =
     (refl, cc)
+noted_message (steps.Boot point moment) side frame noted is by = (refl, cc)
 noted_message step side frame noted is by = absurd (cc)
 
-asks_by_a_call : (text : Sent) (step : Step) → is_confirm step ≡ false → AsksFor text step
-    → (id : List ℕ) × (kind : ActionKind) × (asked_of text ≡ asked.Step id kind step)
-asks_by_a_call text (steps.Confirm point link call accepted) is asks = absurd (cc)
-asks_by_a_call text step is asks = asks
+-- a message that asks for a change asks for it as a line of a journal does
+asks_by_step : (text : Sent) (id : List ℕ) (kind : ActionKind) (step : Step)
+    → asked_of text ≡ asked.Step id kind step → is_change step ≡ true
+    → change_asked (asked_of text) ≡ Ok step
+asks_by_step text id kind step asks change =
+    ap change_asked asks
+    ∙ ap (λ (b : Bool). cond b (Ok step) (Err OtherStep)) change
+
+asks_for_change : (text : Sent) (step : Step) → is_confirm step ≡ false → is_change step ≡ true
+    → AsksFor text step → change_asked (asked_of text) ≡ Ok step
+asks_for_change text (steps.Confirm point link call accepted) is change asks = absurd (cc)
+asks_for_change text (steps.Boot point moment) is change asks = ap change_asked asks.1
+asks_for_change text step is change asks = asks_by_step text asks.0 asks.1 step asks.2 change
 
 change_made : (earlier later : MachineState → Type 0)
     (entry : EntryState) (told : Reply) (new : StoreState) (number : ℕ)
@@ -312,7 +323,7 @@ change_made earlier later entry told new number law notable drawn later_is =
     let it = notable.entry_is in
     let no_confirm = sym notable.confirms_is in
     let noted = noted_message notable.step it.text.sender it.text.frame it.noted no_confirm it.noted_is in
-    let asks = asks_by_a_call it.text notable.step no_confirm it.asks in
+    let asks = asks_for_change it.text notable.step no_confirm noted.0 it.asks in
     let makes = performs_makes notable.old notable.was notable.step told new notable.pass noted.0 notable.performs in
     record {
       line = line_at it.text.moment it.text.point (kinds.message it.text.sender 0 it.text.frame);
@@ -323,8 +334,8 @@ change_made earlier later entry told new number law notable drawn later_is =
       told = told;
       store = notable.store;
       makes = makes;
-      leads = law notable.old.present it.text asks.0 asks.1 notable.step (after told new) number
-          asks.2 noted.0 (made_step notable.old new notable.step told makes) drawn;
+      leads = law notable.old.present it.text notable.step (after told new) number asks
+          (made_step notable.old new notable.step told makes) drawn;
       was_before = notable.was_before;
       is_after = later_is;
     }

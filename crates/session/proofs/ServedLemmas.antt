@@ -38,6 +38,8 @@ has_no_outcome : (was : PassState) (seen : MachineState → Type 0) (text : Sent
     → IsUnnoted owes todo → HasOutcome was seen text todo.step None
 has_no_outcome was seen text owed.Nothing todo is = absurd is
 has_no_outcome was seen text (owed.Response id response) todo is = absurd is
+has_no_outcome was seen text (owed.Boot id moment) todo is =
+    subst (λ (t : TodoState). HasOutcome was seen text t.step None) (sym is) tt
 has_no_outcome was seen text (owed.Outcome id kind) todo is =
     subst (λ (t : TodoState). HasOutcome was seen text t.step None) (sym is) tt
 

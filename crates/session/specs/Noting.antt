@@ -33,6 +33,8 @@ abbrev pub AsksFor : Sent → Step → Type 0
 AsksFor text (steps.Confirm point link call accepted) =
     (text.sender ≡ Point) × (point ≡ text.point)
     × (asked_of text ≡ asked.Confirm point call accepted)
+AsksFor text (steps.Boot point moment) =
+    (id : List ℕ) × (asked_of text ≡ asked.Boot id point moment)
 AsksFor text step = (id : List ℕ) × (kind : ActionKind) × (asked_of text ≡ asked.Step id kind step)
 
 -- the entry of a step that a message asks for

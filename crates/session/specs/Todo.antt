@@ -5,7 +5,7 @@ use Rattle.ocpp_scalars.specs.declared.refusal.Refusal.TheVariants.{OutOfMemory}
 use Rattle.ocppj_frame.specs.ByCases.Message.{message_of_text}
 use Rattle.profile.specs.declared.unit.Unit.{Unit}
 use Rattle.messages.specs.declared.call_fault.CallFault.TheVariants.{Refused}
-use Rattle.messages.specs.declared.response.Response.TheVariants.{Error}
+use Rattle.messages.specs.declared.response.Response.TheVariants.{BootNotification, Error}
 use Rattle.messages.specs.ResponseText.{response_text}
 use Rattle.site_core.specs.declared.step.Step.{Step}
 use Rattle.site_core.specs.declared.step.Step.TheVariants as steps
@@ -42,6 +42,10 @@ todo_asked peer (asked.Respond id response) =
     record { step = None; owed = owed.Response id response }
 todo_asked peer (asked.Step id kind step) =
     record { step = Some step; owed = owed.Outcome id kind }
+todo_asked peer (asked.Boot id point moment) = record {
+  step = Some (steps.Boot point moment);
+  owed = owed.Boot id moment;
+}
 todo_asked peer (asked.Confirm point call accepted) =
     record { step = confirming peer point call accepted; owed = owed.Nothing }
 
@@ -65,6 +69,7 @@ IsTodo session now text todo = (todo ≡ todo_of session now text) ⊎ IsOutOfMe
 -- A step that can't be noted isn't made: its CALL is answered with OutOfMemory.
 abbrev pub IsUnnoted : Owed → TodoState → Type 0
 IsUnnoted (owed.Outcome id kind) todo = todo ≡ without_memory id
+IsUnnoted (owed.Boot id moment) todo = todo ≡ without_memory id
 IsUnnoted other todo = ⊥
 
 -- ---- answers
@@ -73,6 +78,8 @@ IsUnnoted other todo = ⊥
 abbrev pub text_owed : Owed → Unit → Option Outcome → Option (List ℕ)
 text_owed owed.Nothing unit outcome = None
 text_owed (owed.Response id response) unit outcome = Some (response_text id response)
+text_owed (owed.Boot id moment) unit outcome =
+    Some (response_text id (BootNotification moment))
 text_owed (owed.Outcome id kind) unit None = None
 text_owed (owed.Outcome id kind) unit (Some outcome) =
     option_map (response_text id) (response_of unit kind (result_of outcome))

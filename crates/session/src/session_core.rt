@@ -9,7 +9,7 @@ ghost use Rattle.session.specs.Todo.{IsTodo, answer_text};
 use crate::answering::response_of_outcome;
 use crate::outcome::Outcome;
 use crate::todo::{Owed, Todo};
-use messages::{Response, Side, push_response};
+use messages::{FixedAnswer, Response, Side, push_response};
 use ocpp_scalars::{Instant, Refusal};
 use ocppj_frame::{MessageId, ReadingMemory};
 use profile::Unit;
@@ -135,6 +135,10 @@ impl SessionCore {
         match todo.into_owed() {
             Owed::Nothing => Ok(None),
             Owed::Response { id, response } => self.response_text(&id, Some(response)),
+            Owed::Boot { id, moment } => {
+                let response = FixedAnswer::BootNotification.response(moment);
+                self.response_text(&id, Some(response))
+            }
             Owed::Outcome { id, kind } => {
                 let Some(outcome) = outcome else {
                     return Ok(None);

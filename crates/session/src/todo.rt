@@ -7,7 +7,7 @@ ghost use Rattle.session.specs.Todo.{IsUnnoted, confirming, todo_asked, without_
 
 use crate::session_core::Peer;
 use messages::{ActionKind, CallFault, Response};
-use ocpp_scalars::Refusal;
+use ocpp_scalars::{Instant, Refusal};
 use ocppj_frame::MessageId;
 use site_core::{PointId, Step};
 use std::marker::Model;
@@ -20,6 +20,8 @@ pub enum Owed {
     Nothing,
     /// The CALL of this id is answered by this response.
     Response { id: MessageId, response: Response },
+    /// The BootNotification of this id is accepted at this moment, whatever becomes of its step.
+    Boot { id: MessageId, moment: Instant },
     /// The CALL of this id, of an action of this kind, is answered by the outcome of its step.
     Outcome { id: MessageId, kind: ActionKind },
 }
@@ -60,6 +62,10 @@ impl Todo {
                 step: Some(step),
                 owed: Owed::Outcome { id, kind },
             },
+            Asked::Boot { id, point, moment } => Todo {
+                step: Some(Step::Boot { point, moment }),
+                owed: Owed::Boot { id, moment },
+            },
             Asked::Confirm {
                 point,
                 call,
@@ -88,6 +94,7 @@ impl Todo {
     {
         match self.into_owed() {
             Owed::Outcome { id, .. } => Some(Todo::without_memory(id)),
+            Owed::Boot { id, .. } => Some(Todo::without_memory(id)),
             Owed::Nothing | Owed::Response { .. } => None,
         }
     }
@@ -107,18 +114,6 @@ impl Todo {
         ensures taken { self.new ≡ record self.old { step = None } }
     {
         self.step.take()
-    }
-
-    /// Returns whether the work for a session's message is to answer a BootNotification, for the
-    /// session's observer.
-    pub(crate) fn is_of_boot(&self) -> bool {
-        matches!(
-            self.owed,
-            Owed::Response {
-                response: Response::BootNotification { .. },
-                ..
-            }
-        )
     }
 
     /// Returns the fault with which the work for a session's message answers its CALL without a

@@ -23,7 +23,10 @@ pub fn standing_json(alloc: Global, standing: &Standing<'_>) -> Result<String, A
     page.array("points");
     for (place, calls) in standing.points.iter().enumerate() {
         if let Some(point) = machine.site().point(place) {
-            let profiles = PointProfiles::of(standing, point.id, place);
+            let profiles = PointProfiles {
+                machine,
+                point: point.id,
+            };
             push_point(&mut page, profiles, &calls.rejected);
         }
     }

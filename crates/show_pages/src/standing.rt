@@ -39,9 +39,6 @@ pub struct Standing<'a> {
     pub machine: &'a Machine,
     /// The progress of the calls to each point, in the order of the site file.
     pub points: &'a [PointCalls],
-    /// For each point, the first call whose profile it can't have lost when it last booted. Empty
-    /// if no boots are known.
-    pub lost: &'a [u64],
     /// The held requests.
     pub held: &'a [Held],
     /// The number of lines, and how many of them have a fault.
@@ -54,23 +51,12 @@ pub struct Standing<'a> {
 pub(crate) struct PointProfiles<'a> {
     pub(crate) machine: &'a Machine,
     pub(crate) point: &'a str,
-    /// The first call whose profile the point can't have lost when it last booted.
-    lost: u64,
 }
 
-impl<'a> PointProfiles<'a> {
-    /// Returns the profiles of the point at a place of the site, for `show`'s page or its JSON.
-    pub(crate) fn of(standing: &Standing<'a>, point: &'a str, place: usize) -> PointProfiles<'a> {
-        PointProfiles {
-            machine: standing.machine,
-            point,
-            lost: standing.lost.get(place).copied().unwrap_or(0),
-        }
-    }
-
+impl PointProfiles<'_> {
     /// Returns the state of an installed profile at its point, for `show`'s page or its JSON.
     pub(crate) fn state_of(&self, row: &Row) -> ProfileState {
-        self.machine.profile_state_of(self.point, row, self.lost)
+        self.machine.profile_state_of(self.point, row)
     }
 }
 
@@ -82,7 +68,10 @@ pub fn standing_text(alloc: Global, standing: &Standing<'_>) -> Result<String, A
     let mut page = Page::new(alloc);
     for (place, calls) in standing.points.iter().enumerate() {
         if let Some(point) = machine.site().point(place) {
-            let profiles = PointProfiles::of(standing, point.id, place);
+            let profiles = PointProfiles {
+                machine,
+                point: point.id,
+            };
             push_point(&mut page, profiles, &calls.rejected);
         }
     }

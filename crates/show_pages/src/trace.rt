@@ -143,7 +143,6 @@ impl<'a> Trace<'a> {
         Standing {
             machine: self.playing.machine(),
             points: self.points.as_slice(),
-            lost: &[],
             held: self.playing.held(),
             lines: self.playing.next_line().saturating_sub(1),
             faults: self.playing.script_faults(),

@@ -14,7 +14,7 @@ use replay::Progress;
 use show_pages::{Depth, Trace, ending_text, trace_text};
 use site_core::Machine;
 use site_rules::Site;
-use site_status::{Boot, lost_at_kept_boot, may_have_lost};
+use site_status::may_have_lost;
 use std::alloc::{AllocError, Global};
 use std::rt::Clock;
 
@@ -22,8 +22,6 @@ use std::rt::Clock;
 #[derive(Clone, Copy)]
 pub struct PlayedScript<'a> {
     pub script: &'a [u8],
-    /// The boots kept in the data folder, in the order of the points.
-    pub boots: &'a [Option<Boot>],
     pub with_trace: bool,
 }
 
@@ -48,7 +46,7 @@ pub fn push_played<R: Clock + Eprint>(
     find_in_changes(alloc, &trace, 0, &mut findings)?;
     find_at_the_end(alloc, &trace, &mut findings)?;
     let machine = trace.playing().machine();
-    find_in_boots(alloc, machine, played.boots, &mut findings)?;
+    find_in_boots(alloc, machine, &mut findings)?;
     // `LinePoints` only moves forward, and each pass above begins at the first line.
     sort_by_line(&mut findings)?;
     let mut lines = LinePoints::new(played.script, machine.site());
@@ -112,26 +110,28 @@ fn find_at_the_end(
 fn find_in_boots(
     alloc: Global,
     machine: &Machine,
-    boots: &[Option<Boot>],
     findings: &mut Vec<Finding>,
 ) -> Result<(), AllocError> {
-    for (place, boot) in boots.iter().enumerate() {
-        let (Some(point), Some(boot)) = (machine.site().point(place), *boot) else {
+    let site = machine.site();
+    for place in 0..site.len() {
+        let Some(point) = site.point(place) else {
             continue;
         };
-        if may_forget(machine, point.id, boot) {
-            findings.push(check_boot(alloc, point.id, boot.moment)?)?;
+        let Some(moment) = machine.booted_of(point.id) else {
+            continue;
+        };
+        if may_forget(machine, point.id) {
+            findings.push(check_boot(alloc, point.id, moment)?)?;
         }
     }
     Ok(())
 }
 
-/// Returns whether the point of this identity may have forgotten its profiles in this boot, for a
-/// remark of `check`.
-fn may_forget(machine: &Machine, point: &str, boot: Boot) -> bool {
-    let lost = lost_at_kept_boot(machine, point, boot);
+/// Returns whether the point of this identity may have forgotten its profiles, for a remark of
+/// `check`.
+fn may_forget(machine: &Machine, point: &str) -> bool {
     match machine.book_of(point) {
-        Some(book) => may_have_lost(machine, point, lost, book.view().rows),
+        Some(book) => may_have_lost(machine, point, book.view().rows),
         None => false,
     }
 }

@@ -27,7 +27,7 @@ use Rattle.site_core.specs.declared.reply.Reply.{Reply}
 use Rattle.site_core.specs.declared.reply.Reply.TheVariants as replies
 use Rattle.site_core.specs.Audit.{AuditState, begun_audit, unjudged, settled, kept_verdict, judged_audit}
 use Rattle.site_core.specs.Equal.{same_request, same_transactions}
-use Rattle.site_core.specs.Outbox.{sendable, is_number_in_flight}
+use Rattle.site_core.specs.Outbox.{first_unconfirmed, sendable, is_number_in_flight}
 use Rattle.site_core.specs.ChargePoint.{ChargePointState, Deed, Stops, point_with}
 use Rattle.site_core.specs.State.{MachineState, is_this_number, point_at, audit_at}
 use Rattle.site_core.specs.Step.{Made, Steps, Works, Work, AtPoint, PointStep, work, unless, deed, made_there, place_for, refusal_to_install, refusal_to_call, refusal_to_start, refusal_to_attach, refusal_to_audit, version_refusal, next_transaction, is_at_no_connector, installs, clears, starts, starts_as, stops, attaches, sends, sends_call, confirms, audits, judges, judges_audit, status_of, remote_starts, refusal_to_remote_start}
@@ -313,6 +313,9 @@ stays_there (steps.Status id) =
     (replies.Status (status_of numbers point)) refl
 stays_there (steps.RemoteStart id connector id_tag profile) =
     λ site numbers point. remote_start_stays site id connector id_tag profile point
+stays_there (steps.Boot id moment) =
+    λ site numbers point. left site point (steps.Boot id moment)
+    (replies.Booted (first_unconfirmed point.outbox)) refl
 stays_there other = tt
 
 -- ---- at each place

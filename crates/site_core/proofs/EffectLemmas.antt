@@ -27,11 +27,11 @@ use Rattle.site_core.specs.declared.reply.Reply.TheVariants as replies
 use Rattle.site_core.specs.Audit.{AuditState, unjudged}
 use Rattle.site_core.specs.Equal.{same_request}
 use Rattle.site_core.specs.Limits.{max_number, max_transaction}
-use Rattle.site_core.specs.Outbox.{OutboxState, sendable, is_number_in_flight, is_number_of_first, Traffic, Send, Confirm}
+use Rattle.site_core.specs.Outbox.{OutboxState, first_unconfirmed, sendable, is_number_in_flight, is_number_of_first, Traffic, Send, Confirm}
 use Rattle.site_core.specs.OutboxOrder.{confirmed_at}
 use Rattle.site_core.specs.ChargePoint.{ChargePointState, Deed, Stops, traffic_of}
 use Rattle.site_core.specs.State.{MachineState, AreNumbers}
-use Rattle.site_core.specs.Step.{Work, AtPoint, work, unless, facts, deed, drawn, counted, is_event, is_reply_to, refusal_to_install, refusal_to_call, refusal_to_add, refusal_to_start, refusal_to_attach, version_refusal, transaction_number_refusal, next_transaction, is_at_no_connector, installs, clears, starts, starts_as, stops, attaches, sends, sends_call, confirms, loses, audits, refusal_to_audit, judges, judges_audit, status_of, tells_status, remote_starts, refusal_to_remote_start}
+use Rattle.site_core.specs.Step.{Work, AtPoint, work, unless, facts, deed, drawn, counted, is_event, is_reply_to, refusal_to_install, refusal_to_call, refusal_to_add, refusal_to_start, refusal_to_attach, version_refusal, transaction_number_refusal, next_transaction, is_at_no_connector, installs, clears, starts, starts_as, stops, attaches, sends, sends_call, confirms, loses, audits, refusal_to_audit, judges, judges_audit, status_of, tells_status, remote_starts, refusal_to_remote_start, boots}
 use Rattle.site_core.specs.History.{reply_takes, asks_answer_of}
 use Rattle.site_core.specs.CallOrder.{calls_by, confirmed_by, numbers_of_calls}
 
@@ -376,6 +376,14 @@ remote_start_agrees site numbers id connector id_tag profile point =
     (replies.Called point.outbox.next) refl refl (λ n. refl) (λ n. refl) (λ old. refl)
     (λ none. absurd (cc none)) (same_numbers numbers) (sym (add-zero _)) refl refl refl refl refl)
 
+boot_agrees : (numbers : Numbers) (id : List ℕ) (moment : ℕ) (point : ChargePointState)
+    → IfOk (boots point) (Agrees numbers point (steps.Boot id moment))
+boot_agrees numbers id moment point =
+    agrees_so numbers point (steps.Boot id moment)
+    (replies.Booted (first_unconfirmed point.outbox)) refl refl (λ n. refl) (λ n. refl)
+    (λ old. refl) (λ none. absurd (cc none)) (same_numbers numbers) (sym (add-zero _)) refl refl
+    refl refl refl
+
 -- ---- all of them
 
 -- agreement for a step at a point
@@ -403,4 +411,5 @@ agrees (steps.Judge id call judged) =
 agrees (steps.Status id) = λ site numbers point. status_agrees numbers id point
 agrees (steps.RemoteStart id connector id_tag profile) =
     λ site numbers point. remote_start_agrees site numbers id connector id_tag profile point
+agrees (steps.Boot id moment) = λ site numbers point. boot_agrees numbers id moment point
 agrees other = tt

@@ -16,11 +16,11 @@ use Rattle.point_book.specs.Book.{BookState, empty_book}
 use Rattle.point_book.specs.Changes.{rows_started}
 use Rattle.sweep_compiler.specs.declared.verdict.Verdict.{Verdict}
 use Rattle.site_core.specs.Audit.{AuditState, begun_audit, judged_audit}
-use Rattle.site_core.specs.Outbox.{OutboxState, opening_outbox, Traffic, Attach, Lose, Add, Send, Confirm, after}
+use Rattle.site_core.specs.Outbox.{OutboxState, opening_outbox, first_unconfirmed, Traffic, Attach, Lose, Add, Send, Confirm, after}
 use Rattle.site_core.specs.declared.waiting_starts.WaitingStart.{WaitingStart}
 use Rattle.site_core.specs.WaitingStart.{with_waiting, after_reply, ended_start, without_ended}
 use Rattle.site_core.specs.declared.deliveries.Delivery.{Delivery}
-use Rattle.site_core.specs.Delivery.{with_delivery, deliveries_after_reply}
+use Rattle.site_core.specs.Delivery.{with_delivery, deliveries_after_reply, lost_after_audit}
 
 pub record ChargePointState : Type 0 where
   -- its ceilings, profiles and transactions
@@ -33,6 +33,10 @@ pub record ChargePointState : Type 0 where
   pub waiting : List WaitingStart
   -- the calls that bring its profiles to it
   pub deliveries : List Delivery
+  -- when it last booted
+  pub booted : Option ℕ
+  -- it may have lost the profiles that came by calls before this one
+  pub lost_before : ℕ
 
 -- a point with nothing installed, no active transaction and no link, to which call 0 is to be sent
 abbrev pub opening_point : PointEntry → ChargePointState
@@ -43,6 +47,8 @@ opening_point point =
       audit = None;
       waiting = [];
       deliveries = [];
+      booted = None;
+      lost_before = 0;
     }
 
 -- ---- the effect of a step at a point
@@ -75,6 +81,8 @@ pub data Deed : Type 0 where
   -- the point is called to start a transaction of an idTag at a connector, with a profile if one is
   -- given (OCPP 1.6, 5.11), and that start waits
   RemoteStarts : (connector : ℕ) (id_tag : List ℕ) (profile : Option Profile) → Deed
+  -- the point has booted at a moment (OCPP 1.6, 4.2), and may have lost its profiles
+  Boots : (moment : ℕ) → Deed
 
 -- the point's profiles after a deed
 abbrev pub rows_after : List Row → Deed → List Row
@@ -90,6 +98,7 @@ rows_after rows (Confirms number accepted) = rows
 rows_after rows (Audits connector duration unit) = rows
 rows_after rows (Judges verdict) = rows
 rows_after rows (RemoteStarts connector id_tag profile) = rows
+rows_after rows (Boots moment) = rows
 
 -- its transactions after a deed
 abbrev pub transactions_after : List (Option Transaction) → Deed → List (Option Transaction)
@@ -105,9 +114,10 @@ transactions_after active (Confirms number accepted) = active
 transactions_after active (Audits connector duration unit) = active
 transactions_after active (Judges verdict) = active
 transactions_after active (RemoteStarts connector id_tag profile) = active
+transactions_after active (Boots moment) = active
 
 -- The traffic of its outbox: a call that is added, or a change of its link or of the first call.
--- The point itself knows that a transaction begins or ends.
+-- The point itself knows that a transaction begins or ends, and that it has booted.
 abbrev pub traffic_of : Deed → Option Traffic
 traffic_of (Installs row) = Some (Add (bodies.Set row.connector row.profile))
 traffic_of (Clears criteria) = Some (Add (bodies.Clear criteria))
@@ -121,6 +131,7 @@ traffic_of (Audits connector duration unit) = Some (Add (bodies.Audit connector 
 traffic_of (Judges verdict) = None
 traffic_of (RemoteStarts connector id_tag profile) =
     Some (Add (bodies.RemoteStart connector id_tag profile))
+traffic_of (Boots moment) = None
 
 -- the call that brings it to the point, if there is one
 abbrev pub call_in : Option Traffic → Option CallBody
@@ -152,6 +163,7 @@ audit_after old Loses = old.audit
 audit_after old Sends = old.audit
 audit_after old (Confirms number accepted) = old.audit
 audit_after old (RemoteStarts connector id_tag profile) = old.audit
+audit_after old (Boots moment) = old.audit
 
 -- the starts that wait after a deed
 abbrev pub waiting_after : ChargePointState → Deed → List WaitingStart
@@ -172,6 +184,7 @@ waiting_after old Loses = old.waiting
 waiting_after old Sends = old.waiting
 waiting_after old (Audits connector duration unit) = old.waiting
 waiting_after old (Judges verdict) = old.waiting
+waiting_after old (Boots moment) = old.waiting
 
 -- a profile comes to the point by a call; a transaction's own came with the start that it ends
 abbrev pub brought_by : ChargePointState → Profile → ℕ → List Delivery
@@ -201,6 +214,39 @@ deliveries_after old Sends = old.deliveries
 deliveries_after old (Audits connector duration unit) = old.deliveries
 deliveries_after old (Judges verdict) = old.deliveries
 deliveries_after old (RemoteStarts connector id_tag profile) = old.deliveries
+deliveries_after old (Boots moment) = old.deliveries
+
+-- the moment of its last boot after a deed
+abbrev pub booted_after : Option ℕ → Deed → Option ℕ
+booted_after old (Boots moment) = Some moment
+booted_after old (Installs row) = old
+booted_after old (Clears criteria) = old
+booted_after old (Starts connector begin number profile) = old
+booted_after old (Stops connector) = old
+booted_after old (Attaches link) = old
+booted_after old Loses = old
+booted_after old Sends = old
+booted_after old (Confirms number accepted) = old
+booted_after old (Audits connector duration unit) = old
+booted_after old (Judges verdict) = old
+booted_after old (RemoteStarts connector id_tag profile) = old
+
+-- The first call whose profile it can't have lost, after a deed. A point that boots may have lost
+-- all that came by a call which it had confirmed.
+abbrev pub lost_before_after : ChargePointState → Deed → ℕ
+lost_before_after old (Boots moment) = first_unconfirmed old.outbox
+lost_before_after old (Judges verdict) =
+    lost_after_audit (judged_audit old.book.transactions verdict old.audit) old.lost_before
+lost_before_after old (Installs row) = old.lost_before
+lost_before_after old (Clears criteria) = old.lost_before
+lost_before_after old (Starts connector begin number profile) = old.lost_before
+lost_before_after old (Stops connector) = old.lost_before
+lost_before_after old (Attaches link) = old.lost_before
+lost_before_after old Loses = old.lost_before
+lost_before_after old Sends = old.lost_before
+lost_before_after old (Confirms number accepted) = old.lost_before
+lost_before_after old (Audits connector duration unit) = old.lost_before
+lost_before_after old (RemoteStarts connector id_tag profile) = old.lost_before
 
 -- ---- the point after a deed
 
@@ -221,6 +267,8 @@ point_after old deed = record old {
   audit = audit_after old deed;
   waiting = waiting_after old deed;
   deliveries = deliveries_after old deed;
+  booted = booted_after old.booted deed;
+  lost_before = lost_before_after old deed;
 }
 
 -- the point after a step with a deed there, or without one

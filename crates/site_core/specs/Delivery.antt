@@ -1,6 +1,6 @@
 -- The calls that bring the installed profiles to a charge point (OCPP 1.6, 5.16 and 5.11), and what
 -- the point is known to have: a profile that it is meant to have may be on its way, or rejected.
-use Rattle.std.specs.Prelude.{ℕ, nat_lt, ◌==◌, Bool, true, false, not, ◌&&◌, List, [], ◌∷◌, ◌++◌, filter, map, Option, Some, None, option_and_then, slice_get, if◌then◌else◌}
+use Rattle.std.specs.Prelude.{ℕ, max, nat_lt, ◌==◌, Bool, true, false, not, ◌&&◌, List, [], ◌∷◌, ◌++◌, filter, map, Option, Some, None, option_and_then, slice_get, if◌then◌else◌}
 use Rattle.std.specs.List.{list_any, position}
 use Rattle.std.specs.Ordering.{int_eq}
 use Rattle.profile.specs.declared.row.Row.{Row}
@@ -48,26 +48,28 @@ deliveries_after_reply number false deliveries = map (rejected_by number) delive
 
 -- ---- what the point is known to have
 
--- A point that differs in its audit may have lost each profile that came before. This is the call
--- of that audit, and 0 if the point didn't differ.
-abbrev pub lost_by_verdict : ℕ → Option Verdict → ℕ
-lost_by_verdict number None = 0
-lost_by_verdict number (Some Agrees) = 0
-lost_by_verdict number (Some Differs) = number
-lost_by_verdict number (Some Rejected) = 0
-lost_by_verdict number (Some Unsettled) = 0
+-- The first call whose profile a point can't have lost, after an audit by the call of a number. A
+-- point that differs may have lost each profile that came before that call. A point that agrees has
+-- lost none, unless the audit was called before its boot.
+abbrev pub lost_by_verdict : ℕ → Option Verdict → ℕ → ℕ
+lost_by_verdict number None lost_before = lost_before
+lost_by_verdict number (Some Agrees) lost_before =
+    if nat_lt number lost_before then lost_before else 0
+lost_by_verdict number (Some Differs) lost_before = max lost_before number
+lost_by_verdict number (Some Rejected) lost_before = lost_before
+lost_by_verdict number (Some Unsettled) lost_before = lost_before
 
-abbrev pub lost_before : Option AuditState → ℕ
-lost_before None = 0
-lost_before (Some audit) = lost_by_verdict audit.number audit.verdict
+abbrev pub lost_after_audit : Option AuditState → ℕ → ℕ
+lost_after_audit None lost_before = lost_before
+lost_after_audit (Some audit) lost_before = lost_by_verdict audit.number audit.verdict lost_before
 
 -- The state of a profile at its point: rejected, not confirmed yet, perhaps lost since, or held.
--- `lost` is the first call whose profile the point can't have lost since.
+-- `lost_before` is the first call whose profile the point can't have lost since.
 abbrev pub profile_state : List Call → ℕ → Delivery → ProfileState
-profile_state calls lost delivery =
+profile_state calls lost_before delivery =
     if delivery.is_rejected then profile_states.Rejected
     else if is_unconfirmed calls delivery.call then profile_states.Sent
-    else if nat_lt delivery.call lost then profile_states.Unsure
+    else if nat_lt delivery.call lost_before then profile_states.Unsure
     else profile_states.Held
 
 -- the delivery of a row's profile, and its state; without a delivery nothing is sure
@@ -76,5 +78,5 @@ delivery_of deliveries row =
     option_and_then (slice_get deliveries) (position (is_delivery_of row) deliveries)
 
 abbrev pub profile_state_by : List Call → ℕ → Option Delivery → ProfileState
-profile_state_by calls lost None = profile_states.Unsure
-profile_state_by calls lost (Some delivery) = profile_state calls lost delivery
+profile_state_by calls lost_before None = profile_states.Unsure
+profile_state_by calls lost_before (Some delivery) = profile_state calls lost_before delivery

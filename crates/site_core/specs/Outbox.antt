@@ -66,6 +66,10 @@ is_full outbox = nat_le max_calls (length outbox.calls)
 abbrev pub is_exhausted : OutboxState → Bool
 is_exhausted outbox = nat_lt max_number outbox.next
 
+-- the number of the first unconfirmed call, or else of the next one
+abbrev pub first_unconfirmed : OutboxState → ℕ
+first_unconfirmed outbox = outbox.next - length outbox.calls
+
 -- a new call is the last one
 abbrev pub added : OutboxState → CallBody → OutboxState
 added old body = record old {

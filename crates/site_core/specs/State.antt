@@ -1,5 +1,5 @@
 -- The state of the central system between two steps.
-use Rattle.std.specs.Prelude.{ℕ, max, ◌≡◌, ◌≤◌, ◌==◌, Bool, false, List, [], map, length, slice_index_or, Option, None, Some, option_map, if◌then◌else◌}
+use Rattle.std.specs.Prelude.{ℕ, ◌≡◌, ◌≤◌, ◌==◌, Bool, false, List, [], map, length, slice_index_or, Option, None, Some, option_map, if◌then◌else◌}
 use Rattle.profile.specs.declared.row.Row.{Row}
 use Rattle.meaning.specs.declared.ask.Ask.{Ask}
 pub use Rattle.sweep_compiler.specs.Right.{ScheduleAnswer}
@@ -13,7 +13,7 @@ use Rattle.site_core.specs.declared.waiting_starts.WaitingStart.{WaitingStart}
 use Rattle.site_core.specs.Audit.{AuditState, unjudged}
 use Rattle.site_core.specs.declared.deliveries.ProfileState.{ProfileState}
 use Rattle.site_core.specs.declared.deliveries.ProfileState.TheVariants.{Unsure}
-use Rattle.site_core.specs.Delivery.{delivery_of, lost_before, profile_state_by}
+use Rattle.site_core.specs.Delivery.{delivery_of, profile_state_by}
 use Rattle.site_core.specs.ChargePoint.{ChargePointState, opening_point}
 
 -- a request for a composite schedule that is kept until its answer is handed out
@@ -65,6 +65,8 @@ no_point = record {
   audit = None;
   waiting = [];
   deliveries = [];
+  booted = None;
+  lost_before = 0;
 }
 
 abbrev pub point_in : List ChargePointState → ℕ → ChargePointState
@@ -133,19 +135,26 @@ waiting_in state (Some place) = (point_at state place).waiting
 abbrev pub waiting_of : MachineState → List ℕ → List WaitingStart
 waiting_of state point = waiting_in state (place_of state.site point)
 
--- The state of a row's profile at its point. The point may have lost what came by the calls before
--- the one of the number `lost`, and before its last audit if it differed in that.
-abbrev pub profile_state_at : ChargePointState → ℕ → Row → ProfileState
-profile_state_at point lost row = profile_state_by point.outbox.calls
-    (max lost (lost_before point.audit)) (delivery_of point.deliveries row)
+-- when the point of an identity last booted; an unknown point never did
+abbrev pub booted_in : MachineState → Option ℕ → Option ℕ
+booted_in state None = None
+booted_in state (Some place) = (point_at state place).booted
+
+abbrev pub booted_of : MachineState → List ℕ → Option ℕ
+booted_of state point = booted_in state (place_of state.site point)
+
+-- the state of a row's profile at its point
+abbrev pub profile_state_at : ChargePointState → Row → ProfileState
+profile_state_at point row =
+    profile_state_by point.outbox.calls point.lost_before (delivery_of point.deliveries row)
 
 -- of the point of an identity; of an unknown point nothing is sure
-abbrev pub profile_state_in : MachineState → Option ℕ → ℕ → Row → ProfileState
-profile_state_in state None lost row = Unsure
-profile_state_in state (Some place) lost row = profile_state_at (point_at state place) lost row
+abbrev pub profile_state_in : MachineState → Option ℕ → Row → ProfileState
+profile_state_in state None row = Unsure
+profile_state_in state (Some place) row = profile_state_at (point_at state place) row
 
-abbrev pub profile_state_of : MachineState → List ℕ → ℕ → Row → ProfileState
-profile_state_of state point lost row = profile_state_in state (place_of state.site point) lost row
+abbrev pub profile_state_of : MachineState → List ℕ → Row → ProfileState
+profile_state_of state point row = profile_state_in state (place_of state.site point) row
 
 -- the request of the audit of the point at a place, and of an identity, with the book of that time,
 -- while the audit has no verdict; an unknown point has none

@@ -31,15 +31,15 @@ use Rattle.site_core.specs.declared.step.Step.TheVariants as steps
 use Rattle.site_core.specs.declared.step.Take.{Take}
 use Rattle.site_core.specs.declared.reply.Counted.{Counted}
 use Rattle.site_core.specs.declared.reply.Reply.{Reply}
-use Rattle.site_core.specs.declared.reply.Reply.TheVariants.{Accepted, Unknown, Started, Repeated, Ended, NoSuch, Taken, Compiled, Answered, NotYet, Finished, Attached, Sent, Nothing, Confirmed, LinkLost, Audited, VerdictKept, Status, Called}
+use Rattle.site_core.specs.declared.reply.Reply.TheVariants.{Accepted, Unknown, Started, Repeated, Ended, NoSuch, Taken, Compiled, Answered, NotYet, Finished, Attached, Sent, Nothing, Confirmed, LinkLost, Audited, VerdictKept, Status, Called, Booted}
 use Rattle.site_core.specs.declared.outcome.Refused.{Refused}
 use Rattle.site_core.specs.declared.via.Via.{Via}
 use Rattle.site_core.specs.declared.via.Via.TheVariants.{Name, Link, Audit}
 use Rattle.site_core.specs.Audit.{AuditState, is_open_among, unjudged, audit_outcome}
 use Rattle.site_core.specs.Equal.{same_request}
 use Rattle.site_core.specs.Limits.{max_number, max_transaction, max_requests}
-use Rattle.site_core.specs.Outbox.{OutboxState, is_full, is_exhausted, sendable, is_number_in_flight}
-use Rattle.site_core.specs.ChargePoint.{ChargePointState, Deed, Installs, Clears, Starts, Stops, Attaches, Loses, Sends, Confirms, Audits, Judges, RemoteStarts, point_after}
+use Rattle.site_core.specs.Outbox.{OutboxState, is_full, is_exhausted, first_unconfirmed, sendable, is_number_in_flight}
+use Rattle.site_core.specs.ChargePoint.{ChargePointState, Deed, Installs, Clears, Starts, Stops, Attaches, Loses, Sends, Confirms, Audits, Judges, RemoteStarts, Boots, point_after}
 use Rattle.site_core.specs.WaitingStart.{ended_start, profile_for}
 use Rattle.site_core.specs.State.{MachineState, Kept, ScheduleAnswer, point_at, book_at, outbox_at, is_this_number}
 use Rattle.site_core.specs.Requests.{request_of, answered, without, all_stopped}
@@ -123,6 +123,7 @@ facts (Audited call unit) = record quiet_event { wants_memory = true }
 facts VerdictKept = quiet_event
 facts (Status status) = answer_alone
 facts (Called number) = record quiet_event { wants_memory = true }
+facts (Booted first) = quiet_event
 
 -- whether a step with its reply is an event
 abbrev pub is_event : MachineState → Reply → Bool
@@ -167,6 +168,7 @@ is_reply_to (steps.Audit point connector duration) (Audited call unit) = true
 is_reply_to (steps.Judge point number judged) VerdictKept = true
 is_reply_to (steps.Status point) (Status status) = true
 is_reply_to (steps.RemoteStart point connector id_tag profile) (Called number) = true
+is_reply_to (steps.Boot point moment) (Booted first) = true
 is_reply_to step reply = false
 
 -- ---- steps at a point are decided first, from the site, the numbers drawn last and the point
@@ -320,6 +322,11 @@ abbrev pub remote_starts : SiteState → ℕ → Option Profile → ChargePointS
 remote_starts site connector profile point =
     unless (refusal_to_remote_start site connector profile point) (Called point.outbox.next)
 
+-- Boot (OCPP 1.6, 4.2): the point has restarted. The reply has the first call that it hasn't
+-- confirmed: it may have lost what came before.
+abbrev pub boots : ChargePointState → Result Reply Refusal
+boots point = Ok (Booted (first_unconfirmed point.outbox))
+
 -- ---- and then done
 
 -- the profile with which a transaction begins at a connector
@@ -345,6 +352,7 @@ deed point (steps.Audit id connector duration) (Audited call unit) =
 deed point (steps.Judge id number judged) VerdictKept = Some (Judges judged.verdict)
 deed point (steps.RemoteStart id connector id_tag profile) (Called number) =
     Some (RemoteStarts connector id_tag profile)
+deed point (steps.Boot id moment) (Booted first) = Some (Boots moment)
 deed point step reply = None
 
 -- ---- the whole state
@@ -514,6 +522,7 @@ work (steps.Judge point number judged) = AtPoint (of_audit point (judges number 
 work (steps.Status point) = AtPoint (at_point point (λ site numbers. tells_status numbers))
 work (steps.RemoteStart point connector id_tag profile) =
     AtPoint (at_point point (λ site numbers. remote_starts site connector profile))
+work (steps.Boot point moment) = AtPoint (at_point point (λ site numbers. boots))
 
 -- a step at a point is decided, and then done
 abbrev pub made_there : MachineState → Step → PointStep → Result Made Refusal

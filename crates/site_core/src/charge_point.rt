@@ -2,7 +2,7 @@
 //! neither other points nor requests. A step is decided first, without a change, and then done.
 
 ghost use Rattle.std.specs.Option.{option_copied};
-ghost use Rattle.std.specs.Prelude.{◌≡◌, ◌+◌, ◌<◌, ◌≤◌, ℕ, None, Ok, Err, IfErr, IfNone, IfOk, OnOk, length, option_map};
+ghost use Rattle.std.specs.Prelude.{◌≡◌, ◌+◌, ◌<◌, ◌≤◌, ℕ, None, Some, Ok, Err, IfErr, IfNone, IfOk, OnOk, length, option_map};
 ghost use Rattle.site_rules.specs.Site.{HasConnector, point_entry};
 ghost use Rattle.transactions.specs.declared.active_table.Began.{Began};
 ghost use Rattle.transactions.specs.ActiveTable.{began};
@@ -19,9 +19,9 @@ ghost use Rattle.sweep_compiler.specs.Judged.{IsJudged};
 ghost use Rattle.site_core.specs.ChargePoint.{opening_point};
 ghost use Rattle.site_core.specs.WaitingStart.{ended_start, has_gone_out, without_ended};
 ghost use Rattle.site_core.specs.ChargePoint.{brought_at_start, brought_by};
-ghost use Rattle.site_core.specs.Delivery.{lost_before};
+ghost use Rattle.site_core.specs.Delivery.{lost_after_audit, lost_by_verdict};
 ghost use Rattle.site_core.specs.State.{profile_state_at};
-ghost use Rattle.site_core.specs.Step.{refusal_to_add, refusal_to_call, refusal_to_start, installs, clears, starts, stops, attaches, sends, confirms, loses, audits, judges, status_of, next_transaction, profile_at_start, refusal_of_profile, remote_starts, work};
+ghost use Rattle.site_core.specs.Step.{refusal_to_add, refusal_to_call, refusal_to_start, installs, clears, starts, stops, attaches, sends, confirms, loses, audits, boots, judges, status_of, next_transaction, profile_at_start, refusal_of_profile, remote_starts, work};
 ghost use Rattle.site_core.specs.ByCases.Made.{decision_of, ComesTo, OnDoes, IsMadeAt, IsAtPoint, HasConnectorsOf, IsDecided, IsWorked};
 
 use crate::audit::PointAudit;
@@ -36,7 +36,7 @@ use crate::step::Step;
 use crate::waiting_starts::{WaitingStart, WaitingStarts};
 use meaning::MAX_DURATION;
 use messages::{AuditOutcome, CallBody, PointStatus};
-use ocpp_scalars::{IdTag, Refusal};
+use ocpp_scalars::{IdTag, Instant, Refusal};
 use point_book::PointBook;
 use profile::{Criteria, Profile, Purpose, Row, Unit};
 use site_rules::{Site, SitePoint, admit};
@@ -46,7 +46,8 @@ use sweep_compiler::{AuditJob, Judged, Verdict};
 use transactions::{Began, Begin};
 
 /// The state that the central system keeps of a charge point: its profiles and transactions, the
-/// link to it, its unconfirmed calls, its audit, and the starts that an operator requested.
+/// link to it, its unconfirmed calls, its audit, the starts that an operator requested, and what it
+/// is known to have.
 #[derive(Drop)]
 pub(crate) struct ChargePoint {
     alloc: Global,
@@ -55,6 +56,10 @@ pub(crate) struct ChargePoint {
     audit: Option<PointAudit>,
     waiting: WaitingStarts,
     deliveries: Deliveries,
+    /// When it last booted.
+    booted: Option<Instant>,
+    /// It may have lost the profiles that came by calls before the one of this number.
+    lost_before: u64,
 }
 
 impl Model for ChargePoint {
@@ -68,6 +73,8 @@ impl Model for ChargePoint {
       audit = p.audit;
       waiting = p.waiting;
       deliveries = p.deliveries;
+      booted = p.booted;
+      lost_before = p.lost_before;
     } };
 }
 
@@ -85,6 +92,8 @@ impl ChargePoint {
             audit: None,
             waiting: WaitingStarts::new(alloc),
             deliveries: Deliveries::new(alloc),
+            booted: None,
+            lost_before: 0,
         })
     }
 
@@ -99,6 +108,8 @@ impl ChargePoint {
             audit: copy_of_audit(&self.audit)?,
             waiting: self.waiting.copy()?,
             deliveries: self.deliveries.copy()?,
+            booted: self.booted,
+            lost_before: self.lost_before,
         })
     }
 
@@ -164,6 +175,7 @@ impl ChargePoint {
                 profile,
                 ..
             } => self.decide_remote_start(site, *connector, profile),
+            Step::Boot { .. } => Ok(Decision::Does),
             Step::Take(_) | Step::Compile(_) | Step::Answer(_) | Step::Finish => unreachable!(),
         }
     }
@@ -213,6 +225,7 @@ impl ChargePoint {
                 id_tag,
                 profile,
             } => self.remote_start(site, point, *connector, id_tag, profile),
+            Step::Boot { point, moment } => Ok(self.boot(point, *moment)),
             Step::Take(_) | Step::Compile(_) | Step::Answer(_) | Step::Finish => unreachable!(),
         }
     }
@@ -691,9 +704,13 @@ impl ChargePoint {
         ensures outbox { self.new.outbox ≡ self.old.outbox }
         ensures waiting { self.new.waiting ≡ self.old.waiting }
         ensures deliveries { self.new.deliveries ≡ self.old.deliveries }
+        ensures booted { self.new.booted ≡ self.old.booted }
+        ensures lost { self.new.lost_before ≡ lost_after_audit self.new.audit self.old.lost_before }
     {
         if let Some(audit) = &mut self.audit {
-            audit.verdict = Some(audit.kept_verdict(self.book.book(), verdict));
+            let kept = audit.kept_verdict(self.book.book(), verdict);
+            audit.verdict = Some(kept);
+            self.lost_before = lost_by_verdict(audit.number, kept, self.lost_before);
         }
     }
 
@@ -808,7 +825,26 @@ impl ChargePoint {
         self.waiting.as_slice()
     }
 
-    // ---- deliveries
+    // ---- deliveries, and boots (chapter 4.2)
+
+    /// Records that the charge point booted at a moment. It may have lost what came by the calls
+    /// that it has confirmed.
+    fn boot(&mut self, point: &PointId, moment: Instant) -> Reply
+        ensures { IsMadeAt (boots self.old) (steps.Boot point.now moment)
+            self.old (Ok result) self.new }
+    {
+        let first = self.outbox.first_number();
+        self.booted = Some(moment);
+        self.lost_before = first;
+        Reply::Booted(first)
+    }
+
+    /// Returns when the charge point last booted.
+    pub fn booted(&self) -> Option<Instant>
+        ensures { result ≡ self.now.booted }
+    {
+        self.booted
+    }
 
     /// Returns the charge point's deliveries with that of a profile by the call of a number.
     fn with_delivery(&self, profile: &Profile, call: u64) -> Result<Deliveries, AllocError>
@@ -822,10 +858,9 @@ impl ChargePoint {
         self.deliveries.with(self.book().view().rows, new)
     }
 
-    /// Returns the state of an installed profile at the point, which may have lost what came by a
-    /// call before the one of the number `lost`.
-    pub fn profile_state(&self, row: &Row, lost: u64) -> ProfileState
-        ensures { result ≡ profile_state_at self.now lost row.now }
+    /// Returns the state of an installed profile at the point.
+    pub fn profile_state(&self, row: &Row) -> ProfileState
+        ensures { result ≡ profile_state_at self.now row.now }
     {
         let Some(delivery) = self.deliveries.of_row(row) else {
             return ProfileState::Unsure;
@@ -834,21 +869,10 @@ impl ChargePoint {
             ProfileState::Rejected
         } else if self.outbox.is_unconfirmed(delivery.call) {
             ProfileState::Sent
-        } else if delivery.call < lost.max(self.lost_before()) {
+        } else if delivery.call < self.lost_before {
             ProfileState::Unsure
         } else {
             ProfileState::Held
-        }
-    }
-
-    /// Returns the first call to the charge point whose profile it can't have lost before its last
-    /// audit: that of the audit, if the point differed in it.
-    fn lost_before(&self) -> u64
-        ensures { result ≡ lost_before self.now.audit }
-    {
-        match &self.audit {
-            Some(audit) if audit.verdict == Some(Verdict::Differs) => audit.number,
-            _ => 0,
         }
     }
 
@@ -950,6 +974,19 @@ fn refusal_of_profile(site: &Site, profile: &Option<Profile>) -> Option<Refusal>
         Some(profile) if profile.schedule.unit != site.unit() => Some(Refusal::WrongUnit),
         Some(profile) if profile.purpose != Purpose::TxProfile => Some(Refusal::NotTxProfile),
         Some(_) => None,
+    }
+}
+
+/// Returns the first call whose profile a charge point can't have lost, after the verdict on its
+/// audit by the call of this number. `lost_before` is that call before the verdict.
+fn lost_by_verdict(number: u64, verdict: Verdict, lost_before: u64) -> u64
+    ensures { result ≡ lost_by_verdict number (Some verdict) lost_before }
+{
+    match verdict {
+        Verdict::Agrees if number < lost_before => lost_before,
+        Verdict::Agrees => 0,
+        Verdict::Differs => lost_before.max(number),
+        Verdict::Rejected | Verdict::Unsettled => lost_before,
     }
 }
 

@@ -3,7 +3,7 @@
 ghost use Rattle.std.specs.Prelude.{◌≡◌, ◌<◌, ◌≤◌, Some, None, IfOk, IfErr, MatchResult, OnOk, Ok, Err, length, option_map};
 ghost use Rattle.ocpp_scalars.specs.declared.refusal.Refusal.TheVariants.{OutOfMemory};
 ghost use Rattle.site_rules.specs.Site.{place_of};
-ghost use Rattle.site_core.specs.State.{AreNumbers, Kept, audit_job, audit_of, book_at, link_of, link_to_send, opening, opening_at, outbox_at, outbox_len, profile_state_of, waiting_of};
+ghost use Rattle.site_core.specs.State.{AreNumbers, Kept, audit_job, audit_of, book_at, booted_of, link_of, link_to_send, opening, opening_at, outbox_at, outbox_len, profile_state_of, waiting_of};
 ghost use Rattle.site_core.specs.Requests.{request_of};
 ghost use Rattle.site_core.specs.State.{IsMachine};
 ghost use Rattle.site_core.specs.Step.{HasAskedConnector, Steps, IsRefused, IsRefusalOf, outlook, place_for, stepped, no_answer, work};
@@ -29,7 +29,7 @@ use crate::step::Step;
 use crate::via::Via;
 use crate::waiting_starts::WaitingStart;
 use meaning::Ask;
-use ocpp_scalars::Refusal;
+use ocpp_scalars::{Instant, Refusal};
 use point_book::PointBook;
 use profile::Row;
 use site_rules::Site;
@@ -231,14 +231,22 @@ impl Machine {
         }
     }
 
-    /// Returns the state of an installed profile at the point of an identity. The point may have
-    /// lost what came by a call before the one of the number `lost`, such as the first that it
-    /// hadn't confirmed when it booted. If the site has no such point, nothing is sure.
-    pub fn profile_state_of(&self, point: &str, row: &Row, lost: u64) -> ProfileState
-        ensures { result ≡ profile_state_of self.now point.now lost row.now }
+    /// Returns when the point of an identity last booted, if the site has such a point and it has
+    /// booted.
+    pub fn booted_of(&self, point: &str) -> Option<Instant>
+        ensures { result ≡ booted_of self.now point.now }
+    {
+        let place = self.site.place_of(point)?;
+        point_at(&self.points, place).booted()
+    }
+
+    /// Returns the state of an installed profile at the point of an identity. If the site has no
+    /// such point, nothing is sure.
+    pub fn profile_state_of(&self, point: &str, row: &Row) -> ProfileState
+        ensures { result ≡ profile_state_of self.now point.now row.now }
     {
         match self.site.place_of(point) {
-            Some(place) => point_at(&self.points, place).profile_state(row, lost),
+            Some(place) => point_at(&self.points, place).profile_state(row),
             None => ProfileState::Unsure,
         }
     }

@@ -66,6 +66,9 @@ pub enum Reply {
     Status(PointStatus),
     /// The call of this number asks the point to start a transaction.
     Called(u64),
+    /// The boot is recorded. The point may have lost what came by the calls before the one of this
+    /// number, the first that it hasn't confirmed.
+    Booted(u64),
 }
 
 /// The numbers of changes, Takes and answers that a reply counts.
@@ -103,7 +106,8 @@ impl Reply {
             | Reply::LinkLost
             | Reply::Audited { .. }
             | Reply::VerdictKept
-            | Reply::Called(_) => true,
+            | Reply::Called(_)
+            | Reply::Booted(_) => true,
             Reply::Unknown
             | Reply::Repeated(_)
             | Reply::NoSuch

@@ -86,6 +86,11 @@ pub enum Step {
         /// The TxProfile with which that transaction begins.
         profile: Option<Profile>,
     },
+    /// To record that a point has booted (chapter 4.2): it may have lost its profiles.
+    Boot {
+        point: PointId,
+        moment: Instant,
+    },
 }
 
 /// A request for the composite schedule of a connector, 0 being the whole point.
@@ -117,7 +122,8 @@ impl Step {
             | Step::Attach(point)
             | Step::Audit { point, .. }
             | Step::Status(point)
-            | Step::RemoteStart { point, .. } => (point, Via::Name),
+            | Step::RemoteStart { point, .. }
+            | Step::Boot { point, .. } => (point, Via::Name),
             // These name their link, so that a session whose link was superseded can't change a
             // newer session's calls.
             Step::Send { point, link }

@@ -2,5 +2,5 @@ pub mod Asked
 pub mod Calls
 pub mod Found
 pub mod Health
-pub mod Reboot
+pub mod Unsure
 pub mod News

@@ -10,7 +10,7 @@ use Rattle.site_status.specs.declared.point_activity.PointActivity.{PointActivit
 use Rattle.site_status.specs.declared.point_activity.RejectedCalls.{RejectedCalls}
 use Rattle.site_status.specs.declared.point_activity.SentMoment.{SentMoment}
 use Rattle.site_status.specs.declared.point_activity.Observation.{Observation}
-use Rattle.site_status.specs.declared.point_activity.Observation.TheVariants.{Connected, Heard, Booted, Sent, Refused}
+use Rattle.site_status.specs.declared.point_activity.Observation.TheVariants.{Connected, Heard, Sent, Refused}
 
 -- ---- connections
 
@@ -29,7 +29,6 @@ abbrev pub unseen : PointActivity
 unseen = record {
   connection = record { link = 0; since = None };
   heard = None;
-  boot = None;
   sent = None;
   rejections = 0;
   rejection = None;
@@ -46,7 +45,6 @@ abbrev pub seen : PointActivity → Observation → PointActivity
 seen old (Connected link moment) =
     record old { connection = connected old.connection link moment }
 seen old (Heard moment) = record old { heard = Some moment }
-seen old (Booted boot) = record old { boot = Some boot }
 seen old (Sent sent) = record old { sent = Some sent }
 seen old (Refused message) =
     record old { refusals = one_more old.refusals; refused = Some message }

@@ -4,7 +4,6 @@
 #![tactic(auto)]
 
 mod asked_path;
-mod boot_line;
 mod call_moments;
 mod calls;
 mod health;
@@ -16,15 +15,14 @@ mod page;
 mod page_style;
 mod point_activity;
 mod point_summary;
-mod reboot;
 mod site_report;
 mod state_page;
 mod status_answer;
 mod strip;
+mod unsure;
 mod watched_journal;
 
 pub use asked_path::{StatusPath, status_path};
-pub use boot_line::{BootLine, push_boot_line, read_boot_line};
 pub use call_moments::{CallMoments, CallNumbers};
 pub use calls::{in_flight_calls, in_flight_since, waiting_calls};
 pub use health::Health;
@@ -34,11 +32,10 @@ pub use next_day::connector_picture;
 pub use one_line::push_without_controls;
 pub use page::{POINTS_OF_PAGE, site_page};
 pub use point_activity::{
-    Boot, Connection, Observation, PointActivity, RefusedMessage, RejectedCalls, Rejection,
-    SentMoment,
+    Connection, Observation, PointActivity, RefusedMessage, RejectedCalls, Rejection, SentMoment,
 };
-pub use reboot::{lost_at_boot, lost_at_kept_boot, may_have_lost, resumed_boot};
 pub use site_report::{SiteCounts, SiteReport};
 pub use state_page::state_json;
 pub use status_answer::{ContentKind, StatusAnswer, answer_of, health_answer, not_found};
+pub use unsure::may_have_lost;
 pub use watched_journal::WatchedJournal;

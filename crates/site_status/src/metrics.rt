@@ -303,7 +303,7 @@ impl PointFigure {
         match self {
             PointFigure::Connected => Some(u64::from(point.news.connection.since.is_some())),
             PointFigure::LastText => Some(point.news.heard?.seconds()),
-            PointFigure::Boot => Some(point.news.boot?.moment.seconds()),
+            PointFigure::Boot => Some(point.booted()?.seconds()),
             PointFigure::Waiting => Some(point.calls.waiting as u64),
             PointFigure::WaitingSeconds => seconds_since(point.calls.waiting_since, now),
             PointFigure::InFlight => Some(point.calls.in_flight as u64),

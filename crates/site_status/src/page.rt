@@ -172,11 +172,7 @@ fn push_state(page: &mut Page, point: &PointSummary<'_>) {
         "not connected",
     );
     push_seen(page, "Last message", point.news.heard, NOT_SEEN);
-    let booted = match point.news.boot {
-        Some(boot) => Some(boot.moment),
-        None => None,
-    };
-    push_seen(page, "Booted", booted, NOT_SEEN);
+    push_seen(page, "Booted", point.booted(), NOT_SEEN);
     push_calls(page, point);
     page.push_str("</dl>\n");
     push_warnings(page, point);

@@ -14,8 +14,6 @@ pub struct PointActivity {
     pub connection: Connection,
     /// The moment of its last message.
     pub heard: Option<Instant>,
-    /// Its last BootNotification.
-    pub boot: Option<Boot>,
     /// The last call that was sent to it.
     pub sent: Option<SentMoment>,
     /// The number of calls that it rejected, including those before the program began, and the last
@@ -33,14 +31,6 @@ pub struct Connection {
     pub link: u64,
     /// Since when the point is connected over it, if it still is.
     pub since: Option<Instant>,
-}
-
-/// A BootNotification of a point.
-#[derive(Clone, Copy, PartialEq, Eq)]
-pub struct Boot {
-    pub moment: Instant,
-    /// The number of the first call that it hadn't confirmed by then.
-    pub first_call: u64,
 }
 
 /// A call that was sent to a point.
@@ -83,7 +73,6 @@ pub enum Observation {
     Connected { link: u64, moment: Instant },
     /// A message came from it.
     Heard { moment: Instant },
-    Booted(Boot),
     Sent(SentMoment),
     Refused(RefusedMessage),
 }
@@ -128,7 +117,6 @@ impl PointActivity {
                 since: None,
             },
             heard: None,
-            boot: None,
             sent: None,
             rejections: 0,
             rejection: None,
@@ -148,7 +136,6 @@ impl PointActivity {
         Ok(PointActivity {
             connection: self.connection,
             heard: self.heard,
-            boot: self.boot,
             sent: self.sent,
             rejections: self.rejections,
             rejection,
@@ -164,7 +151,6 @@ impl PointActivity {
         match sighting {
             Observation::Connected { link, moment } => self.connection.connect(link, moment),
             Observation::Heard { moment } => self.heard = Some(moment),
-            Observation::Booted(boot) => self.boot = Some(boot),
             Observation::Sent(sent) => self.sent = Some(sent),
             Observation::Refused(message) => {
                 self.refusals = self.refusals.saturating_add(1);

@@ -2,8 +2,8 @@
 
 use crate::calls::{in_flight_calls, in_flight_since, waiting_calls};
 use crate::point_activity::PointActivity;
-use crate::reboot::{lost_at_boot, may_have_lost, unheld_profiles};
 use crate::site_report::SiteReport;
+use crate::unsure::{may_have_lost, unheld_profiles};
 use messages::AuditOutcome;
 use ocpp_scalars::Instant;
 use point_book::PointBook;
@@ -25,7 +25,12 @@ impl PointSummary<'_> {
     /// Returns what the charge point is known to have of one of its installed profiles, for the
     /// texts of the status port.
     pub(crate) fn profile_state_of(&self, row: &Row) -> ProfileState {
-        self.machine.profile_state_of(self.id, row, self.calls.lost)
+        self.machine.profile_state_of(self.id, row)
+    }
+
+    /// Returns when the charge point last booted, for the texts of the status port.
+    pub(crate) fn booted(&self) -> Option<Instant> {
+        self.machine.booted_of(self.id)
     }
 }
 
@@ -40,8 +45,6 @@ pub(crate) struct CallSummary {
     pub(crate) in_flight: usize,
     pub(crate) in_flight_since: Option<Instant>,
     pub(crate) audit: AuditOutcome,
-    /// The first call whose profile it can't have lost when it last booted.
-    pub(crate) lost: u64,
     pub(crate) may_have_lost: bool,
     /// The number of installed profiles that it isn't known to have.
     pub(crate) unheld: u64,
@@ -72,7 +75,6 @@ fn calls_at(report: &SiteReport<'_>, place: usize) -> CallSummary {
     };
     let audit = machine.audit_of(point.id);
     let rows = book.view().rows;
-    let lost = lost_at_boot(news.boot, audit);
     CallSummary {
         confirmed: outbox.first_number(),
         waiting: waiting_calls(outbox),
@@ -80,9 +82,8 @@ fn calls_at(report: &SiteReport<'_>, place: usize) -> CallSummary {
         in_flight: in_flight_calls(outbox),
         in_flight_since: in_flight_since(outbox, news.sent),
         audit: audit.map_or(AuditOutcome::NoAudit, |audit| audit.outcome()),
-        lost,
-        may_have_lost: may_have_lost(machine, point.id, lost, rows),
-        unheld: unheld_profiles(machine, point.id, lost, rows),
+        may_have_lost: may_have_lost(machine, point.id, rows),
+        unheld: unheld_profiles(machine, point.id, rows),
     }
 }
 
@@ -104,7 +105,6 @@ fn no_calls() -> CallSummary {
         in_flight: 0,
         in_flight_since: None,
         audit: AuditOutcome::NoAudit,
-        lost: 0,
         may_have_lost: false,
         unheld: 0,
     }

@@ -65,6 +65,7 @@ fn push_point(page: &mut JsonPage, point: &PointSummary<'_>) {
     page.begin_object();
     page.text("id", point.id);
     push_news(page, point.news);
+    page.instant("booted", point.booted());
     page.flag("mayHaveForgotten", point.calls.may_have_lost);
     page.number("unheld", point.calls.unheld);
     page.number("confirmed", point.calls.confirmed);
@@ -84,11 +85,6 @@ fn push_point(page: &mut JsonPage, point: &PointSummary<'_>) {
 fn push_news(page: &mut JsonPage, news: &PointActivity) {
     page.instant("connectedSince", news.connection.since);
     page.instant("lastText", news.heard);
-    let booted = match news.boot {
-        Some(boot) => Some(boot.moment),
-        None => None,
-    };
-    page.instant("booted", booted);
 }
 
 /// Appends the number of calls that a charge point rejected to the status port's JSON, and the last

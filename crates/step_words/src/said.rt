@@ -34,6 +34,7 @@ pub fn said_of(reply: &Reply) -> Said {
         Reply::VerdictKept => ("VerdictKept", None),
         Reply::Status(status) => said_of_status(*status),
         Reply::Called(call) => ("Called", Some(*call)),
+        Reply::Booted(first) => ("Booted", Some(*first)),
     }
 }
 

@@ -7,8 +7,8 @@
 //! no profile. `CP1 take 1 0 60 5` is a request for a connector, from a second on for a number of
 //! seconds, after version 5 if that was seen. The words of the others are numbers: `CP1 audit 1 60`
 //! of a connector and seconds, `CP1 confirm 2 0` and `CP1 reject 2 0` of a link and a call,
-//! `CP1 send 2`, `CP1 lost 2`, `CP1 stop 1`, `- compile 1`, `- answer 1`. `CP1 attach`,
-//! `CP1 status` and `- finish` have none.
+//! `CP1 send 2`, `CP1 lost 2`, `CP1 stop 1`, `- compile 1`, `- answer 1`, `CP1 boot 5` of a second
+//! after midnight. `CP1 attach`, `CP1 status` and `- finish` have none.
 
 use meaning::{CompositePeriod, Said, SaidPeriods};
 use profile::{Profile, Unit};
@@ -106,6 +106,10 @@ fn numbered_step(point: PointId, name: &str, mut words: Words<'_>) -> Result<Ste
         "compile" => Ok(Step::Compile(first)),
         "answer" => Ok(Step::Answer(first)),
         "finish" => Ok(Step::Finish),
+        "boot" => Ok(Step::Boot {
+            point,
+            moment: instant_at(first)?,
+        }),
         "stop" => Ok(Step::Stop {
             point,
             transaction: i32::try_from(first).unwrap_or(0),

@@ -132,12 +132,13 @@ impl Course {
     }
 
     /// Returns the words of a random test's step that audits a point's connector by
-    /// GetCompositeSchedule, or requests the point's status.
+    /// GetCompositeSchedule, requests the point's status, or says that the point booted.
     fn audit(&mut self, alloc: Global, point: &str) -> Written {
         let connector = self.random.below(4);
         let duration = self.random.below(16);
-        match self.random.below(3) {
+        match self.random.below(4) {
             0 => format!(in alloc; "{point} status"),
+            1 => format!(in alloc; "{point} boot {duration}"),
             _ => format!(in alloc; "{point} audit {connector} {duration}"),
         }
     }

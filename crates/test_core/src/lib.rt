@@ -11,6 +11,8 @@ mod calls_beside_steps;
 #[cfg(test)]
 mod calls_of_a_session;
 #[cfg(test)]
+mod forgetting_point;
+#[cfg(test)]
 mod largest_sizes;
 #[cfg(test)]
 mod last_numbers;

@@ -20,13 +20,14 @@ impl RandomNumbers {
     }
 }
 
-/// The fields that identify the rows of a point: all but their moments and limits.
+/// The rows of a point: what identifies them, and their first limit.
 #[derive(Clone, Copy, PartialEq, Eq)]
 pub(crate) struct Keys {
     id: i32,
     connector: u32,
     purpose: Purpose,
     level: u32,
+    limit: u32,
 }
 
 impl Keys {
@@ -38,18 +39,25 @@ impl Keys {
             connector: 0,
             purpose: Purpose::TxDefaultProfile,
             level: 0,
+            limit: 0,
         }
     }
 
-    /// Returns the fields that identify a charging profile at a connector, for the obeying charge
-    /// point of a test.
-    fn of(connector: u32, profile: &Profile) -> Keys {
+    /// Returns the fields that identify a charging profile at a connector, and its first limit, for
+    /// the obeying charge point of a test.
+    pub(crate) fn of(connector: u32, profile: &Profile) -> Keys {
         Keys {
             id: profile.id,
             connector,
             purpose: profile.purpose,
             level: profile.stack_level,
+            limit: profile.schedule.periods.limit_in_force(0).unwrap_or(0),
         }
+    }
+
+    /// Whether a profile of these keys outlasts transactions, for the obeying charge point of a test.
+    pub(crate) fn is_lasting(self) -> bool {
+        self.purpose != Purpose::TxProfile
     }
 
     /// Whether the obeying charge point of a test removes the profile of these keys when it clears
@@ -101,7 +109,7 @@ pub(crate) fn lasting(alloc: Global, rows: &[Row]) -> Result<Vec<Keys>, AllocErr
 /// In a random test, appends a charging profile's keys to those of a point, unless it is a
 /// TxProfile, which ends with its transaction.
 fn push_lasting(rows: &mut Vec<Keys>, new: Keys) -> Result<(), AllocError> {
-    if new.purpose != Purpose::TxProfile {
+    if new.is_lasting() {
         rows.push(new)?;
     }
     Ok(())

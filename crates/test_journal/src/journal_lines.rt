@@ -35,16 +35,17 @@ const NO_LINES: &str = "|not a line of a journal
 2025-01-01T00:00:05Z sent CP1 1 x|a number is missing or too high
 2025-01-01T00:00:05Z reply CP1 00 []|a number is missing or too high";
 
-/// First lines, read and written in the same way, and texts that aren't first lines. The first has
+/// First lines, read and written again, and texts that aren't first lines. The first has
 /// the SHA-256 of nothing (FIPS 180-4).
 const HEADERS: &str =
-    "central journal 1 sha256:e3b0c44298fc1c149afbf4c8996fb92427ae41e4649b934ca495991b7852b855|=
+    "central journal 2 sha256:e3b0c44298fc1c149afbf4c8996fb92427ae41e4649b934ca495991b7852b855|=
+central journal 1 sha256:e3b0c44298fc1c149afbf4c8996fb92427ae41e4649b934ca495991b7852b855|central journal 2 sha256:e3b0c44298fc1c149afbf4c8996fb92427ae41e4649b934ca495991b7852b855
 |not a journal
 central journal|not a journal
 central journal 1|not a journal
 central  journal 1 sha256:e3b0c44298fc1c149afbf4c8996fb92427ae41e4649b934ca495991b7852b855|not a journal
-central journal 2 sha256:e3b0c44298fc1c149afbf4c8996fb92427ae41e4649b934ca495991b7852b855|a journal of another format
-central journal 1 sha256:e3b0|no digest of a site file
+central journal 3 sha256:e3b0c44298fc1c149afbf4c8996fb92427ae41e4649b934ca495991b7852b855|a journal of another format
+central journal 2 sha256:e3b0|no digest of a site file
 central journal 1 md5:e3b0c44298fc1c149afbf4c8996fb924|no digest of a site file
 central journal 1 sha256:E3b0c44298fc1c149afbf4c8996fb92427ae41e4649b934ca495991b7852b855|no digest of a site file
 central journal 1 sha256:e3b0c44298fc1c149afbf4c8996fb92427ae41e4649b934ca495991b7852b855 |no digest of a site file";
@@ -63,12 +64,12 @@ fn line_again(rt: &impl Abort, alloc: Global, text: &[u8]) -> String {
 }
 
 /// Reads the first line of a journal, for the test of which texts are first lines. Returns it as it
-/// is written again, or its fault.
+/// is written again, in the present format, or its fault.
 fn header_again(rt: &impl Abort, alloc: Global, text: &str) -> String {
     match read_header(text) {
-        Ok(digest) => {
+        Ok(header) => {
             let mut again = String::new(alloc);
-            push_header(alloc, &mut again, &digest).expect(rt, "error");
+            push_header(alloc, &mut again, &header.digest).expect(rt, "error");
             again
         }
         Err(fault) => format!(in alloc; "{fault}\n").expect(rt, "error"),

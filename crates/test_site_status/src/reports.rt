@@ -2,10 +2,10 @@
 
 use messages::{ActionKind, CallFault};
 use ocpp_scalars::{Instant, Refusal};
-use site_core::Machine;
+use site_core::{Machine, PointId, Step};
 use site_rules::read_site;
 use site_status::{
-    Boot, JournalReport, JournalState, Observation, PointActivity, RefusedMessage, SentMoment,
+    JournalReport, JournalState, Observation, PointActivity, RefusedMessage, SentMoment,
     SiteCounts, SiteReport,
 };
 use std::alloc::Global;
@@ -25,14 +25,20 @@ pub(crate) fn at(rt: &impl Abort, seconds: u64) -> Instant {
     Instant::try_new(MIDNIGHT + (seconds & 0xffff)).expect(rt, "an instant")
 }
 
-/// Returns a small site without profiles and transactions, for tests of the status port.
+/// Returns a small site without profiles and transactions, for tests of the status port. Its first
+/// point booted.
 pub(crate) fn machine(rt: &impl Abort, alloc: Global) -> Machine {
     let site = read_site(alloc, SITE.as_bytes()).ok().expect(rt, "a site");
-    Machine::new(alloc, site).expect(rt, "error")
+    let mut machine = Machine::new(alloc, site).expect(rt, "error");
+    let point = PointId::copied(alloc, "CP1").expect(rt, "error");
+    let moment = at(rt, 2);
+    let booted = machine.step(Step::Boot { point, moment });
+    let _reply = booted.ok().expect(rt, "a boot");
+    machine
 }
 
 /// Returns the observations of a small site's points, for tests of the status port. The first point
-/// booted, was sent call 0, rejected it, and sent a faulty message; the second has none.
+/// was sent call 0, rejected it, and sent a faulty message; the second has none.
 pub(crate) fn news(rt: &impl Abort, alloc: Global) -> Vec<PointActivity> {
     let mut points = Vec::new(alloc);
     points.push(first_news(rt, alloc)).expect(rt, "error");
@@ -40,8 +46,8 @@ pub(crate) fn news(rt: &impl Abort, alloc: Global) -> Vec<PointActivity> {
     points
 }
 
-/// Returns the observations of a small site's first point, for tests of the status port: it booted,
-/// was sent call 0, rejected it, and sent a message that was refused.
+/// Returns the observations of a small site's first point, for tests of the status port: it was sent
+/// call 0, rejected it, and sent a message that was refused.
 fn first_news(rt: &impl Abort, alloc: Global) -> PointActivity {
     let mut news = PointActivity::new();
     news.see(Observation::Connected {
@@ -49,10 +55,6 @@ fn first_news(rt: &impl Abort, alloc: Global) -> PointActivity {
         moment: at(rt, 1),
     });
     news.see(Observation::Heard { moment: at(rt, 2) });
-    news.see(Observation::Booted(Boot {
-        moment: at(rt, 2),
-        first_call: 0,
-    }));
     news.see(Observation::Sent(SentMoment {
         number: 0,
         action: ActionKind::ClearChargingProfile,

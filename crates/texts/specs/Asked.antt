@@ -1,5 +1,5 @@
--- The request that a message makes: nothing, an answer without a step, a step, or the confirmation
--- of a call.
+-- The request that a message makes: nothing, an answer without a step, a step, a boot, or the
+-- confirmation of a call.
 use Rattle.std.specs.Prelude.{ℕ, ◌≡◌, codes, Bool, true, false, List, Option, Some, None, Result, Ok, Err, if◌then◌else◌}
 use Rattle.std.specs.Str.{bytes_eq}
 use Rattle.ocpp_scalars.specs.declared.refusal.Refusal.{Refusal}
@@ -27,6 +27,7 @@ use Rattle.messages.specs.declared.action_kind.ActionKind.{ActionKind}
 use Rattle.messages.specs.declared.action_kind.ActionKind.TheVariants as kinds
 use Rattle.messages.specs.ActionKind.{action_named, kind_of_sender}
 use Rattle.messages.specs.Action.{action_of_kind}
+use Rattle.messages.specs.declared.fixed_answer.FixedAnswer.TheVariants as answers
 use Rattle.messages.specs.FixedAnswer.{fixed_response}
 use Rattle.messages.specs.Said.{is_accepted_reply}
 use Rattle.texts.specs.declared.asked.Asked.{Asked}
@@ -103,6 +104,7 @@ wanted_by text (actions.StopTransaction transaction) =
 wanted_by text (actions.AuditPoint connector duration) =
     wanted.Step (steps.Audit text.point connector duration)
 wanted_by text actions.PointStatus = wanted.Step (steps.Status text.point)
+wanted_by text (actions.Answered answers.BootNotification) = wanted.Boot text.point text.moment
 wanted_by text (actions.Answered answer) = wanted.Response (fixed_response answer text.moment)
 wanted_by text actions.NotACall = wanted.Response not_implemented
 
@@ -113,10 +115,11 @@ abbrev pub wanted_by_reading : Sent → Result Action CallFault → Wanted
 wanted_by_reading text (Ok action) = wanted_by text action
 wanted_by_reading text (Err fault) = wanted.Response (Error fault)
 
--- the request of the CALL of this id: the step or the answer
+-- the request of the CALL of this id: the step, the answer, or a boot
 abbrev pub asked_with : List ℕ → ActionKind → Wanted → Asked
 asked_with id kind (wanted.Step step) = asked.Step id kind step
 asked_with id kind (wanted.Response response) = asked.Respond id response
+asked_with id kind (wanted.Boot point moment) = asked.Boot id point moment
 
 -- an action that is unknown, or that its sender doesn't send, isn't implemented, whatever its
 -- fields are
@@ -162,7 +165,7 @@ asked_of text = asked_of_message text (message_of_text text.frame)
 
 -- ---- the requests of all messages
 
--- The steps that a CALL may request. Steps over a link come from the link itself or from a reply,
+-- The steps that a CALL may request with its outcome as the answer. Steps over a link come from the link itself or from a reply,
 -- and a verdict comes from a reply.
 abbrev pub IsOfCall : Step → Type 0
 IsOfCall (steps.Install point row) = Unit {0}

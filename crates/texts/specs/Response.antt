@@ -9,7 +9,7 @@ use Rattle.messages.specs.declared.call_fault.CallFault.TheVariants as faults
 use Rattle.messages.specs.declared.response.Response.{Response}
 use Rattle.messages.specs.declared.response.Response.TheVariants as responses
 use Rattle.site_core.specs.declared.reply.Reply.{Reply}
-use Rattle.site_core.specs.declared.reply.Reply.TheVariants.{Accepted, Unknown, Started, Repeated, Ended, NoSuch, Taken, Compiled, Answered, NotYet, Finished, Attached, Sent, Nothing, Confirmed, LinkLost, Audited, VerdictKept, Status, Called}
+use Rattle.site_core.specs.declared.reply.Reply.TheVariants.{Accepted, Unknown, Started, Repeated, Ended, NoSuch, Taken, Compiled, Answered, NotYet, Finished, Attached, Sent, Nothing, Confirmed, LinkLost, Audited, VerdictKept, Status, Called, Booted}
 use Rattle.site_core.specs.State.{ScheduleAnswer}
 
 -- a refused SetChargingProfile, GetCompositeSchedule, RemoteStartTransaction, AuditPoint or
@@ -30,7 +30,7 @@ schedule_response unit kind ask (Err refusal) = refused_response kind refusal
 
 -- A reply as a response to a CALL of this kind. A retransmitted start is answered as the first one
 -- was. There is no response to a request that is taken or compiled, a stop of the central system, a
--- change of a link or of a call, or a kept verdict.
+-- change of a link or of a call, a kept verdict, or a boot.
 abbrev pub reply_response : Unit → ActionKind → Reply → Option Response
 reply_response unit kind Accepted = Some responses.Accepted
 reply_response unit kind Unknown = Some responses.Unknown
@@ -52,6 +52,7 @@ reply_response unit kind (Audited call asked) = Some responses.Accepted
 reply_response unit kind VerdictKept = None
 reply_response unit kind (Status status) = Some (responses.PointStatus status)
 reply_response unit kind (Called call) = Some responses.Accepted
+reply_response unit kind (Booted first) = None
 
 -- the response to a CALL of this kind, from the outcome of its step
 abbrev pub response_of : Unit → ActionKind → Result Reply Refusal → Option Response

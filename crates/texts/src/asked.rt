@@ -1,5 +1,5 @@
-//! The request that a message makes: nothing, an answer without a step, a step, or the confirmation
-//! of a call.
+//! The request that a message makes: nothing, an answer without a step, a step, a boot, or the
+//! confirmation of a call.
 
 ghost use Rattle.std.specs.Prelude.{◌≡◌, None, Ok, IfOk, IfErr};
 ghost use Rattle.ocppj_frame.specs.Frame.{message_in};
@@ -15,10 +15,10 @@ use crate::number::number_of;
 use crate::sent_text::SentText;
 use crate::unread::Unread;
 use messages::{
-    Action, ActionKind, CallFault, RemoteStartTransaction, Response, ScheduleRequest, Side,
-    StartTransaction, is_accepted, read_fields,
+    Action, ActionKind, CallFault, FixedAnswer, RemoteStartTransaction, Response, ScheduleRequest,
+    Side, StartTransaction, is_accepted, read_fields,
 };
-use ocpp_scalars::Refusal;
+use ocpp_scalars::{Instant, Refusal};
 use ocppj_frame::{Frame, FrameFault, MessageId, Node, ReadingMemory, read_frame};
 use profile::{Profile, ProfileParts, Row};
 use site_core::{PointId, Step, Take};
@@ -44,6 +44,13 @@ pub enum Asked {
         kind: ActionKind,
         step: Step,
     },
+    /// The CALL of this id, a BootNotification, says that this point has booted, at the moment of
+    /// the message. Its answer has that moment, whatever becomes of the step.
+    Boot {
+        id: MessageId,
+        point: PointId,
+        moment: Instant,
+    },
     /// The message is the point's reply to the call of this number; `accepted` says whether the
     /// point accepts that call.
     Confirm {
@@ -59,6 +66,8 @@ enum Wanted {
     Step(Step),
     /// The answer of an action without a step.
     Response(Response),
+    /// A point has booted at a moment.
+    Boot { point: PointId, moment: Instant },
 }
 
 /// Reads a message into `memory`, and returns its request. If memory runs out, the error has the id
@@ -218,14 +227,15 @@ fn call_numbered(id: &str) -> Option<u64>
     if id == "0" { Some(0) } else { number_of(id) }
 }
 
-/// Returns the request of the CALL of this id to the central system, by the step or the answer that
-/// its action leads to.
+/// Returns the request of the CALL of this id to the central system, by the step, the answer or the
+/// boot that its action leads to.
 fn asked_with(id: MessageId, kind: ActionKind, wanted: Wanted) -> Asked
     ensures { result ≡ asked_with id kind wanted }
 {
     match wanted {
         Wanted::Step(step) => Asked::Step { id, kind, step },
         Wanted::Response(response) => Asked::Respond { id, response },
+        Wanted::Boot { point, moment } => Asked::Boot { id, point, moment },
     }
 }
 
@@ -281,6 +291,10 @@ fn wanted_by(alloc: Global, text: &SentText<'_>, action: Action) -> Result<Wante
         Action::PointStatus => {
             let point = PointId::copied(alloc, text.point())?;
             return Ok(Wanted::Step(Step::Status(point)));
+        }
+        Action::Answered(FixedAnswer::BootNotification) => {
+            let (point, moment) = (PointId::copied(alloc, text.point())?, text.moment());
+            return Ok(Wanted::Boot { point, moment });
         }
         Action::Answered(answer) => answer.response(text.moment()),
         Action::NotACall => NOT_IMPLEMENTED,

@@ -46,7 +46,8 @@ pub fn reply_response(unit: Unit, kind: ActionKind, reply: Reply) -> Option<Resp
         | Reply::Nothing
         | Reply::Confirmed
         | Reply::LinkLost
-        | Reply::VerdictKept => None,
+        | Reply::VerdictKept
+        | Reply::Booted(_) => None,
     }
 }
 

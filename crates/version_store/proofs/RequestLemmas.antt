@@ -1,5 +1,5 @@
 -- The steps that never fold: the events to come after them, and the answers that they hand out.
-use Rattle.std.proofs.Common.{◌≡◌, ℕ, ◌+◌, ◌≤◌, Bool, true, false, cond, Option, Some, None, is_some, Result, Ok, Err, refl, ap, subst, arith}
+use Rattle.std.proofs.Common.{◌≡◌, ◌≢◌, ℕ, ◌+◌, ◌≤◌, Bool, true, false, cond, Option, Some, None, is_some, Result, Ok, Err, refl, sym, ap, subst, arith}
 use Rattle.std.specs.Prelude.{IfSome}
 use Rattle.ocpp_scalars.specs.declared.refusal.Refusal.{Refusal}
 use Rattle.ocpp_scalars.specs.declared.refusal.Refusal.TheVariants.{AlreadyAnswered}
@@ -7,7 +7,7 @@ use Rattle.meaning.specs.declared.ask.Ask.{Ask}
 use Rattle.point_book.specs.Book.{BookState}
 use Rattle.sweep_compiler.specs.Compiled.{CompiledAnswer}
 use Rattle.site_core.specs.declared.reply.Reply.{Reply}
-use Rattle.site_core.specs.declared.reply.Reply.TheVariants.{Answered, Compiled, Finished}
+use Rattle.site_core.specs.declared.reply.Reply.TheVariants.{Answered, Compiled, Finished, NotYet}
 use Rattle.site_core.specs.State.{MachineState, Kept, ScheduleAnswer}
 use Rattle.site_core.specs.Requests.{request_of, answered, without, all_stopped}
 use Rattle.site_core.specs.Right.{IsCompiledFor, IsRight}
@@ -70,6 +70,29 @@ handed_out old number book ask answer after made = found (request_of number old.
         let handed : answers_with old kept kept.answer ≡ made_with (Answered book ask answer) after
         = cc is in
         with_answer kept here kept.answer refl handed
+
+-- what hands out no answer is a reply that there is none yet, and changes nothing
+pub not_yet : (old : MachineState) (number : ℕ) (reply : Reply) (after : MachineState)
+    → answers old number ≡ Ok (made_with reply after)
+    → ((book : BookState) (ask : Ask) (answer : ScheduleAnswer)
+    → reply ≢ Answered book ask answer)
+    → (reply ≡ NotYet) × (after ≡ old)
+not_yet old number reply after made none = found (request_of number old.requests) made
+  where
+    with_answer : (kept : Kept) (given : Option ScheduleAnswer)
+        → answers_with old kept given ≡ made_with reply after
+        → (reply ≡ NotYet) × (after ≡ old)
+    with_answer kept None is =
+        (sym (ap (λ (m : Made). m.reply) is), sym (ap (λ (m : Made). m.after) is))
+    with_answer kept (Some own) is =
+        absurd (none kept.book kept.ask own (sym (ap (λ (m : Made). m.reply) is)))
+
+    found : (request : Option Kept) → answers_kept old request ≡ Ok (made_with reply after)
+        → (reply ≡ NotYet) × (after ≡ old)
+    found None is = absurd (cc is)
+    found (Some kept) is =
+        let handed : answers_with old kept kept.answer ≡ made_with reply after = cc is in
+        with_answer kept kept.answer handed
 
 -- ---- compiling
 

@@ -18,10 +18,10 @@ use crate::script::line::{ScriptLine, ScriptLineFault, read_line};
 use crate::script::played_line::{LineOutcome, PlayedLine};
 use crate::script::point_change::{PointChange, change_of};
 use crate::script::printed_line::PrintedLine;
-use messages::{ActionKind, Call, Side};
+use messages::{ActionKind, Call, FixedAnswer, Side};
 use ocppj_frame::MessageId;
 use profile::Unit;
-use site_core::{PointId, Reply};
+use site_core::{PointId, Reply, Step};
 use site_rules::Site;
 use std::alloc::{AllocError, Global};
 use texts::{Asked, SentText, response_of};
@@ -242,6 +242,12 @@ pub fn asked_outcome(
             let unit = player.site().unit();
             let outcome = player.step_at_once(step)?;
             step_outcome(player.alloc(), unit, id, kind, outcome)
+        }
+        Asked::Boot { id, point, moment } => {
+            let _ = player.step(Step::Boot { point, moment })?;
+            let response = FixedAnswer::BootNotification.response(moment);
+            let line = PrintedLine::Answer { id, response };
+            with_line(player.alloc(), line, PointChange::Nothing)
         }
         Asked::Confirm {
             point,

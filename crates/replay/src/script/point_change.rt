@@ -58,6 +58,7 @@ fn change_by(reply: &Reply) -> PointChange
         | Reply::Nothing
         | Reply::LinkLost
         | Reply::VerdictKept
-        | Reply::Status(_) => PointChange::Nothing,
+        | Reply::Status(_)
+        | Reply::Booted(_) => PointChange::Nothing,
     }
 }

@@ -134,7 +134,7 @@ fn install_text(
 fn row_of<'a>(machine: &'a Machine, point: &str, profile: i32) -> Option<&'a Row> {
     let rows = machine.book_of(point)?.view().rows;
     let row = rows.iter().find(|row| row.profile.id == profile)?;
-    match machine.profile_state_of(point, row, 0) {
+    match machine.profile_state_of(point, row) {
         ProfileState::Sent => None,
         ProfileState::Held | ProfileState::Unsure | ProfileState::Rejected => Some(row),
     }

@@ -28,7 +28,7 @@ use crate::step::perform;
 use crate::todo::Todo;
 use compile_pool::{answer_job, answer_unmade, collect_answer, wait_answer};
 use ghost_list::ListName;
-use journal::{Entry, JournalFault};
+use journal::{Entry, Journal, JournalFault};
 use meaning::Ask;
 use ocpp_scalars::{Instant, Moments, Refusal};
 use site_core::Step;
@@ -68,9 +68,11 @@ pub fn answer_next<W: World, S: SessionSocket>(
         seen,
     } = answer_message(context, socket, core, pass, now, frame)?;
     if installs_again && matches!(event, SessionEvent::Boot) {
-        // The lines noted by now are kept before the answer leaves. A point that has it doesn't
-        // boot again.
         install_again(context, core, pass);
+        // These lines are kept before the answer leaves: a point that has it doesn't boot again.
+        if let Err(fault) = context.journal.write_out() {
+            return Err(ended_unsaved(fault));
+        }
     }
     socket.still_there()?;
     if let Some(answer) = &answer {

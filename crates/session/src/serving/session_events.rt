@@ -27,7 +27,7 @@ pub(crate) fn subject_of(todo: &Todo, step: &Option<Step>) -> Subject {
             call: *call,
             accepted: *accepted,
         },
-        None if todo.is_of_boot() => Subject::Boot,
+        Some(Step::Boot { .. }) => Subject::Boot,
         None => match todo.fault() {
             Some(fault) => Subject::Faulty(fault),
             None => Subject::Other,

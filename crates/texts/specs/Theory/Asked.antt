@@ -34,6 +34,7 @@ use Rattle.texts.specs.Asked.{wanted_by_making, remote_profile, wanted_by_remote
 abbrev IsOfAction : Wanted → Type 0
 IsOfAction (wants.Step step) = IsOfCall step
 IsOfAction (wants.Response response) = is_schedule response ≡ false
+IsOfAction (wants.Boot point moment) = Unit {0}
 
 made : (text : Sent) (connector : ℕ) (profile : Result Profile Refusal)
     → IsOfAction (wanted_by_making text connector profile)
@@ -58,6 +59,7 @@ wanted text (actions.SetChargingProfile connector parts) =
     made text connector (profile_of_parts parts)
 wanted text (actions.RemoteStartTransaction start) =
     remotely text start (remote_profile start.profile)
+wanted text (actions.Answered answers.BootNotification) = tt
 wanted text (actions.Answered answer) = fixed answer text.moment
 wanted text actions.NotACall = refl
 -- each other action is a step
@@ -72,6 +74,7 @@ with_wanted : (id : List ℕ) (kind : ActionKind) (want : Wanted) → IsOfAction
     → AsksByCall (asked_with id kind want)
 with_wanted id kind (wants.Step step) is = is
 with_wanted id kind (wants.Response response) is = is
+with_wanted id kind (wants.Boot point moment) is = tt
 
 of_kind : (text : Sent) (id : List ℕ) (kind : Option ActionKind) (payload : Tree)
     → AsksByCall (asked_of_kind text id kind payload)

@@ -1,5 +1,5 @@
-//! The book's methods for links to points, and for the calls that are sent over them. They aren't
-//! counted as changes of a session.
+//! The book's methods for links to points, for the calls that are sent over them, and for boots.
+//! They aren't counted as changes of a session.
 
 ghost use Rattle.std.specs.Prelude.{◌≡◌, IfOk, IfErr};
 ghost use Rattle.site_core.specs.declared.step.Step.TheVariants as steps;
@@ -11,7 +11,7 @@ use crate::pass::Pass;
 use crate::recorder::make_recorded;
 use ghost_list::ListName;
 use messages::Call;
-use ocpp_scalars::Refusal;
+use ocpp_scalars::{Instant, Refusal};
 use site_core::{PointId, Reply, Step};
 use std::sync::ledger::Ledger;
 
@@ -94,6 +94,26 @@ impl<C: Ledger, A: Ledger, N: ListName> Book<C, A, N> {
             Step::Lost { point, link },
         ) {
             Ok(Reply::LinkLost) => Ok(()),
+            Ok(_) => unreachable!(),
+            Err(refused) => Err(refused.refusal),
+        }
+    }
+
+    /// Records that a point has booted at a moment (chapter 4.2). Returns the first call that it
+    /// hasn't confirmed: it may have lost the profiles that came by earlier ones.
+    pub fn boot(&mut self, point: PointId, moment: Instant) -> Result<u64, Refusal>
+        ensures makes { IfOk result (λ first. Makes self.old (steps.Boot point moment)
+            (Reply.Booted first) self.new) }
+        ensures refusal { IfErr result (λ refusal.
+            IsRefusalOf self.old (steps.Boot point moment) refusal) }
+        ensures kept { IfErr result (λ refusal. self.new ≡ self.old) }
+    {
+        match make_recorded(
+            &mut self.history,
+            &mut self.recorder,
+            Step::Boot { point, moment },
+        ) {
+            Ok(Reply::Booted(first)) => Ok(first),
             Ok(_) => unreachable!(),
             Err(refused) => Err(refused.refusal),
         }

@@ -12,7 +12,8 @@ returns c =
     let first = string_bytes c.push_str.new.self in
     let second = string_bytes c.push_str-2.new.self in
     let digits = encode_lower c.args.digest.now in
-    let two = then_piece start first second (codes "central journal 1 sha256:") digits c.in_ok-push_str.ensures.bytes
+    let two = then_piece start first second (codes "central journal 2 sha256:") digits
+    (c.in_ok-push_str.ensures.bytes ∙ ap (λ (t : List ℕ). start ++ t) c.beginning.ensures)
     (c.in_ok-push_str-2.ensures.bytes ∙ ap (λ (t : List ℕ). first ++ t) (c.as_str.ensures.value ∙ c.in_ok-digits.ensures ∙ ap encode_lower c.as_slice.ensures)) in
-    then_piece start second (string_bytes c.push.new.self) (codes "central journal 1 sha256:" ++ digits) (codes "\n") two
+    then_piece start second (string_bytes c.push.new.self) (codes "central journal 2 sha256:" ++ digits) (codes "\n") two
     (c.in_ok-push.ensures.bytes ∙ ap (λ (t : List ℕ). second ++ t) (c.in_ok-push.ensures.ascii (lit< tt)))
