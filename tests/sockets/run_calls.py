@@ -2,12 +2,13 @@
 import json
 import re
 import tempfile
+import threading
 
 from programs import run
 from raw_client import RawClient
 from run_data import SITE, Data, SiteFile, read, stop, transaction_of
 from serving import Running, expect, until
-from texts import accepted, clear, heartbeat, install, install_call, profile, start
+from texts import accepted, clear, error, heartbeat, install, install_call, profile, rejected, start
 
 NOT_SENT = b": it would be refused, so it isn't sent; --force sends it\n"
 FUSE = {"purpose": "ChargePointMaxProfile"}
@@ -236,6 +237,33 @@ def ended_transactions(site, operator, point):
     expect("at another car", site.undo(line=line)[:2], (0, b""))
 
 
+def outcomes(site, _operator, point):
+    """With `--wait` the status says whether the point did the calls, and standard error what it rejected; without, nobody waits."""
+    for number in ("0", "1"):
+        point.texts_of(accepted(number))
+    fault = b"central: command line: --wait SECONDS needs --data DIR\n"
+    expect("without the folder", site.call("--status", "--wait", "1", checked=False), (4, b"", fault))
+    for number, (reply, status, said) in enumerate((
+        (accepted("2"), 0, rb""),
+        (rejected("3", "no"), 5, rb"central: P1 answered Rejected to call 3, SetChargingProfile, [^\n]*TxDefaultProfile 5[^\n]*\n"),
+        (error("4", "NotSupported"), 5, rb"central: P1 answered CALLERROR to call 4, SetChargingProfile, [^\n]*\n"),
+        (accepted("5"), 0, rb""),
+    ), 2):
+        found = []
+        calling = threading.Thread(target=lambda limit=number: found.append(site.set(profile(5, [limit], level=1), "--wait", "60")))
+        calling.start()
+        until("the call comes", lambda: any("SetChargingProfile" in text for text in point.texts_of(heartbeat("w"))))
+        expect("who waits", (calling.is_alive(), found), (True, []))
+        point.texts_of(reply)
+        calling.join()
+        expect(f"the status behind {reply}", found[0][:2], (status, sent(b"set-profile")[1]))
+        expect(f"what is said behind {reply}", re.fullmatch(rb"(?:[^\n]* remark: [^\n]*\n)*" + said, found[0][2]) is None, False)
+    status, _, said = site.set(profile(5, [9], level=1), "--wait", "1")
+    expect("nobody replies", (status, said.endswith(b"central: P1 didn't reply within 1 s\n")), (5, True))
+    expect("nothing to wait for", site.set(profile(5, [9], level=1), "--wait", "60", "--dry-run")[0], 0)
+    expect("for another point's calls", site.call("--status", "--wait", "60", at="/P2")[0], 0)
+
+
 def lines_of_undo(site, operator, _point):
     """Which lines can be undone, and where."""
     fault = b"central: command line: the journal has no message on the line of --undo\n"
@@ -253,6 +281,6 @@ def tests():
     named = {
         "warnings": warnings, "connectors together": together, "refusals": refusals, "each point": each_point,
         "command lines": command_lines, "what is undone": undone, "ended transactions": ended_transactions,
-        "lines of --undo": lines_of_undo, "later changes": later_changes, "calls that wait": waiting_calls,
+        "lines of --undo": lines_of_undo, "later changes": later_changes, "calls that wait": waiting_calls, "outcomes": outcomes,
     }
     return [(name, of_site(test)) for name, test in named.items()]

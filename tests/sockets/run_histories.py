@@ -63,6 +63,8 @@ def same_in_each_reader(program, history, data):
     ):
         seen, wanted = read(program, data, *command, of=SITE), of_script(program, script, *command, of=SITE)
         expect_same(f"what {' '.join(command[:5])} says of the journal", same(seen[1]), same(wanted[1]))
+    found, traced = (found_in_history(read(program, data, "check", *more, of=SITE)[1]) for more in ((), ("--trace",)))
+    expect_same("what check finds in the journal, followed and as a script", found, traced)
     replayed = read(program, data, "replay", of=SITE)[1].splitlines()
     told = iter("".join(told.output() for told in history.told).splitlines())
     for line in replayed:
@@ -101,6 +103,11 @@ def findings(page):
     """
     lines = (line for line in page.splitlines() if not line.startswith("script: line"))
     return sorted(re.sub(r"line \d+|\d{4}-\d\d-\d\d.\d\d:\d\d(:\d\dZ?)?", "..", line) for line in lines)
+
+
+def found_in_history(page):
+    """What `check` finds in lines, and of points at the end."""
+    return [line for line in page.splitlines() if line.startswith("script: ")]
 
 
 def remote_start_over_a_lost_link(program):

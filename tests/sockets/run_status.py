@@ -290,6 +290,7 @@ def replies_that_accept_nothing(program):
             point.texts_of(heartbeat("last"))
         # They stand in the journal: a restart tells the same of them.
         running.kill()
+        expect("what explain says", notes_of_explain(program, data), ["central: P1 rejected TxDefaultProfile 1 at connector 0, at AT by its reply to call 5"])
         with Running(program, SITE, data.path, has_status=True) as again:
             then = point_of(again)
             del now["rejected"]["moment"], then["rejected"]["moment"]  # of the message, which came a little earlier
@@ -313,11 +314,20 @@ def an_audit_that_differs(program):
                 point.texts_of(schedule_reply(number, [(0, limit)]))
                 expect(f"told {limit}", (metrics(running)[figure], warning in get(running, "/")[2]), (int(differs), differs))
                 expect(f"what it has, told {limit}", states_of(running), ["unsure" if differs else "held"])
+                point.texts_of(heartbeat(f"then{number}"))  # its answer waits for the disk
+                lost = ["central: P1 may have lost TxDefaultProfile 1 at connector 0, at AT"]
+                expect(f"what explain says, told {limit}", notes_of_explain(program, data), lost if differs else [])
 
 
 def states_of(running):
     """The states of P1's profiles at the point, in the order of their installs."""
     return [entry["state"] for entry in point_of(running)["profiles"]]
+
+
+def notes_of_explain(program, data):
+    """What `explain` says on standard error of profiles that the point rejected or may have lost."""
+    explained = ("--point", "P1", "--connector", "0", "--start", "2030-01-01T00:00:00Z", "--duration", "60")
+    return INSTANT.sub("AT", read(program, data, "explain", *explained)[2]).splitlines()[1:]
 
 
 def boots_in(data):
@@ -330,7 +340,7 @@ def boots_in(data):
 def remarks_on_boots(program, data):
     """What `check` says of points that booted."""
     status, printed, said = read(program, data, "check")
-    expect("how check ends", (status, said), (0, ""))
+    expect("how check ends", (status, bool(re.fullmatch(r"central: journal: \d+ lines, the last one of \S+\n", said))), (0, True))
     return [line for line in printed.splitlines() if "booted" in line]
 
 

@@ -1,19 +1,22 @@
 """Runs of a site that is killed and started again: what the journal holds, and that nothing that was answered is lost."""
 import asyncio
 import contextlib
+import datetime
+import hashlib
 import json
 import os
 import re
 import resource
 import socket
 import subprocess
+import tempfile
 import threading
 import time
 
 from days import Day, charging, compare, evening, morning, replay
 from python_client import PythonClient
 from raw_client import CLOSE, CONTINUATION, TEXT, RawClient, frame_bytes, request_bytes
-from run_data import SITE, Data, SiteFile, SmallDevice, done_with, of_script, once, read, run_words, size, stop, transaction_of
+from run_data import SITE, Data, SiteFile, SmallDevice, done_with, of_script, once, read, run_words, size, stop, tell, transaction_of
 from serving import ENVIRONMENT, PATIENCE, Running, Unexpected, expect, until
 from texts import (
     CALL_0, OCPP, accepted, ask, call, clear, error, heartbeat, install, install_call, plain_site, profile, site, start,
@@ -637,8 +640,9 @@ def readers(program):
                 ends, printed = of_script(program, script, *command)
                 ends = 2 if "central: the journal " in notes else ends
                 expect(f"what {' '.join(command)} prints", without_links(status, out), without_links(ends, printed))
-                wanted = rf"central: journal: {count} lines, the last one of \S+\n{notes}" if command[0] in ("show", "explain") else notes
-                expect(f"what {command[0]} says", bool(re.fullmatch(wanted, said)), True)
+                follows = command[0] != "replay" and "--trace" not in command
+                wanted = rf"central: journal: {count} lines, the last one of \S+\n{notes}" if follows else notes
+                expect(f"what {' '.join(command)} says", bool(re.fullmatch(wanted, said)), True)
 
 
 def without_links(status, out):
@@ -665,6 +669,65 @@ def progress_of_readers(program):
             wanted = rf"central: {count} lines read\ncentral: journal: {count} lines, the last one of \S+\n{call_0}"
             expect(f"how {command[0]} ends", status, 0)
             expect(f"what {command[0]} says", bool(re.fullmatch(wanted, said)), True)
+
+
+def long_journals(program):
+    """`check`, `call --data` and `--undo` read a journal that is longer than a script may be, and a longer one in no more memory."""
+    short, long = size((5_000, 20_000), (50, 200), (500_000, 2_000_000))
+    peaks = []
+    for installs in (short, long):
+        with Data() as data, SiteFile(SITE) as site:
+            write_installs(data, installs)
+            status, lines, said, peak = peak_of([program, "check", "--site", site, "--data", data.path])
+            tell(f"{installs} installs, {os.path.getsize(data.journal) / 1e6:.1f} MB: check takes {peak / 1024:.1f} MB")
+            peaks.append(peak)
+            replaced = [line for line in lines if " takes the place of TxDefaultProfile " in line]
+            expect("what check finds", (status, len(replaced)), (0, installs - 1))
+            last = 3 * installs  # behind a message before call 0, and that call's reply
+            wanted = f"script: line {last} (P1): remark: TxDefaultProfile {1 + installs % 2} takes the place of TxDefaultProfile {2 - installs % 2} "
+            expect("what it finds last", replaced[-1].startswith(wanted), True)
+            expect("how far it was", f"central: journal: {last + 2} lines, the last one of {moment_of(installs)}\n" in said, True)
+            with Running(program, SITE, data.path) as running:
+                call = [program, "call", "--url", f"ws://127.0.0.1:{running.port}/operator/P1", "--site", site, "--data", data.path, "--dry-run"]
+                undone = peak_of([*call, "--undo", str(last)])
+                expect("what would undo the last install", (undone[0], [json.loads(line)[3] for line in undone[1]]), (0, [periods_of(installs - 1)]))
+                status, _, said, _ = peak_of([*call, "--clear", '{"id":9}'])
+                expect("what is said of a clear", (status, "this clears nothing" in said), (0, True))
+    if "UNPROVED" not in os.environ:
+        expect(f"the memory for {long} installs beside {short}: {peaks} KB", peaks[1] < peaks[0] + 4_096, True)
+
+
+def moment_of(install):
+    return (datetime.datetime(2025, 1, 1) + datetime.timedelta(minutes=install)).isoformat() + "Z"
+
+
+def periods_of(install):
+    """The payload of an install: a day of 24 periods. Each replaces the one before, which has another id."""
+    limits = [6.0 + (install + hour) % 9 for hour in range(24)]
+    return {"connectorId": 1, "csChargingProfiles": profile(1 + install % 2, limits, kind="Recurring", recurrencyKind="Daily")}
+
+
+def write_installs(data, count):
+    """A journal of so many installs, each confirmed before the next."""
+    lines = [f"central journal 2 sha256:{hashlib.sha256(SITE.encode()).hexdigest()}", f"{moment_of(0)} attached P1 1"]
+    lines += [f"{moment_of(0)} sent P1 1 0", f"{moment_of(0)} reply P1 1 {accepted('0')}"]
+    data.write("".join(f"{line}\n" for line in lines).encode())
+    with open(data.journal, "a", encoding="utf-8") as file:
+        for number in range(1, count + 1):
+            moment, frame = moment_of(number), json.dumps([2, "i", "SetChargingProfile", periods_of(number)])
+            file.write(f"{moment} operator P1 {number} {frame}\n{moment} sent P1 1 {number}\n")
+            file.write(f"{moment} reply P1 1 {accepted(str(number))}\n")
+
+
+def peak_of(words):
+    """What a command ends with, prints and says, and the most memory that it took, in KB."""
+    with tempfile.TemporaryFile() as out, tempfile.TemporaryFile() as said:
+        with subprocess.Popen(words, stdin=subprocess.DEVNULL, stdout=out, stderr=said, env=ENVIRONMENT) as process:
+            _, status, used = os.wait4(process.pid, 0)
+            process.returncode = os.waitstatus_to_exitcode(status)
+        for file in (out, said):
+            file.seek(0)
+        return process.returncode, out.read().decode().splitlines(), said.read().decode(), used.ru_maxrss
 
 
 def write_late(path, whole):
@@ -701,5 +764,6 @@ def tests():
     yield "readers", readers
     yield "readers of a torn journal", readers_of_a_torn_journal
     yield "how far readers are", progress_of_readers
+    yield "long journals", long_journals
     yield "a reader that left", a_reader_that_left
     yield "readers of a long change", readers_of_a_long_change

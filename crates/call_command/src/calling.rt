@@ -3,14 +3,14 @@
 use crate::given_calls::given_calls;
 use crate::sending::{send_calls, send_lines};
 use crate::state_check::check_visits;
-use crate::undoing::{Undoing, hold_undo, undo_of};
-use crate::waiting_calls::say_waiting;
+use crate::undoing::{hold_undo, undo_of};
+use crate::waiting_calls::say_outcomes;
 use client::{Address, ClientRuntime};
 use client_lines::Lines;
 use command_io::{ProgramFault, read_login, read_site_file};
 use jobs::Calling;
 use operator_calls::{
-    Caller, GivenCall, SendOptions, Visit, is_without_point, point_of_url, url_of_point,
+    Caller, GivenCall, SendOptions, Undo, Visit, is_without_point, point_of_url, url_of_point,
     visits_of_site,
 };
 use site_rules::Site;
@@ -41,8 +41,8 @@ pub fn call_site<R: ClientRuntime + Files<File = File> + Input>(
     let calls = caller.passed(given)?;
     let visits = visits_of(rt, calling, &mut caller, &undo, site, calls.as_slice())?;
     send_calls(&mut caller, calls.as_slice(), visits.as_slice())?;
-    say_waiting(rt, calling, visits.as_slice())?;
-    Ok(caller.status())
+    let outcome = say_outcomes(rt, calling, visits.as_slice())?;
+    Ok(caller.status().max(outcome))
 }
 
 /// Returns the options of `call` for sending messages. Reads the login from its file.
@@ -64,16 +64,16 @@ fn visits_of<R: Files<File = File> + Clock + Print + Eprint + AllocGlobal>(
     rt: &R,
     calling: Calling<'_>,
     caller: &mut Caller<'_, R>,
-    undo: &Option<Undoing>,
+    undo: &Option<Undo>,
     site: Option<Site>,
     calls: &[GivenCall],
 ) -> Result<Vec<Visit>, ProgramFault> {
     let mut visits = match undo {
-        Some(undoing) => undo_visit(rt.alloc(), calling.url, undoing, calls.len())?,
+        Some(undo) => undo_visit(rt.alloc(), calling.url, undo, calls.len())?,
         None => plain_visits(rt.alloc(), calling, &site, calls.len())?,
     };
-    if let Some(undoing) = undo {
-        hold_undo(caller, undoing, calls, &mut visits)?;
+    if let Some(undo) = undo {
+        hold_undo(caller, undo, calls, &mut visits)?;
     }
     if let (Some(folder), Some(site)) = (calling.folder, site) {
         check_visits(rt, caller, folder, site, calls, &mut visits)?;
@@ -93,6 +93,9 @@ fn check_url(alloc: Global, calling: Calling<'_>) -> Result<(), ProgramFault> {
     if calling.undo.is_some() && (calling.all || calling.folder.is_none()) {
         return Err(ProgramFault::UndoWithoutData);
     }
+    if calling.wait.is_some() && calling.folder.is_none() {
+        return Err(ProgramFault::WaitWithoutData);
+    }
     // An undo has its point from the line, so its URL may lack the identity.
     let lacks_point = calling.all || calling.undo.is_some() && is_without_point(calling.url);
     if !lacks_point {
@@ -111,7 +114,7 @@ fn check_url(alloc: Global, calling: Calling<'_>) -> Result<(), ProgramFault> {
 fn undo_in<R: Files<File = File> + Clock + Eprint + AllocGlobal>(
     rt: &R,
     calling: Calling<'_>,
-) -> Result<Option<Undoing>, ProgramFault> {
+) -> Result<Option<Undo>, ProgramFault> {
     let (Some(number), Some(folder), Some(path)) = (calling.undo, calling.folder, calling.site)
     else {
         return Ok(None);
@@ -122,9 +125,9 @@ fn undo_in<R: Files<File = File> + Clock + Eprint + AllocGlobal>(
 }
 
 /// Takes the calls to a charge point out of an undo that `call --undo` requests, if there is one.
-fn undo_calls(alloc: Global, undo: &mut Option<Undoing>) -> Vec<GivenCall> {
+fn undo_calls(alloc: Global, undo: &mut Option<Undo>) -> Vec<GivenCall> {
     match undo {
-        Some(undoing) => mem::replace(&mut undoing.undo.calls, Vec::new(alloc)),
+        Some(undo) => mem::replace(&mut undo.calls, Vec::new(alloc)),
         None => Vec::new(alloc),
     }
 }
@@ -151,11 +154,11 @@ fn plain_visits(
 fn undo_visit(
     alloc: Global,
     url: &str,
-    undoing: &Undoing,
+    undo: &Undo,
     count: usize,
 ) -> Result<Vec<Visit>, ProgramFault> {
     let named = point_of_url(url);
-    let Some(visit) = Visit::at_point(alloc, named, undoing.point.as_str(), count)? else {
+    let Some(visit) = Visit::at_point(alloc, named, undo.point.as_str(), count)? else {
         return Err(ProgramFault::UndoElsewhere);
     };
     let mut visits = Vec::new(alloc);

@@ -3,6 +3,8 @@
 
 mod calling;
 mod given_calls;
+mod journal_state;
+mod outcome_reader;
 mod sending;
 mod state_check;
 mod undoing;

@@ -1,17 +1,20 @@
 //! Checks calls against the state of their points before they are sent.
 
+use crate::journal_state::state_of_journal;
 use command_io::{ProgramFault, now};
-use journal_file::read_journal_script;
-use operator_calls::{CallScript, Caller, GivenCall, SharedWarnings, Visit, script_of_calls};
+use journal_reader::NoReader;
+use operator_calls::{Caller, GivenCall, SharedWarnings, Visit, script_of_calls};
 use replay::ReplayFault;
 use site_checks::PlayedCalls;
+use site_core::Machine;
 use site_rules::Site;
 use std::alloc::AllocGlobal;
 use std::fs::File;
 use std::rt::{Clock, Files};
 
 /// Keeps in the visits only the calls that their points would accept, in the state after the
-/// journal of a folder and the calls before. Prints the findings.
+/// journal of a folder and the calls before. Prints the findings. Notes which number the next call
+/// to each point has.
 pub fn check_visits<R: Files<File = File> + Clock + Print + Eprint + AllocGlobal>(
     rt: &R,
     caller: &mut Caller<'_, R>,
@@ -21,18 +24,18 @@ pub fn check_visits<R: Files<File = File> + Clock + Print + Eprint + AllocGlobal
     visits: &mut Vec<Visit>,
 ) -> Result<(), ProgramFault> {
     let alloc = rt.alloc();
-    let journal = read_journal_script(rt, folder)?;
     if visits
         .iter()
         .any(|visit| site.place_of(visit.id.as_str()).is_none())
     {
         return Err(ProgramFault::NoSuchPoint);
     }
-    let Some(made) = script_of_calls(journal, now(rt)?, calls, visits.as_slice())? else {
+    let machine = state_of_journal(rt, folder, site, &mut NoReader)?;
+    note_next_calls(&machine, visits);
+    let Some(script) = script_of_calls(alloc, now(rt)?, calls, visits.as_slice())? else {
         return Err(ProgramFault::Replay(ReplayFault::ScriptTooLong));
     };
-    let CallScript { script, lines } = made;
-    let mut played = PlayedCalls::behind(rt, alloc, script.as_slice(), lines, site)?;
+    let mut played = PlayedCalls::begin(alloc, machine, script.as_slice())?;
     let mut shared = SharedWarnings::new(alloc);
     for visit in visits {
         let passed = passed_calls(caller, &mut played, &mut shared, calls, &*visit)?;
@@ -40,6 +43,16 @@ pub fn check_visits<R: Files<File = File> + Clock + Print + Eprint + AllocGlobal
     }
     caller.say_shared(&shared)?;
     Ok(())
+}
+
+/// Notes which number the next call to each visited point has in this state, so that `call` knows
+/// its own calls later.
+fn note_next_calls(machine: &Machine, visits: &mut Vec<Visit>) {
+    for visit in visits {
+        if let Some(outbox) = machine.outbox_of(visit.id.as_str()) {
+            visit.next_call = outbox.next_number();
+        }
+    }
 }
 
 /// Returns those calls of `call` to a point that have no fault by the point's state. They are the

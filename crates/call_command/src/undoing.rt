@@ -1,10 +1,12 @@
 //! Undoes a line of a journal, and prints notes on it.
 
+use crate::journal_state::state_of_journal;
 use command_io::ProgramFault;
-use journal_file::read_journal_script;
-use operator_calls::{
-    Caller, GivenCall, LostProfile, UNDO, Undo, Visit, line_at, point_of_line, undo_to,
-};
+use journal_file::FolderFault;
+use journal_reader::EventReader;
+use operator_calls::{Caller, GivenCall, LostProfile, UNDO, Undo, UndoReader, Visit};
+use site_core::Machine;
+use site_history::Event;
 use site_rules::Site;
 use std::alloc::{AllocError, AllocGlobal};
 use std::fs::File;
@@ -13,12 +15,30 @@ use std::rt::{Clock, Files};
 /// The greatest number of characters shown of the undone line.
 const LONGEST_SHOWN: usize = 160;
 
-/// The undo of a line, and its point.
+/// A reader of a journal for the undo of one of its lines.
 #[derive(Drop)]
-pub struct Undoing {
-    /// The point's identity.
-    pub point: String,
-    pub undo: Undo,
+struct UndoneJournal {
+    reader: UndoReader,
+}
+
+impl EventReader for UndoneJournal {
+    fn before(&mut self, machine: &Machine, line: u64, point: &str) -> Result<(), FolderFault> {
+        self.reader.before(machine, line, point)?;
+        Ok(())
+    }
+
+    fn read(&mut self, machine: &Machine, event: &Event<'_>) -> Result<(), FolderFault> {
+        self.reader.read(machine, event)?;
+        Ok(())
+    }
+
+    fn end_part(&mut self) -> Result<(), FolderFault> {
+        Ok(())
+    }
+
+    fn waits(&mut self, _machine: &Machine) -> bool {
+        false
+    }
 }
 
 /// Returns the calls that bring the point of a journal's line back to its profiles before that
@@ -28,34 +48,35 @@ pub fn undo_of<R: Files<File = File> + Clock + Eprint + AllocGlobal>(
     folder: &str,
     site: Site,
     number: u64,
-) -> Result<Undoing, ProgramFault> {
-    let alloc = rt.alloc();
-    let script = read_journal_script(rt, folder)?;
-    let line = line_at(script.as_slice(), number);
-    let Some(point) = point_of_line(alloc, line, &site)? else {
+) -> Result<Undo, ProgramFault> {
+    let mut journal = UndoneJournal {
+        reader: UndoReader::new(rt.alloc(), number),
+    };
+    let machine = state_of_journal(rt, folder, site, &mut journal)?;
+    let Some(undo) = journal.reader.undo(&machine)? else {
         return Err(ProgramFault::NoUndoLine);
     };
-    say_line(rt, number, line)?;
-    let undo = undo_to(rt, script.as_slice(), site, number, point.as_str())?;
+    say_line(rt, number, undo.line.as_str())?;
     say_lost(rt, undo.lost.as_slice());
     if undo.calls.is_empty() {
+        let point = &undo.point;
         let _ = eprintln!(rt;
             "undo: {point} has the profiles that it had before line {number}, as far as they can be there"
         );
     }
-    Ok(Undoing { point, undo })
+    Ok(undo)
 }
 
 /// Leaves out of visits the calls that would also take back later changes, unless that is forced.
 /// Prints these changes.
 pub fn hold_undo<R: Print + Eprint + AllocGlobal>(
     caller: &mut Caller<'_, R>,
-    undoing: &Undoing,
+    undo: &Undo,
     calls: &[GivenCall],
     visits: &mut Vec<Visit>,
 ) -> Result<(), ProgramFault> {
     for visit in visits {
-        if !caller.passes_undo(visit.label(), undoing.undo.later.as_slice())? {
+        if !caller.passes_undo(visit.label(), undo.later.as_slice())? {
             visit.leave_out(UNDO, calls);
         }
     }
@@ -64,13 +85,9 @@ pub fn hold_undo<R: Print + Eprint + AllocGlobal>(
 
 /// Prints the beginning of the journal's line that an undo of `call` is to revert to standard
 /// error.
-fn say_line<R: Eprint + AllocGlobal>(rt: &R, number: u64, line: &[u8]) -> Result<(), AllocError> {
+fn say_line<R: Eprint + AllocGlobal>(rt: &R, number: u64, line: &str) -> Result<(), AllocError> {
     let mut shown = String::new(rt.alloc());
-    for character in str::from_utf8(line)
-        .unwrap_or("")
-        .chars()
-        .take(LONGEST_SHOWN)
-    {
+    for character in line.chars().take(LONGEST_SHOWN) {
         shown.push(character)?;
     }
     let _ = eprintln!(rt; "undo: line {number} is {shown}");

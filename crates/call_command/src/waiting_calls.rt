@@ -1,63 +1,117 @@
-//! The calls of a site that still wait for their points.
+//! How calls came out at their points, and those that still wait.
 
-use command_io::{ProgramFault, read_digested_site};
+use crate::journal_state::state_of_journal;
+use crate::outcome_reader::OutcomeReader;
+use command_io::{ProgramFault, read_site_file};
 use jobs::Calling;
-use journal_file::ScriptEnd;
-use journal_reader::{FollowRequest, FollowedJournal, follow_journal};
+use journal_file::FolderFault;
+use journal_reader::NoReader;
 use operator_calls::Visit;
-use site_core::Outbox;
+use site_core::{Machine, Outbox};
+use site_history::PointCalls;
+use site_rules::Site;
 use std::alloc::AllocGlobal;
 use std::fs::File;
 use std::rt::{Clock, Files};
 
+/// The exit status if a point rejected a call, or didn't reply in time.
+const NOT_DONE: u8 = 5;
+
 /// Prints which of the visited points aren't connected, or have calls that wait behind another, by
-/// the journal of the folder, if one is named. If it can't be followed, no answer is lost.
-pub fn say_waiting<R: Files<File = File> + Clock + Eprint + AllocGlobal>(
+/// the journal of the folder, if one is named. With `--wait` first waits for their replies, and
+/// prints which calls they rejected. Returns the exit status by that. If the journal can't be
+/// followed, no answer is lost.
+pub fn say_outcomes<R: Files<File = File> + Clock + Eprint + AllocGlobal>(
     rt: &R,
     calling: Calling<'_>,
     visits: &[Visit],
-) -> Result<(), ProgramFault> {
+) -> Result<u8, ProgramFault> {
     let (Some(folder), Some(path)) = (calling.folder, calling.site) else {
-        return Ok(());
+        return Ok(0);
     };
     if calling.dry_run {
-        return Ok(());
+        return Ok(0);
     }
-    let following = quiet_request(rt, folder, path)?;
-    match follow_journal(rt, following) {
-        Ok(followed) => say_of_points(rt, &followed, visits),
+    let site = read_site_file(rt, path)?;
+    match say_followed(rt, calling.wait, folder, site, visits) {
+        Ok(status) => Ok(status),
         // The calls are sent by now, so this fault doesn't change the exit status.
         Err(fault) => {
             let _ = eprintln!(rt; "central: which calls wait isn't known: {fault}");
+            Ok(0)
         }
     }
-    Ok(())
 }
 
-/// Reads the site file of this path for `call`. Returns the request to follow the site's journal
-/// without notes on standard error.
-fn quiet_request<'a, R: Files<File = File> + AllocGlobal>(
+/// Follows the journal of a folder, up to this many seconds if `call` waits for replies, and prints
+/// to standard error how the calls came out. Returns the exit status by that.
+fn say_followed<R: Files<File = File> + Clock + Eprint + AllocGlobal>(
     rt: &R,
-    folder: &'a str,
-    path: &str,
-) -> Result<FollowRequest<'a>, ProgramFault> {
-    let (site, digest) = read_digested_site(rt, path)?;
-    Ok(FollowRequest {
-        site,
-        digest,
-        folder,
-        end: ScriptEnd::Whole,
-        point: "",
-        counted_from: None,
-        is_quiet: true,
-    })
+    wait: Option<u64>,
+    folder: &str,
+    site: Site,
+    visits: &[Visit],
+) -> Result<u8, FolderFault> {
+    let Some(seconds) = wait else {
+        let machine = state_of_journal(rt, folder, site, &mut NoReader)?;
+        say_of_points(rt, &machine, visits);
+        return Ok(0);
+    };
+    let mut reader = OutcomeReader::new(rt, rt.alloc(), site.len(), visits, seconds)?;
+    let machine = state_of_journal(rt, folder, site, &mut reader)?;
+    let status = say_rejected(rt, &machine, visits, &reader);
+    say_of_points(rt, &machine, visits);
+    Ok(status)
+}
+
+/// Prints to standard error which calls of `call` their points rejected, and which points didn't
+/// reply in time. Returns the exit status by that.
+fn say_rejected<R: Clock + Eprint>(
+    rt: &R,
+    machine: &Machine,
+    visits: &[Visit],
+    reader: &OutcomeReader<'_, R>,
+) -> u8 {
+    let mut status = 0;
+    for (number, visit) in visits.iter().enumerate() {
+        let id = visit.id.as_str();
+        let calls = machine
+            .site()
+            .place_of(id)
+            .and_then(|place| reader.calls.points().get(place));
+        if let Some(calls) = calls {
+            status = status.max(say_rejected_by(rt, visit, calls));
+        }
+        if reader.is_awaited(machine, number) {
+            let seconds = reader.seconds;
+            let _ = eprintln!(rt; "central: {id} didn't reply within {seconds} s");
+            status = NOT_DONE;
+        }
+    }
+    status
+}
+
+/// Prints to standard error which calls of `call` a point rejected. Returns the exit status by
+/// that.
+fn say_rejected_by<R: Eprint>(rt: &R, visit: &Visit, calls: &PointCalls) -> u8 {
+    let mut status = 0;
+    for rejected in &calls.rejected {
+        let number = rejected.call.number;
+        if number < visit.next_call || visit.calls.is_empty() {
+            continue;
+        }
+        let (id, answer, what) = (&visit.id, &rejected.status, &rejected.call.what);
+        let _ = eprintln!(rt; "central: {id} answered {answer} to call {number}, {what}");
+        status = NOT_DONE;
+    }
+    status
 }
 
 /// Prints to standard error which of the points that `call` calls aren't connected, or have calls
 /// that wait.
-fn say_of_points<R: Eprint>(rt: &R, followed: &FollowedJournal, visits: &[Visit]) {
+fn say_of_points<R: Eprint>(rt: &R, machine: &Machine, visits: &[Visit]) {
     for visit in visits {
-        let outbox = followed.machine().outbox_of(visit.id.as_str());
+        let outbox = machine.outbox_of(visit.id.as_str());
         if let (Some(outbox), false) = (outbox, visit.calls.is_empty()) {
             say_of_point(rt, visit.id.as_str(), outbox);
         }

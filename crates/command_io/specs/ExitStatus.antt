@@ -12,7 +12,7 @@ use Rattle.journal_file.specs.declared.folder_fault.FolderFault.TheVariants as f
 use Rattle.client_lines.specs.declared.fault.ClientFault.{ClientFault}
 use Rattle.client_lines.specs.declared.fault.ClientFault.TheVariants as client_fault
 use Rattle.command_io.specs.declared.program_fault.ProgramFault.{ProgramFault}
-use Rattle.command_io.specs.declared.program_fault.ProgramFault.TheVariants.{Words, Site, SiteFile, Write, Replay, Socket, Folder, Client, File, NoSuchPoint, NoSuchConnector, NoInstant, NoDuration, NoScriptEnd, NoNumber, AllWithoutSite, AllWithoutCalls, AllElsewhere, UndoWithoutData, NoUndoLine, UndoElsewhere, PastCalendar, NoPicture, NoZone, ZoneElsewhere, ZonePastCalendar, NoPort, AfterBoot, NoKeys, StatusOpen, StatusUrl, NoStatus, Keys, Login, KeyName, Clock, Random, OutOfMemory}
+use Rattle.command_io.specs.declared.program_fault.ProgramFault.TheVariants.{Words, Site, SiteFile, Write, Replay, Socket, Folder, Client, File, NoSuchPoint, NoSuchConnector, NoInstant, NoDuration, NoScriptEnd, NoNumber, AllWithoutSite, AllWithoutCalls, AllElsewhere, UndoWithoutData, WaitWithoutData, NoUndoLine, UndoElsewhere, PastCalendar, NoPicture, NoZone, ZoneElsewhere, ZonePastCalendar, NoPort, AfterBoot, NoKeys, StatusOpen, StatusUrl, NoStatus, Keys, Login, KeyName, Clock, Random, OutOfMemory}
 
 abbrev pub replay_status : ReplayFault → ℕ
 replay_status replay_fault.Read = 3
@@ -63,6 +63,7 @@ fault_status AllWithoutSite = 4
 fault_status AllElsewhere = 4
 fault_status AllWithoutCalls = 4
 fault_status UndoWithoutData = 4
+fault_status WaitWithoutData = 4
 fault_status NoUndoLine = 4
 fault_status UndoElsewhere = 4
 fault_status PastCalendar = 4

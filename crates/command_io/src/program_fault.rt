@@ -73,6 +73,9 @@ pub enum ProgramFault {
     /// present state.
     #[error("central: command line: --undo LINE needs --data DIR, and goes without --all")]
     UndoWithoutData,
+    /// `--wait` is given without `--data`.
+    #[error("central: command line: --wait SECONDS needs --data DIR")]
+    WaitWithoutData,
     /// The journal has no message on the line that is to be undone.
     #[error("central: command line: the journal has no message on the line of --undo")]
     NoUndoLine,
@@ -155,7 +158,9 @@ impl ProgramFault {
             ProgramFault::AllWithoutSite
             | ProgramFault::AllWithoutCalls
             | ProgramFault::AllElsewhere => 4,
-            ProgramFault::UndoWithoutData | ProgramFault::NoUndoLine => 4,
+            ProgramFault::UndoWithoutData
+            | ProgramFault::NoUndoLine
+            | ProgramFault::WaitWithoutData => 4,
             ProgramFault::UndoElsewhere => 4,
             ProgramFault::NoZone | ProgramFault::ZoneElsewhere | ProgramFault::ZonePastCalendar =>
                 4,

@@ -3,7 +3,7 @@
 use Rattle.std.specs.Prelude.{◌≡◌, ◌<◌, ◌≤◌, ◌^◌, ◌&&◌, Bool, true, false, ℕ, List, [], ◌∷◌, codes, Option, None, Some, IfSome, if◌then◌else◌, is_some, option_map}
 use Rattle.std.specs.Option.{option_map_or}
 use Rattle.std.specs.Str.Parse.{IsNumeral, digits_value, without_leading_plus}
-use Rattle.jobs.specs.Limits.{default_call_timeout, default_seats, default_workers, max_call_timeout, max_connectors, max_line, max_seats, max_sessions, max_workers}
+use Rattle.jobs.specs.Limits.{default_call_timeout, default_seats, default_workers, max_call_timeout, max_connectors, max_line, max_seats, max_sessions, max_wait, max_workers}
 use Rattle.clap.specs.Kinds.{or_else}
 use Rattle.clap.specs.Words.{App, Kinds, Row, Rule, Text, all_of, fault_of, first_of, new_app, new_rule, one_of, subcommand_of, with_rule, with_subcommand}
 use Rattle.clap.specs.declared.builder.action.ArgAction.TheVariants.{Set, SetTrue}
@@ -145,17 +145,19 @@ with_calls app =
     (optional_numbers (codes "audit") 2147483647))
     (flag (codes "status"))
 
--- the line to undo, and whether calls are sent: `[--undo LINE] [--force] [--dry-run]`
+-- the line to undo, the wait, and whether calls are sent:
+-- `[--undo LINE] [--wait SECONDS] [--force] [--dry-run]`
 abbrev pub with_sending : App → App
 with_sending app =
-    with_rule (with_rule (with_rule app
+    with_rule (with_rule (with_rule (with_rule app
     (numbered 1 max_line (optional (codes "undo"))))
+    (numbered 1 max_wait (optional (codes "wait"))))
     (flag (codes "force")))
     (flag (codes "dry-run"))
 
 -- `call --url U [--login FILE] [--all] [--site F] [--data DIR] [--set-profile FILE]
 -- [--clear CRITERIA] [--remote-start CONNECTOR TAG [FILE]] [--ask CONNECTOR SECONDS]
--- [--audit CONNECTOR SECONDS] [--status] [--undo LINE] [--force] [--dry-run]`
+-- [--audit CONNECTOR SECONDS] [--status] [--undo LINE] [--wait SECONDS] [--force] [--dry-run]`
 abbrev pub call_command : App
 call_command = with_sending (with_calls (with_callees (new_app (codes "call"))))
 
@@ -365,6 +367,7 @@ pub record IsCalling (rows : List Row) (calling : Calling) : Type 0 where
   pub audit : IsAsking (all_of (codes "audit") rows) calling.audit
   pub status : IsFlag (codes "status") rows calling.status
   pub undo : IsOptionalNumber (codes "undo") rows calling.undo
+  pub wait : IsOptionalNumber (codes "wait") rows calling.wait
   pub force : IsFlag (codes "force") rows calling.force
   pub dry_run : IsFlag (codes "dry-run") rows calling.dry_run
 

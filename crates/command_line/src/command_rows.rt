@@ -14,14 +14,16 @@ use crate::help_text::{
     REMOTE_START_HELP, REPLAY_ABOUT, REPLAY_EXAMPLE, RUN_ABOUT, RUN_DATA_HELP, RUN_NOTES,
     RUN_STATUS_HELP, RUN_WORKERS_HELP, SCRIPT_HELP, SEATS_HELP, SERVE_ABOUT, SERVE_NOTES,
     SESSIONS_HELP, SET_PROFILE_HELP, SHOW_ABOUT, SHOW_NOTES, SITE_HELP, START_HELP, STATUS_ABOUT,
-    STATUS_HELP, STATUS_NOTES, STATUS_OPEN_HELP, STATUS_URL_HELP, TRACE_HELP, UNDO_HELP,
+    STATUS_HELP, STATUS_NOTES, STATUS_OPEN_HELP, STATUS_URL_HELP, TRACE_HELP, UNDO_HELP, WAIT_HELP,
     WORKERS_HELP, ZONE_HELP,
 };
 use crate::option_row::CommandRow;
 use crate::option_row::OptionRow::{
     Asking, Flag, Needed, NeededNumber, Number, Optional, Starting,
 };
-use jobs::{MAX_CALL_TIMEOUT, MAX_CONNECTORS, MAX_LINE, MAX_SEATS, MAX_SESSIONS, MAX_WORKERS};
+use jobs::{
+    MAX_CALL_TIMEOUT, MAX_CONNECTORS, MAX_LINE, MAX_SEATS, MAX_SESSIONS, MAX_WAIT, MAX_WORKERS,
+};
 
 /// Returns the definition of the command `run`, with its options and their help: `run --site F
 /// --data DIR --listen A [--keys FILE] [--seats N] [--workers N] [--call-timeout SECONDS]
@@ -104,7 +106,7 @@ pub(crate) fn serve() -> CommandRow
 /// Returns the definition of the command `call`, with its options and their help: `call --url U
 /// [--login FILE] [--all] [--site F] [--data DIR] [--set-profile FILE] [--clear CRITERIA]
 /// [--remote-start CONNECTOR TAG [FILE]] [--ask CONNECTOR SECONDS] [--audit CONNECTOR SECONDS]
-/// [--status] [--undo LINE] [--force] [--dry-run]`.
+/// [--status] [--undo LINE] [--wait SECONDS] [--force] [--dry-run]`.
 pub(crate) fn call() -> CommandRow
     ensures { app_of_row result ≡ call_command }
 {
@@ -125,6 +127,7 @@ pub(crate) fn call() -> CommandRow
             Asking("audit", AUDIT_HELP),
             Flag("status", STATUS_HELP),
             Number("undo", "LINE", UNDO_HELP, 1, MAX_LINE),
+            Number("wait", "SECONDS", WAIT_HELP, 1, MAX_WAIT),
             Flag("force", FORCE_HELP),
             Flag("dry-run", DRY_RUN_HELP),
         ],

@@ -225,6 +225,10 @@ pub const CALL_DATA_HELP: &str =
 pub const UNDO_HELP: &str =
     "Restore the profiles that the point had before this line of the journal";
 
+/// Help of `--wait`.
+pub const WAIT_HELP: &str =
+    "With --data: wait for the points' replies, and report what they rejected";
+
 /// Help of `--force`.
 pub const FORCE_HELP: &str = "Send faulty calls too";
 
@@ -258,7 +262,7 @@ and slow.json a profile by itself:
 
 Exit statuses, the highest of several: 0 all accepted; 1 the site file is invalid; 2 an answer was an error or
 Rejected, or something wasn't sent; 3 no OCPP 1.6 server listens there, the connection, a file or a device
-failed, or out of memory; 4 usage error.";
+failed, or out of memory; 4 usage error; 5 with --wait, a point rejected a call, or didn't reply in time.";
 
 /// The description of `point`.
 pub const POINT_ABOUT: &str = "A simulated charge point that does what its input lines say";

@@ -196,6 +196,7 @@ fn calling_of<'a>(given: &ArgMatches<'a>) -> Option<Calling<'a>>
     let audit = asking_of(given, "audit")?;
     let status = is_given(given, "status");
     let undo = optional_number_of(given, "undo");
+    let wait = optional_number_of(given, "wait");
     let force = is_given(given, "force");
     let dry_run = is_given(given, "dry-run");
     Some(Calling {
@@ -211,6 +212,7 @@ fn calling_of<'a>(given: &ArgMatches<'a>) -> Option<Calling<'a>>
         audit,
         status,
         undo,
+        wait,
         force,
         dry_run,
     })

@@ -1,5 +1,5 @@
 -- The exit status of a check.
-use Rattle.std.specs.Prelude.{ℕ, Bool, true, false, List, if◌then◌else◌}
+use Rattle.std.specs.Prelude.{ℕ, Bool, true, false, List, if◌then◌else◌, ◌==◌, ◌||◌, max}
 use Rattle.std.specs.List.{list_any}
 use Rattle.findings.specs.declared.finding.Severity.{Severity}
 use Rattle.findings.specs.declared.finding.Severity.TheVariants.{Fault, Warning, Remark}
@@ -24,3 +24,7 @@ has_warning findings = list_any (λ (finding : Finding). is_warning finding.seve
 -- 1 with a fault, 2 with warnings and no fault, otherwise 0: remarks have no effect
 abbrev pub exit_status : List Finding → ℕ
 exit_status findings = if has_fault findings then 1 else if has_warning findings then 2 else 0
+
+-- that of two checks together: a fault of one counts, and else a warning
+abbrev pub joined_status : ℕ → ℕ → ℕ
+joined_status first second = if first == 1 || second == 1 then 1 else max first second

@@ -1,9 +1,9 @@
 //! Findings in a site file or a script: their severities, places and messages.
 
 ghost use Rattle.std.specs.Prelude.{◌≡◌};
-ghost use Rattle.findings.specs.ExitStatus.{exit_status, has_fault, has_warning};
+ghost use Rattle.findings.specs.ExitStatus.{exit_status, has_fault, has_warning, joined_status};
 
-use std::alloc::AllocError;
+use std::alloc::{AllocError, Global};
 use std::fmt;
 
 /// The severity of a finding.
@@ -26,8 +26,8 @@ pub enum Location {
     Character { line: u64, column: u64 },
     /// A point of the site file, counted from 0, and its identity if it has one.
     Point { index: usize, id: Option<String> },
-    /// A line of the script, counted from 1.
-    Line(u64),
+    /// A line of the script, counted from 1, and the identity of its point if it has one.
+    Line { number: u64, point: Option<String> },
     /// The state of the point of this identity when the script ends.
     End(String),
 }
@@ -39,6 +39,16 @@ pub struct Finding {
     pub place: Location,
     /// The problem, in one line, with the value wanted where there is one.
     pub message: String,
+}
+
+impl Location {
+    /// Returns the place of a line, whose point isn't known yet.
+    pub fn line(number: u64) -> Location {
+        Location::Line {
+            number,
+            point: None,
+        }
+    }
 }
 
 impl Finding {
@@ -92,7 +102,13 @@ impl fmt::Display for Location {
                     None => Ok(()),
                 }
             }
-            Location::Line(number) => write!(f, "line {number}"),
+            Location::Line { number, point } => {
+                write!(f, "line {number}")?;
+                match point {
+                    Some(point) => write!(f, " ({point})"),
+                    None => Ok(()),
+                }
+            }
             Location::End(point) => write!(f, "{point}, at the end"),
         }
     }
@@ -110,6 +126,18 @@ impl fmt::Display for Finding {
     }
 }
 
+/// Names the point of this identity in those findings in a line that name none.
+pub fn name_point(alloc: Global, findings: &mut [Finding], point: &str) -> Result<(), AllocError> {
+    for finding in findings {
+        if let Location::Line { point: named, .. } = &mut finding.place {
+            if named.is_none() {
+                *named = Some(String::from_str(alloc, point)?);
+            }
+        }
+    }
+    Ok(())
+}
+
 /// Sorts the findings of several passes over a script by line. Those of one line keep their order.
 /// Findings without a line come first, and those in the points at the end come last.
 pub fn sort_by_line(findings: &mut Vec<Finding>) -> Result<(), AllocError> {
@@ -120,7 +148,7 @@ pub fn sort_by_line(findings: &mut Vec<Finding>) -> Result<(), AllocError> {
 /// all lines, to sort findings by it.
 fn line_of(place: &Location) -> u64 {
     match place {
-        Location::Line(number) => *number,
+        Location::Line { number, .. } => *number,
         Location::File | Location::Character { .. } | Location::Point { .. } => 0,
         Location::End(_) => u64::MAX,
     }
@@ -137,6 +165,17 @@ pub fn exit_status(findings: &[Finding]) -> u8
         2
     } else {
         0
+    }
+}
+
+/// Returns the exit status of two checks together, given that of each.
+pub fn joined_status(first: u8, second: u8) -> u8
+    ensures { result ≡ joined_status first second }
+{
+    if first == 1 || second == 1 {
+        1
+    } else {
+        first.max(second)
     }
 }
 

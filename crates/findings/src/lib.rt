@@ -19,7 +19,9 @@ mod text_place;
 mod words;
 
 pub use broken_json::{break_of, first_break};
-pub use finding::{Finding, Location, Severity, exit_status, has_fault, sort_by_line};
+pub use finding::{
+    Finding, Location, Severity, exit_status, has_fault, joined_status, name_point, sort_by_line,
+};
 pub use found::{ExpectedField, Glance, LIMIT, field_message, glance_at};
 pub use json_fault::{JsonFault, json_fault_text};
 pub use json_outline::{Label, Outline, Part, outline_of};

@@ -25,6 +25,10 @@ max_call_timeout = 3600
 abbrev pub default_call_timeout : ℕ
 default_call_timeout = 60
 
+-- how long the replies of points may be awaited, in seconds
+abbrev pub max_wait : ℕ
+max_wait = 86400
+
 -- the highest number of a line to undo
 abbrev pub max_line : ℕ
 max_line = 2147483647

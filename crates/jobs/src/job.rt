@@ -121,6 +121,8 @@ pub struct Calling<'a> {
     pub status: bool,
     /// The number of the journal's line to undo.
     pub undo: Option<u64>,
+    /// For how many seconds the points' replies are awaited.
+    pub wait: Option<u64>,
     /// Whether faulty calls are sent, too.
     pub force: bool,
     /// Whether nothing is sent, and the calls are only printed.

@@ -13,6 +13,6 @@ pub use job::{
     Showing, Source, Starting,
 };
 pub use limits::{
-    MAX_CALL_TIMEOUT, MAX_CONNECTORS, MAX_LINE, MAX_SEATS, MAX_SESSIONS, MAX_WORKERS,
+    MAX_CALL_TIMEOUT, MAX_CONNECTORS, MAX_LINE, MAX_SEATS, MAX_SESSIONS, MAX_WAIT, MAX_WORKERS,
 };
 pub use start::Start;

@@ -17,3 +17,6 @@ pub const MAX_LINE: u64 = 2_147_483_647;
 
 /// The longest time for which a call waits for its reply, in seconds.
 pub const MAX_CALL_TIMEOUT: u64 = 3_600;
+
+/// The longest time for which `call` waits for replies of points, in seconds.
+pub const MAX_WAIT: u64 = 86_400;

@@ -6,7 +6,7 @@ use crate::named_file::report_error;
 use ghost_list::ListName;
 use journal::{Line, Noted, push_line, split_line};
 use messages::Side;
-use ocpp_scalars::{Instant, read_instant};
+use ocpp_scalars::{Instant, Refusal, read_instant};
 use site_core::PointId;
 use std::alloc::{AllocGlobal, Global};
 use std::fs::{self, File};
@@ -90,8 +90,10 @@ fn note_boot<C: Ledger, A: Ledger, N: ListName>(
     added: &mut String,
 ) -> Result<(), FolderFault> {
     let id = PointId::copied(alloc, point)?;
-    let Ok(number) = book.boot(id, moment) else {
-        return Ok(());
+    let number = match book.boot(id, moment) {
+        Ok(number) => number,
+        Err(Refusal::UnknownPoint) => return Ok(()),
+        Err(_) => return Err(FolderFault::OutOfMemory),
     };
     let noted = Noted::Message {
         sender: Side::Point,

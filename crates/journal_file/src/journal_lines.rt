@@ -90,6 +90,11 @@ impl JournalLines {
         Ok(Some(JournalPart { first, bytes }))
     }
 
+    /// Lets the next call read on at the end of the file, where a running site goes on writing.
+    pub fn look_again(&mut self) {
+        self.is_at_end = false;
+    }
+
     /// Returns the digest of the site file that applies after the lines handed out. None if the
     /// file has no whole line.
     pub fn site(&self) -> Option<[u8; 32]> {

@@ -1,18 +1,18 @@
-//! The state to which the lines of a journal lead, for the commands that show it.
+//! Follows a journal: its lines lead to a state, and a reader reads their events.
 
 ghost use Rattle.std.specs.Prelude.{◌≡◌};
 
-use crate::added_calls::AddedCalls;
+use crate::event_reader::EventReader;
 use journal::{Line, Noted, Unrestored, read_bytes, restore, split_line};
 use journal_file::{
     FolderFault, JournalLines, JournalPart, NamedFile, ScriptEnd, ScriptLines, open_to_read,
     say_other_site, say_torn, unread,
 };
+use messages::Call;
 use ocpp_scalars::{Instant, push_instant};
-use ocppj_frame::ReadingMemory;
 use replay::Progress;
-use show_pages::{PointCalls, Standing};
 use site_core::Machine;
+use site_history::{Event, EventKind};
 use site_rules::Site;
 use std::alloc::{AllocError, AllocGlobal, Global};
 use std::fs::File;
@@ -24,94 +24,50 @@ use version_store::{Book, Pass};
 /// The journal to follow, and how far.
 #[derive(Drop)]
 pub struct FollowRequest<'a> {
-    /// The site of the journal, and the SHA-256 of its file.
+    /// The site of the journal.
     pub site: Site,
-    pub digest: [u8; 32],
     /// The folder of the journal.
     pub folder: &'a str,
     pub end: ScriptEnd,
-    /// The point whose changes are counted, and the moment after which they are, if there is one.
-    pub point: &'a str,
-    pub counted_from: Option<Instant>,
-    /// Whether no notes on the journal itself are printed.
-    pub is_quiet: bool,
+    /// The SHA-256 of the site's file, if notes on the journal itself are wanted.
+    pub noted_with: Option<[u8; 32]>,
 }
 
-/// The state to which the lines of a journal lead, and the calls to each point.
+/// The state to which the lines of a journal lead.
 #[derive(Drop)]
 pub struct FollowedJournal {
-    machine: Machine,
-    /// The calls to each point, at its index in the site file.
-    calls: Vec<PointCalls>,
+    pub machine: Machine,
     /// The number of followed lines of the journal's script.
-    lines: u64,
-    /// The number of counted changes.
-    changes: u64,
-    /// When the first waiting call was added, to the point whose changes were counted.
-    since: Option<Instant>,
+    pub lines: u64,
     /// Whether no line is torn, and the journal reaches the requested end.
-    is_as_wanted: bool,
+    pub is_as_wanted: bool,
 }
 
-impl FollowedJournal {
-    /// Returns the state to which the lines lead.
-    pub fn machine(&self) -> &Machine {
-        &self.machine
-    }
-
-    /// Returns the state and the calls in the form that is shown.
-    pub fn standing(&self) -> Standing<'_> {
-        Standing {
-            machine: &self.machine,
-            points: self.calls.as_slice(),
-            held: &[],
-            lines: self.lines,
-            faults: 0,
-        }
-    }
-
-    /// Returns how many changes were counted.
-    pub fn changes(&self) -> u64 {
-        self.changes
-    }
-
-    /// Returns how many calls the point of this identity hasn't confirmed.
-    pub fn unconfirmed_of(&self, point: &str) -> usize {
-        match self.machine.outbox_of(point) {
-            Some(outbox) => outbox.len(),
-            None => 0,
-        }
-    }
-
-    /// Returns when the first of these was added, at the point whose changes were counted. None for
-    /// call 0, which waits from the beginning.
-    pub fn waiting_since(&self) -> Option<Instant> {
-        self.since
-    }
-
-    /// Returns whether no line is torn, and the journal reaches the requested end.
-    pub fn is_as_wanted(&self) -> bool {
-        self.is_as_wanted
-    }
-}
-
-/// Follows the journal of a folder on a site. Counts lines as in its script. Prints to standard
-/// error how many lines it has, the moment of the last one, and the progress if reading takes long.
-pub fn follow_journal<R: Files<File = File> + Eprint + Clock + AllocGlobal>(
+/// Follows the journal of a folder on a site, and lets a reader read its events. Counts lines as in
+/// its script. Prints the progress to standard error if reading takes long, and the notes if they are
+/// wanted: how many lines there are, and the moment of the last one.
+pub fn follow_journal<R: Files<File = File> + Eprint + Clock + AllocGlobal, E: EventReader>(
     rt: &R,
     following: FollowRequest<'_>,
+    reader: &mut E,
 ) -> Result<FollowedJournal, FolderFault> {
     // `restore` works on a book, which counts changes and answers in two ledgers.
     let blanks = (Blank::new(1), Blank::new(1));
-    follow_counted::<Brand, Brand, R>(rt, following, blanks)
+    follow_counted::<Brand, Brand, R, E>(rt, following, blanks, reader)
 }
 
-/// Follows a site's journal up to the requested end, for `explain`, `show` and `call`. These two
-/// ledgers count its changes and answers.
-fn follow_counted<C: Ledger, A: Ledger, R: Files<File = File> + Eprint + Clock + AllocGlobal>(
+/// Follows a site's journal up to the requested end, for a command that reads it. These two ledgers
+/// count its changes and answers.
+fn follow_counted<
+    C: Ledger,
+    A: Ledger,
+    R: Files<File = File> + Eprint + Clock + AllocGlobal,
+    E: EventReader,
+>(
     rt: &R,
     following: FollowRequest<'_>,
     blanks: (Blank, Blank),
+    reader: &mut E,
 ) -> Result<FollowedJournal, FolderFault>
     requires changes { (blanks.0.name ≡ C.name) × (blanks.0.parts ≡ C.parts)
         × (blanks.0.parts ≡ 1) }
@@ -120,45 +76,47 @@ fn follow_counted<C: Ledger, A: Ledger, R: Files<File = File> + Eprint + Clock +
 {
     let FollowRequest {
         site,
-        digest,
         folder,
         end,
-        point,
-        counted_from,
-        is_quiet,
+        noted_with,
     } = following;
-    let wanted = FollowOptions {
-        end,
-        point,
-        counted_from,
-    };
     let mut file = open_to_read(rt, folder)?;
-    let mut follower: Follower<C, A> = Follower::begin(rt.alloc(), site, blanks)?;
+    let mut follower: Follower<C, A> = Follower::begin(rt.alloc(), site, end, blanks)?;
     let mut journal = JournalLines::new(rt.alloc());
-    follow_parts(rt, &mut file, &mut journal, &mut follower, &wanted)?;
+    follow_parts(rt, &mut file, &mut journal, &mut follower, reader)?;
     let mut has_end = true;
-    if !is_quiet {
+    if let Some(digest) = noted_with {
         let _ = say_other_site(rt, &file, &journal, &digest);
-        has_end = say_followed(rt, &file, &journal, &follower, &wanted)?;
+        has_end = say_followed(rt, &file, &journal, &follower)?;
     }
-    follower.into_followed(point, has_end && journal.torn() == 0)
+    follower.into_followed(has_end && journal.torn() == 0)
 }
 
 /// Follows all parts of a journal, to the state of the site at the requested end. If that takes
 /// long, prints to standard error how many lines are read.
-fn follow_parts<C: Ledger, A: Ledger, R: Eprint + Clock + AllocGlobal>(
+fn follow_parts<C: Ledger, A: Ledger, R: Eprint + Clock + AllocGlobal, E: EventReader>(
     rt: &R,
     file: &mut NamedFile,
     journal: &mut JournalLines,
     follower: &mut Follower<C, A>,
-    wanted: &FollowOptions<'_>,
+    reader: &mut E,
 ) -> Result<(), FolderFault> {
     let mut progress = Progress::of_lines(rt);
     for _part in 0..u64::MAX {
-        progress.say_lines(rt, follower.script.count());
-        match journal.next(rt, file)? {
-            Some(lines) => follower.follow_lines(lines, wanted)?,
-            None => break,
+        let has_more = match journal.next(rt, file)? {
+            Some(lines) => {
+                follower.follow_lines(lines, reader)?;
+                true
+            }
+            None => false,
+        };
+        if has_more {
+            reader.end_part()?;
+            progress.say_lines(rt, follower.script.count());
+        } else if reader.waits(follower.book.present()) {
+            journal.look_again();
+        } else {
+            break;
         }
     }
     Ok(())
@@ -171,43 +129,29 @@ fn say_followed<C: Ledger, A: Ledger, R: Eprint + AllocGlobal>(
     file: &NamedFile,
     journal: &JournalLines,
     follower: &Follower<C, A>,
-    wanted: &FollowOptions<'_>,
 ) -> Result<bool, FolderFault> {
     say_torn(rt, file, journal);
     let lines = follower.script.count();
     say_read(rt, lines, follower.last)?;
-    let has_end = say_end(rt, wanted, lines, follower.first)?;
+    let has_end = say_end(rt, follower.end, lines, follower.first)?;
     Ok(has_end)
 }
 
-/// The end of a journal to follow, and the changes to count.
-#[derive(Clone, Copy)]
-struct FollowOptions<'a> {
-    end: ScriptEnd,
-    point: &'a str,
-    counted_from: Option<Instant>,
-}
-
-/// A follower of a journal: the book to which its lines lead, and the calls.
+/// A follower of a journal: the book to which its lines lead.
 #[derive(Drop)]
 struct Follower<C: Ledger, A: Ledger> {
     alloc: Global,
-    memory: ReadingMemory,
     book: Book<C, A>,
     pass: Pass<C, A>,
-    /// The calls to each point, at its index in the site file.
-    calls: Vec<PointCalls>,
     /// The script's lines read so far, and how many of them were followed.
     script: ScriptLines,
     followed: u64,
-    /// Whether the remaining lines are only read.
+    /// The requested end, and whether the remaining lines are only read.
+    end: ScriptEnd,
     is_ended: bool,
     /// The moments of the first and the last line read.
     first: Option<Instant>,
     last: Option<Instant>,
-    changes: u64,
-    /// The waiting calls to the point whose changes are counted.
-    added: AddedCalls,
 }
 
 impl<C: Ledger, A: Ledger> Follower<C, A> {
@@ -215,6 +159,7 @@ impl<C: Ledger, A: Ledger> Follower<C, A> {
     fn begin(
         alloc: Global,
         site: Site,
+        end: ScriptEnd,
         blanks: (Blank, Blank),
     ) -> Result<Follower<C, A>, FolderFault>
         requires changes { (blanks.0.name ≡ C.name) × (blanks.0.parts ≡ C.parts)
@@ -222,10 +167,6 @@ impl<C: Ledger, A: Ledger> Follower<C, A> {
         requires answers { (blanks.1.name ≡ A.name) × (blanks.1.parts ≡ A.parts)
             × (blanks.1.parts ≡ 1) }
     {
-        let mut calls = Vec::with_capacity(alloc, site.len())?;
-        for _place in 0..site.len() {
-            calls.push(PointCalls::new(alloc)?)?;
-        }
         let (changes, answers) = blanks;
         let (book, mut passes) = Book::make(alloc, changes, answers, site, 1)?;
         // `make` returns one pass, as requested.
@@ -234,54 +175,32 @@ impl<C: Ledger, A: Ledger> Follower<C, A> {
         };
         Ok(Follower {
             alloc,
-            memory: ReadingMemory::new(alloc),
             book,
             pass,
-            calls,
             script: ScriptLines::new(alloc),
             followed: 0,
+            end,
             is_ended: false,
             first: None,
             last: None,
-            changes: 0,
-            added: AddedCalls::new(alloc),
         })
     }
 
-    /// Returns the site's state after the followed lines of a journal, with the moment since which
-    /// the first waiting call to this point waits.
-    fn into_followed(
-        self,
-        point: &str,
-        is_as_wanted: bool,
-    ) -> Result<FollowedJournal, FolderFault> {
-        let machine = self.book.present().copy()?;
-        let since = match machine.outbox_of(point) {
-            Some(outbox) => self.added.first_since(outbox.first_number()),
-            None => None,
-        };
-        let Follower {
-            calls,
-            followed,
-            changes,
-            ..
-        } = self;
+    /// Returns the site's state after the followed lines of a journal.
+    fn into_followed(self, is_as_wanted: bool) -> Result<FollowedJournal, FolderFault> {
         Ok(FollowedJournal {
-            machine,
-            calls,
-            lines: followed,
-            changes,
-            since,
+            machine: self.book.present().copy()?,
+            lines: self.followed,
             is_as_wanted,
         })
     }
 
-    /// Reads these lines of a journal, and restores the site's state from those up to the requested
-    /// end.
-    fn follow_lines(
+    /// Reads these lines of a journal, restores the site's state from those up to the requested
+    /// end, and lets a reader read their events.
+    fn follow_lines<E: EventReader>(
         &mut self,
         lines: JournalPart<'_>,
-        wanted: &FollowOptions<'_>,
+        reader: &mut E,
     ) -> Result<(), FolderFault> {
         let (mut rest, mut number) = (lines.bytes, lines.first);
         for _line in 0..lines.bytes.len() {
@@ -291,7 +210,7 @@ impl<C: Ledger, A: Ledger> Follower<C, A> {
             let length = rest.len().saturating_sub(others.len());
             match read_bytes(bytes) {
                 Ok(line) => {
-                    self.follow_line(&line, rest.split_at(length).0, number, wanted)?;
+                    self.follow_line(&line, rest.split_at(length).0, number, reader)?;
                 }
                 Err(fault) => return Err(unread(number, fault)),
             }
@@ -301,14 +220,14 @@ impl<C: Ledger, A: Ledger> Follower<C, A> {
         Ok(())
     }
 
-    /// Restores the effect of the line of this number in the journal's file, unless it is after the
-    /// requested end. The text is the line with its line feed.
-    fn follow_line(
+    /// Restores the effect of the line of this number in the journal's file, and lets a reader read
+    /// its event, unless it is after the requested end. The text is the line with its line feed.
+    fn follow_line<E: EventReader>(
         &mut self,
         line: &Line<'_>,
         text: &[u8],
         number: u64,
-        wanted: &FollowOptions<'_>,
+        reader: &mut E,
     ) -> Result<(), FolderFault> {
         // Lines after the end are still read: the notes name the whole journal's lines and last
         // moment.
@@ -317,11 +236,11 @@ impl<C: Ledger, A: Ledger> Follower<C, A> {
         self.script.take_in(line)?;
         let said = self.script.count();
         // The end is final: a clock set back can give a later line an earlier moment.
-        self.is_ended = self.is_ended || wanted.end.is_before(said, line.moment);
+        self.is_ended = self.is_ended || self.end.is_before(said, line.moment);
         if self.is_ended {
             return Ok(());
         }
-        let version = self.book.version();
+        reader.before(self.book.present(), said, line.point)?;
         if let Err(unrestored) = restore(self.alloc, &mut self.book, &mut self.pass, text) {
             // `restore` gets one line at a time, so its own count says nothing.
             return Err(FolderFault::Unrestored(Unrestored {
@@ -330,49 +249,51 @@ impl<C: Ledger, A: Ledger> Follower<C, A> {
             }));
         }
         self.followed = said;
-        // An audit, a remote start and a boot change no limit.
-        if is_counted(line, wanted) && self.book.version() > version {
-            self.changes = self.changes.saturating_add(1);
-        }
-        self.note_added_calls(line, wanted)?;
-        self.follow_calls(line, said)?;
-        Ok(())
+        self.let_read(line, reader)
     }
 
-    /// Records the moments at which calls to the followed point were added, if a line of the
-    /// journal is of that point.
-    fn note_added_calls(
-        &mut self,
-        line: &Line<'_>,
-        wanted: &FollowOptions<'_>,
-    ) -> Result<(), AllocError> {
-        match self.book.present().outbox_of(line.point) {
-            Some(outbox) if line.point == wanted.point => self.added.follow(outbox, line.moment),
-            _ => Ok(()),
-        }
-    }
-
-    /// Takes in the effect of a journal's line on the calls to its point. The number is that of its
-    /// line in the script of the journal's messages.
-    fn follow_calls(&mut self, line: &Line<'_>, number: u64) -> Result<(), AllocError> {
-        let machine = self.book.present();
-        let (Some(place), Some(outbox)) = (
-            machine.site().place_of(line.point),
-            machine.outbox_of(line.point),
-        ) else {
-            return Ok(());
-        };
-        let Some(calls) = self.calls.get_mut(place) else {
-            return Ok(());
-        };
-        match line.noted {
-            Noted::Message { .. } => calls.added(outbox.next_number(), number),
-            Noted::Sent { .. } => calls.sent_first(self.alloc, outbox, number),
-            Noted::Reply { frame, .. } => {
-                calls.confirmed(self.alloc, &mut self.memory, number, frame)
+    /// Lets a reader read the event of the journal's line that was restored last, if it has one.
+    fn let_read<E: EventReader>(&self, line: &Line<'_>, reader: &mut E) -> Result<(), FolderFault> {
+        let kind = match line.noted {
+            Noted::Message { sender, frame, .. } => EventKind::Message { sender, frame },
+            Noted::Reply { frame, .. } => EventKind::Reply { frame },
+            Noted::Verdict { .. } => EventKind::Verdict,
+            Noted::Sent { .. } => {
+                return match self.call_in_flight(line.point)? {
+                    Some(call) => self.let_read_one(line, EventKind::Sent { call: &call }, reader),
+                    None => Ok(()),
+                };
             }
-            Noted::Verdict { .. } | Noted::Attached { .. } | Noted::Lost { .. } => Ok(()),
-        }
+            Noted::Attached { .. } | Noted::Lost { .. } => return Ok(()),
+        };
+        self.let_read_one(line, kind, reader)
+    }
+
+    /// Lets a reader read the event of this kind by a line of the journal.
+    fn let_read_one<E: EventReader>(
+        &self,
+        line: &Line<'_>,
+        kind: EventKind<'_>,
+        reader: &mut E,
+    ) -> Result<(), FolderFault> {
+        let event = Event {
+            line: self.followed,
+            moment: line.moment,
+            point: line.point,
+            kind,
+        };
+        reader.read(self.book.present(), &event)
+    }
+
+    /// Returns the call to a point that went out by a line of the journal: the first one that it
+    /// hasn't confirmed.
+    fn call_in_flight(&self, point: &str) -> Result<Option<Call>, AllocError> {
+        let Some(outbox) = self.book.present().outbox_of(point) else {
+            return Ok(None);
+        };
+        let number = outbox.first_number();
+        let first = outbox.bodies(self.alloc)?.into_iter().next();
+        Ok(first.map(|body| Call { number, body }))
     }
 }
 
@@ -396,11 +317,11 @@ fn say_read<R: Eprint + AllocGlobal>(
 /// Returns whether it does.
 fn say_end<R: Eprint + AllocGlobal>(
     rt: &R,
-    wanted: &FollowOptions<'_>,
+    end: ScriptEnd,
     lines: u64,
     first: Option<Instant>,
 ) -> Result<bool, AllocError> {
-    match wanted.end {
+    match end {
         ScriptEnd::Whole => Ok(true),
         ScriptEnd::Lines(count) => {
             if count <= lines {
@@ -430,13 +351,4 @@ fn say_begun<R: Eprint + AllocGlobal>(
     push_instant(&mut begin, first)?;
     let _ = eprintln!(rt; "central: the journal begins at {begin}, after --at");
     Ok(false)
-}
-
-/// Returns whether `explain` counts the change of a line of a journal: it is a message about the
-/// followed point after the requested moment.
-fn is_counted(line: &Line<'_>, wanted: &FollowOptions<'_>) -> bool {
-    match (&line.noted, wanted.counted_from) {
-        (Noted::Message { .. }, Some(moment)) => line.point == wanted.point && line.moment > moment,
-        _ => false,
-    }
 }

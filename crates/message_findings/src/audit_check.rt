@@ -2,7 +2,7 @@
 
 use crate::report::Report;
 use messages::AuditOutcome;
-use replay::{PlayedLine, Playing, PointChange};
+use site_core::Machine;
 
 /// The audit whose call a line's reply confirmed, and the verdict on that reply.
 #[derive(Clone, Copy)]
@@ -15,18 +15,11 @@ pub(crate) struct JudgedAudit {
     pub outcome: AuditOutcome,
 }
 
-/// Returns the last audit of a point (its GetCompositeSchedule to compare) for `check`, if the
-/// script's line played last confirmed a call to the point.
+/// Returns the last audit of a point (its GetCompositeSchedule to compare) for `check`, after a
+/// reply of the point confirmed a call.
 // That may be another call than the audit's, so its number is compared with the reply's id later.
-pub(crate) fn judged_audit(
-    playing: &Playing<'_>,
-    played: &PlayedLine<'_>,
-    point: &str,
-) -> Option<JudgedAudit> {
-    if played.outcome.change != PointChange::Confirmed {
-        return None;
-    }
-    let audit = playing.machine().audit_of(point)?;
+pub(crate) fn judged_audit(machine: &Machine, point: &str) -> Option<JudgedAudit> {
+    let audit = machine.audit_of(point)?;
     Some(JudgedAudit {
         call: audit.number(),
         connector: audit.asked().connector(),

@@ -23,6 +23,6 @@ mod zone_check;
 
 pub use printed_check::check_printed;
 pub use refused_answer::answer_sentence;
-pub use script_check::ScriptCheck;
+pub use script_check::{ScriptCheck, check_held};
 pub use sent_check::{SentCheck, check_sent, json_break};
 pub use sentences::{call_sentence, line_sentence, never_sentence, sentence};

@@ -4,6 +4,7 @@ use crate::audit_check::JudgedAudit;
 use messages::{ActionKind, CallFault, Response, Side};
 use ocpp_scalars::{Instant, Refusal};
 use replay::{PlayedLine, PointChange, PrintedLine};
+use site_history::Event;
 use site_rules::Site;
 use texts::SentText;
 
@@ -19,6 +20,14 @@ pub(crate) enum Sender {
 }
 
 impl Sender {
+    /// Returns, for `check`, who sends a message of this side without a `hold`.
+    pub(crate) fn of_side(side: Side) -> Sender {
+        match side {
+            Side::Operator => Sender::Operator,
+            Side::Point => Sender::Point,
+        }
+    }
+
     /// Returns, for `check`, the side that sends the message in a line of a script: an operator,
     /// also in a `hold` line, or a point.
     pub(crate) fn side(self) -> Side {
@@ -70,19 +79,37 @@ impl<'a> LineMessage<'a> {
         played: &'a PlayedLine<'_>,
         sent: &'a SentText<'_>,
     ) -> LineMessage<'a> {
-        let sender = match sent.sender() {
-            Side::Operator => Sender::Operator,
-            Side::Point => Sender::Point,
-        };
         LineMessage {
             site,
             moment: sent.moment(),
-            sender,
+            sender: Sender::of_side(sent.sender()),
             point: sent.point(),
             frame: sent.frame(),
             line: utf8_of(played.line).0,
             printed: played.outcome.printed.as_slice(),
             confirms_call: played.outcome.change == PointChange::Confirmed,
+            audit: None,
+            replies_to: None,
+        }
+    }
+
+    /// Makes the message of an event in a journal, for `check`. It changed something, so it isn't
+    /// refused.
+    pub(crate) fn noted(
+        site: &'a Site,
+        event: &Event<'a>,
+        sender: Sender,
+        frame: &'a str,
+    ) -> LineMessage<'a> {
+        LineMessage {
+            site,
+            moment: event.moment,
+            sender,
+            point: event.point,
+            frame,
+            line: frame,
+            printed: &[],
+            confirms_call: false,
             audit: None,
             replies_to: None,
         }

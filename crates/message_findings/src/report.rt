@@ -4,6 +4,7 @@ use findings::{Finding, Location, Severity};
 use messages::purpose_name;
 use profile::Purpose;
 use std::alloc::{AllocError, Global};
+use std::mem;
 
 /// The maximum number of identities to compare with all those of the site.
 // A long script may name an unknown point in each line, and a site may have 1,000 points.
@@ -38,17 +39,14 @@ impl Report {
     }
 
     /// Returns all findings in a script or an operator's message, unless an allocation failed.
-    pub(crate) fn into_findings(self) -> Result<Vec<Finding>, AllocError> {
-        let Report {
-            findings,
-            is_short,
-            ..
-        } = self;
-        if is_short {
-            Err(AllocError)
-        } else {
-            Ok(findings)
-        }
+    pub(crate) fn into_findings(mut self) -> Result<Vec<Finding>, AllocError> {
+        self.take_findings()
+    }
+
+    /// Takes the findings in a script so far, unless an allocation failed.
+    pub(crate) fn take_findings(&mut self) -> Result<Vec<Finding>, AllocError> {
+        self.outcome()?;
+        Ok(mem::replace(&mut self.findings, Vec::new(self.alloc)))
     }
 
     /// Returns the error if an allocation for the findings in a script failed so far.
@@ -83,12 +81,12 @@ impl Report {
 
     /// Adds a fault to the findings in a script or an operator's message, on the current line.
     pub(crate) fn fault(&mut self, message: Result<String, AllocError>) {
-        self.add(Severity::Fault, self.line, message);
+        self.add(Severity::Fault, message);
     }
 
     /// Adds a warning to the findings in a script or an operator's message, on the current line.
     pub(crate) fn warn(&mut self, message: Result<String, AllocError>) {
-        self.add(Severity::Warning, self.line, message);
+        self.add(Severity::Warning, message);
     }
 
     /// Adds a warning of a charging profile to the findings in a script or an operator's message.
@@ -112,14 +110,9 @@ impl Report {
         self.warn(format!(in self.alloc; "{purpose} {id}: {message}"));
     }
 
-    /// Adds a remark to the findings in a script, on the line of this number.
-    pub(crate) fn remark_at(&mut self, line: u64, message: Result<String, AllocError>) {
-        self.add(Severity::Remark, line, message);
-    }
-
     /// Adds a remark to the findings in a script, on the current line.
     pub(crate) fn remark(&mut self, message: Result<String, AllocError>) {
-        self.remark_at(self.line, message);
+        self.add(Severity::Remark, message);
     }
 
     /// Adds a warning to the findings in a script, on the current line, with a copy of this
@@ -128,15 +121,15 @@ impl Report {
         self.warn(String::from_str(self.alloc, message));
     }
 
-    /// Adds a finding in a script or an operator's message, on the line of this number. A failed
+    /// Adds a finding in a script or an operator's message, on the current line. A failed
     /// allocation of its message counts as one of the report.
-    fn add(&mut self, severity: Severity, line: u64, message: Result<String, AllocError>) {
+    fn add(&mut self, severity: Severity, message: Result<String, AllocError>) {
         let Ok(message) = message else {
             return self.fail();
         };
         let finding = Finding {
             severity,
-            place: Location::Line(line),
+            place: Location::line(self.line),
             message,
         };
         if self.findings.push(finding).is_err() {

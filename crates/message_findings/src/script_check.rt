@@ -1,36 +1,29 @@
-//! Checks a script, message by message.
+//! Checks the messages of a script or a journal, one by one.
 
-use crate::audit_check::judged_audit;
+use crate::audit_check::{check_verdict, judged_audit};
 use crate::line_hints::mistake_message;
-use crate::line_text::LineMessage;
+use crate::line_text::{LineMessage, Sender};
 use crate::remote_start_check::check_ended_start;
 use crate::report::Report;
 use crate::sentences::line_sentence;
-use crate::starts::PendingRemoteStarts;
+use crate::starts::{PendingRemoteStarts, StartsChange};
 use crate::text_check::check_text;
-use findings::Finding;
+use findings::{Finding, Location};
 use ocppj_frame::ReadingMemory;
-use replay::{Held, PlayedLine, Playing, PrintedLine, ScriptLine, ScriptLineFault};
+use replay::{Held, PlayedLine, ScriptLine, ScriptLineFault};
+use site_core::Machine;
+use site_history::{Event, EventKind, HeldLine, HeldLines, call_after, change_in};
 use std::alloc::{AllocError, Global};
 use texts::SentText;
 
-/// A check of a script, line by line as it is played. It finds faults of lines, refused messages,
+/// A check of the messages of a script or a journal. It finds faults of lines, refused messages,
 /// and messages that probably do something unintended. It leaves the refusals that depend on the
 /// point's state (`depends_on_state`) to `check_printed`.
 #[derive(Drop)]
 pub struct ScriptCheck {
     report: Report,
     memory: ReadingMemory,
-    held: Vec<HeldRequest>,
     starts: PendingRemoteStarts,
-}
-
-/// A request that a `hold` line took.
-#[derive(Clone, Copy)]
-struct HeldRequest {
-    request: u64,
-    /// The line's number.
-    line: u64,
 }
 
 impl ScriptCheck {
@@ -39,42 +32,21 @@ impl ScriptCheck {
         ScriptCheck {
             report: Report::new(alloc),
             memory: ReadingMemory::new(alloc),
-            held: Vec::new(alloc),
             starts: PendingRemoteStarts::new(alloc),
         }
     }
 
-    /// Checks the line played last.
-    pub fn take_in(
+    /// Checks the script's line played last, given the state after it. Returns the findings.
+    pub fn check_line(
         &mut self,
-        playing: &Playing<'_>,
+        machine: &Machine,
         played: &PlayedLine<'_>,
-    ) -> Result<(), AllocError> {
+    ) -> Result<Vec<Finding>, AllocError> {
         self.report.go_to(played.number);
-        for line in &played.outcome.printed {
-            if let PrintedLine::Held(request) = line {
-                self.hold(*request, played.number);
-            }
-        }
-        self.check_line(playing, played);
-        self.report.outcome()
-    }
-
-    /// Keeps a request that the `hold` line of this number took, for a remark of `check` if it is
-    /// still held when the script ends.
-    fn hold(&mut self, request: u64, line: u64) {
-        if self.held.push(HeldRequest { request, line }).is_err() {
-            self.report.fail();
-        }
-    }
-
-    /// Checks the script's line played last: its message, the number that it releases, or its
-    /// fault.
-    fn check_line(&mut self, playing: &Playing<'_>, played: &PlayedLine<'_>) {
-        let site = playing.machine().site();
+        let site = machine.site();
         match &played.said {
             None => {}
-            Some(Ok(ScriptLine::Text(sent))) => self.check_sent(playing, played, sent),
+            Some(Ok(ScriptLine::Text(sent))) => self.check_sent(machine, played, sent),
             Some(Ok(ScriptLine::Hold(sent))) => {
                 let text = LineMessage::held(site, played, sent);
                 check_text(&mut self.report, &mut self.memory, &text);
@@ -89,17 +61,65 @@ impl ScriptCheck {
                 self.report.fault(message);
             }
         }
+        self.report.take_findings()
     }
 
     /// Checks the message in a line of a script, and the remote start that ended with it.
-    fn check_sent(&mut self, playing: &Playing<'_>, played: &PlayedLine<'_>, sent: &SentText<'_>) {
-        let Ok(starts) = self.starts.follow(playing, played, sent.point()) else {
-            return self.report.fail();
+    fn check_sent(&mut self, machine: &Machine, played: &PlayedLine<'_>, sent: &SentText<'_>) {
+        let text = LineMessage::new(machine.site(), played, sent);
+        match change_in(played) {
+            Some(event) => self.check_change(machine, &event, text),
+            None => check_text(&mut self.report, &mut self.memory, &text),
+        }
+        if let Some(event) = call_after(played) {
+            let _ = self.change_of_starts(machine, &event);
+        }
+    }
+
+    /// Checks an event of a journal, given the state after it. Returns the findings.
+    pub fn check_event(
+        &mut self,
+        machine: &Machine,
+        event: &Event<'_>,
+    ) -> Result<Vec<Finding>, AllocError> {
+        self.report.go_to(event.line);
+        let site = machine.site();
+        match event.kind {
+            EventKind::Message { sender, frame } => {
+                let text = LineMessage::noted(site, event, Sender::of_side(sender), frame);
+                self.check_change(machine, event, text);
+            }
+            EventKind::Reply { frame } => {
+                let text = LineMessage {
+                    confirms_call: true,
+                    ..LineMessage::noted(site, event, Sender::Point, frame)
+                };
+                self.check_change(machine, event, text);
+            }
+            EventKind::Verdict => {
+                if let Some(audit) = judged_audit(machine, event.point) {
+                    check_verdict(&mut self.report, &audit);
+                }
+            }
+            EventKind::Sent { .. } => {
+                let _ = self.change_of_starts(machine, event);
+            }
+        }
+        self.report.take_findings()
+    }
+
+    /// Checks, for `check`, the message of an event that changed something, and the remote start
+    /// that ended with it.
+    fn check_change(&mut self, machine: &Machine, event: &Event<'_>, text: LineMessage<'_>) {
+        let starts = self.change_of_starts(machine, event);
+        let audit = match event.kind {
+            EventKind::Reply { .. } => judged_audit(machine, event.point),
+            _ => None,
         };
         let text = LineMessage {
-            audit: judged_audit(playing, played, sent.point()),
+            audit,
             replies_to: starts.replies_to,
-            ..LineMessage::new(playing.machine().site(), played, sent)
+            ..text
         };
         check_text(&mut self.report, &mut self.memory, &text);
         if let Some(ended) = &starts.ended {
@@ -107,26 +127,46 @@ impl ScriptCheck {
         }
     }
 
-    /// Returns the findings, with a remark for each request still held when the script ends.
-    pub fn finish(mut self, held: &[Held]) -> Result<Vec<Finding>, AllocError> {
-        for held in held {
-            self.remark_held(held.number);
-        }
-        self.report.into_findings()
-    }
-
-    /// Adds a remark on the `hold` line that took the request of this number, which is still held
-    /// when the script ends.
-    fn remark_held(&mut self, number: u64) {
-        for line in &self.held {
-            if line.request == number {
-                let message = format!(in self.report.alloc;
-                    "request {number} is still held when the script ends, and isn't answered"
-                );
-                self.report.remark_at(line.line, message);
+    /// Follows, for `check`, the effect of an event on the remote starts of its point. Without
+    /// memory for it the report fails.
+    fn change_of_starts(&mut self, machine: &Machine, event: &Event<'_>) -> StartsChange {
+        match self.starts.follow(machine, event) {
+            Ok(change) => change,
+            Err(AllocError) => {
+                self.report.fail();
+                StartsChange::none()
             }
         }
     }
+}
+
+/// Returns a remark on the line of each request that is still held when the script ends.
+pub fn check_held(
+    alloc: Global,
+    held: &[Held],
+    lines: &HeldLines,
+) -> Result<Vec<Finding>, AllocError> {
+    let mut remarks = Vec::new(alloc);
+    for request in held {
+        if let Some(line) = lines.line_of(request.number) {
+            remarks.push(still_held(alloc, line)?)?;
+        }
+    }
+    Ok(remarks)
+}
+
+/// Makes the remark of `check` on a script's line that took a request which is still held when the
+/// script ends.
+fn still_held(alloc: Global, line: &HeldLine) -> Result<Finding, AllocError> {
+    let number = line.request;
+    let place = Location::Line {
+        number: line.line,
+        point: Some(String::from_str(alloc, line.point.as_str())?),
+    };
+    let message = format!(in alloc;
+        "request {number} is still held when the script ends, and isn't answered"
+    )?;
+    Ok(Finding::remark(place, message))
 }
 
 /// Reports a `release` line of a script with the number of no held request.

@@ -1,17 +1,20 @@
-//! Follows the remote starts that wait at each point, line by line. The machine forgets a start
+//! Follows the remote starts that wait at each point, event by event. The machine forgets a start
 //! when it ends, so this module keeps the fields that its finding needs.
 
 use messages::ActionKind;
 use ocpp_scalars::IdTag;
 use point_book::PointBook;
 use profile::Purpose;
-use replay::{PlayedLine, Playing, PointChange, PrintedLine};
+use site_core::Machine;
+use site_history::{Event, EventKind};
 use std::alloc::{AllocError, Global};
 
 /// A remote start that waits for its transaction.
 #[derive(Drop)]
 struct PendingRemoteStart {
     connector: u32,
+    /// The id of the transaction at its connector.
+    active: Option<i32>,
     /// The number of its call.
     call: u64,
     id_tag: IdTag,
@@ -37,7 +40,7 @@ pub(crate) struct EndedStart {
     pub is_same_tag: bool,
 }
 
-/// The effect of a line on the remote starts of its point.
+/// The effect of an event on the remote starts of its point.
 #[derive(Drop)]
 pub(crate) struct StartsChange {
     /// The action of the call that it confirmed.
@@ -63,22 +66,21 @@ impl PendingRemoteStarts {
         }
     }
 
-    /// Follows, for `check`, the effect of the script's line played last on the remote starts that
-    /// wait at its point.
+    /// Follows, for `check`, the effect of an event on the remote starts that wait at its point,
+    /// given the state after it.
     pub(crate) fn follow(
         &mut self,
-        playing: &Playing<'_>,
-        played: &PlayedLine<'_>,
-        point: &str,
+        machine: &Machine,
+        event: &Event<'_>,
     ) -> Result<StartsChange, AllocError> {
-        let Some(place) = playing.machine().site().place_of(point) else {
+        let Some(place) = machine.site().place_of(event.point) else {
             return Ok(StartsChange::none());
         };
         let alloc = self.alloc;
         let Some(known) = self.known(place)? else {
             return Ok(StartsChange::none());
         };
-        known.follow(alloc, playing, played, point)
+        known.follow(alloc, machine, event)
     }
 
     /// Returns the remote starts that wait at the point at this index of the site, as `check` knows
@@ -95,9 +97,9 @@ impl PendingRemoteStarts {
 }
 
 impl StartsChange {
-    /// Returns, for `check`, the change by a script's line without an effect on the remote starts
-    /// of its point.
-    fn none() -> StartsChange {
+    /// Returns, for `check`, the change by an event without an effect on the remote starts of its
+    /// point.
+    pub(crate) fn none() -> StartsChange {
         StartsChange {
             replies_to: None,
             ended: None,
@@ -106,55 +108,43 @@ impl StartsChange {
 }
 
 impl PointStarts {
-    /// Follows, for `check`, the effect of the script's line played last on the remote starts that
-    /// wait at this point.
+    /// Follows, for `check`, the effect of an event on the remote starts that wait at this point.
     fn follow(
         &mut self,
         alloc: Global,
-        playing: &Playing<'_>,
-        played: &PlayedLine<'_>,
-        point: &str,
+        machine: &Machine,
+        event: &Event<'_>,
     ) -> Result<StartsChange, AllocError> {
         let mut change = StartsChange::none();
-        match played.outcome.change {
-            PointChange::Confirmed => {
+        match event.kind {
+            EventKind::Message { .. } => {
+                change.ended = ended_start(alloc, self, machine, event.point)?;
+                self.waiting = known_starts(alloc, machine, event.point)?;
+            }
+            EventKind::Reply { .. } => {
                 change.replies_to = self.asked;
                 // Without an `Accepted` the start is dropped, so the starts are read again.
                 self.asked = None;
-                self.waiting = known_starts(alloc, playing, point)?;
+                self.waiting = known_starts(alloc, machine, event.point)?;
             }
-            PointChange::Transaction => {
-                change.ended = ended_start(alloc, self, playing, point)?;
-                self.waiting = known_starts(alloc, playing, point)?;
-            }
-            PointChange::RemoteStart => self.waiting = known_starts(alloc, playing, point)?,
-            PointChange::Nothing | PointChange::Profiles | PointChange::Audit => {}
+            EventKind::Sent { call } => self.asked = Some(call.body.kind()),
+            EventKind::Verdict => {}
         }
-        self.follow_calls(played);
         Ok(change)
-    }
-
-    /// Notes, for `check`, the action of the call that a script's line sent to its point.
-    fn follow_calls(&mut self, played: &PlayedLine<'_>) {
-        for line in &played.outcome.printed {
-            if let PrintedLine::Call { call, .. } = line {
-                self.asked = Some(call.body.kind());
-            }
-        }
     }
 }
 
-/// Returns, for `check`, the remote starts that wait at a point after the script's line played
-/// last.
+/// Returns, for `check`, the remote starts that wait at a point in this state.
 fn known_starts(
     alloc: Global,
-    playing: &Playing<'_>,
+    machine: &Machine,
     point: &str,
 ) -> Result<Vec<PendingRemoteStart>, AllocError> {
     let mut starts = Vec::new(alloc);
-    for start in playing.machine().waiting_of(point) {
+    for start in machine.waiting_of(point) {
         starts.push(PendingRemoteStart {
             connector: start.connector,
+            active: active_at(machine, point, start.connector),
             call: start.call,
             id_tag: start.id_tag.copy(alloc)?,
             profile: start.profile.as_ref().map(|profile| profile.id),
@@ -168,10 +158,9 @@ fn known_starts(
 fn ended_start(
     alloc: Global,
     known: &PointStarts,
-    playing: &Playing<'_>,
+    machine: &Machine,
     point: &str,
 ) -> Result<Option<EndedStart>, AllocError> {
-    let machine = playing.machine();
     let waiting = machine.waiting_of(point);
     let gone = known.waiting.iter().find(|start| !waiting
         .iter()
@@ -180,6 +169,8 @@ fn ended_start(
         return Ok(None);
     };
     match (start.profile, book.transaction_at(start.connector)) {
+        // Another remote start at the connector ends it too, and begins no transaction.
+        (_, Some(active)) if start.active == Some(active.id) => Ok(None),
         (Some(profile), Some(active)) if !has_tx_profile(book, start.connector, profile) => {
             Ok(Some(EndedStart {
                 id_tag: start.id_tag.copy(alloc)?,
@@ -189,6 +180,13 @@ fn ended_start(
         }
         _ => Ok(None),
     }
+}
+
+/// Returns the id of the active transaction at a connector of a point, to see for `check` whether
+/// another one begins.
+fn active_at(machine: &Machine, point: &str, connector: u32) -> Option<i32> {
+    let active = machine.book_of(point)?.transaction_at(connector)?;
+    Some(active.id)
 }
 
 /// Returns whether the idTags of a remote start and of the transaction after it are the same, for a

@@ -1,2 +1,1 @@
-pub mod UndoneLine
 pub mod Visits

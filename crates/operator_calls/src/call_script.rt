@@ -1,4 +1,4 @@
-//! The script of a journal, with calls after it.
+//! Calls as the lines of a script.
 
 ghost use Rattle.std.specs.Prelude.{◌≤◌, IfOk, IfSome, vec_len};
 ghost use Rattle.replay.specs.Limits.{max_script_bytes};
@@ -9,27 +9,18 @@ use ocpp_scalars::{Instant, push_instant};
 use replay::{LONGEST_FRAME, MAX_SCRIPT_BYTES};
 use std::alloc::{AllocError, Global};
 
-/// A journal's script, with calls after it.
-#[derive(Drop)]
-pub struct CallScript {
-    pub script: Vec<u8>,
-    /// The number of the journal's lines in it.
-    pub lines: u64,
-}
-
-/// Appends the calls of visits to a journal's script, each as a line at this moment. Returns none
-/// if that is longer than a script may be.
+/// Returns the calls of visits, each as a line at this moment. Returns none if they are longer than
+/// a script may be.
 pub fn script_of_calls(
-    journal: Vec<u8>,
+    alloc: Global,
     moment: Instant,
     calls: &[GivenCall],
     visits: &[Visit],
-) -> Result<Option<CallScript>, AllocError>
-    ensures short { IfOk result (λ made. IfSome made (λ made.
-        vec_len made.script ≤ max_script_bytes)) }
+) -> Result<Option<Vec<u8>>, AllocError>
+    ensures short { IfOk result (λ made. IfSome made (λ script.
+        vec_len script ≤ max_script_bytes)) }
 {
-    let lines = count_lines(journal.as_slice());
-    let mut script = journal;
+    let mut script = Vec::new(alloc);
     for visit in visits {
         push_visit(&mut script, moment, calls, visit)?;
         // Long calls to 1,000 points would take far more memory than the longest script.
@@ -40,11 +31,11 @@ pub fn script_of_calls(
     if script.len() > MAX_SCRIPT_BYTES {
         return Ok(None);
     }
-    Ok(Some(CallScript { script, lines }))
+    Ok(Some(script))
 }
 
-/// Appends an operator's calls to a point to the script of a journal's messages, each as a line at
-/// this moment. So `call` checks them before it sends them.
+/// Appends an operator's calls to a point to a script, each as a line at this moment. So `call`
+/// checks them before it sends them.
 fn push_visit(
     script: &mut Vec<u8>,
     moment: Instant,
@@ -93,16 +84,4 @@ pub fn on_one_line(alloc: Global, text: &str) -> Result<String, AllocError> {
         })?;
     }
     Ok(line)
-}
-
-/// Returns the number of lines in the script of a journal's messages, to which `call` appends its
-/// calls. Each line ends with a line feed.
-fn count_lines(script: &[u8]) -> u64 {
-    let mut count = 0u64;
-    for byte in script {
-        if *byte == b'\n' {
-            count = count.saturating_add(1);
-        }
-    }
-    count
 }

@@ -1,11 +1,11 @@
-//! Finds the changes of later lines at the point of an undo, and which of them it reverts.
+//! Finds the changes by later events at the point of an undo, and which of them it reverts.
 
 use crate::kept::{InstalledProfile, contains_profile, installed_profiles};
 use meaning::PrevailingProfile;
 use messages::purpose_name;
 use ocpp_scalars::{Instant, push_instant};
-use replay::{PlayedLine, PointChange, ScriptLine};
 use site_core::Machine;
+use site_history::{Event, EventKind};
 use std::alloc::{AllocError, Global};
 
 /// A profile that a line installed at its point, or removed from it.
@@ -33,71 +33,63 @@ impl LaterChange {
     }
 }
 
-/// A follower of the profiles of a point, line by line.
+/// A follower of the profiles of a point, event by event.
 #[derive(Drop)]
-pub(crate) struct PointFollower<'a> {
+pub(crate) struct PointFollower {
     alloc: Global,
-    point: &'a str,
     /// The profiles that the point has.
     kept: Vec<InstalledProfile>,
     changes: Vec<LaterChange>,
 }
 
-impl<'a> PointFollower<'a> {
+impl PointFollower {
     /// Begins to look for changes by the journal's lines after the one that an undo reverts, with
     /// its point's profiles after that line.
     pub(crate) fn begin(
         alloc: Global,
         machine: &Machine,
-        point: &'a str,
-    ) -> Result<PointFollower<'a>, AllocError> {
+        point: &str,
+    ) -> Result<PointFollower, AllocError> {
         Ok(PointFollower {
             alloc,
-            point,
             kept: installed_profiles(alloc, machine, point)?,
             changes: Vec::new(alloc),
         })
     }
 
-    /// Records how a line of the journal after the undone one changed the profiles of its point.
+    /// Records how an event at the undo's point after the undone line changed its profiles, given
+    /// the state after it.
     pub(crate) fn follow(
         &mut self,
         machine: &Machine,
-        played: &PlayedLine<'_>,
+        event: &Event<'_>,
     ) -> Result<(), AllocError> {
-        if !may_change_profiles(played.outcome.change) {
-            return Ok(());
-        }
-        let Some(Ok(ScriptLine::Text(sent))) = &played.said else {
+        let EventKind::Message { .. } = event.kind else {
             return Ok(());
         };
-        if sent.point() != self.point {
-            return Ok(());
-        }
-        // The lists are compared since a line has more effects than it names: an install replaces
-        // others, and a transaction ends TxProfiles.
-        let now = installed_profiles(self.alloc, machine, self.point)?;
+        // The lists are compared since a message has more effects than it names: an install
+        // replaces others, and a transaction ends TxProfiles.
+        let now = installed_profiles(self.alloc, machine, event.point)?;
         let installed = without(self.alloc, now.as_slice(), self.kept.as_slice())?;
-        self.add_changes(played.number, sent.moment(), installed, true)?;
+        self.add_changes(event, installed, true)?;
         let removed = without(self.alloc, self.kept.as_slice(), now.as_slice())?;
-        self.add_changes(played.number, sent.moment(), removed, false)?;
+        self.add_changes(event, removed, false)?;
         self.kept = now;
         Ok(())
     }
 
-    /// Records that a line of the journal after the undone one installed these profiles at the
-    /// undo's point, or removed them.
+    /// Records that an event after the undone line installed these profiles at the undo's point, or
+    /// removed them.
     fn add_changes(
         &mut self,
-        line: u64,
-        moment: Instant,
+        event: &Event<'_>,
         profiles: Vec<PrevailingProfile>,
         is_install: bool,
     ) -> Result<(), AllocError> {
         for profile in profiles {
             self.changes.push(LaterChange {
-                line,
-                moment,
+                line: event.line,
+                moment: event.moment,
                 profile,
                 is_install,
             })?;
@@ -150,12 +142,6 @@ impl<'a> PointFollower<'a> {
             .find(|change| change.is_install && change.line == line)
             .copied()
     }
-}
-
-/// Returns whether a journal's line with this change may have changed the charging profiles of its
-/// point, for an undo.
-fn may_change_profiles(change: PointChange) -> bool {
-    matches!(change, PointChange::Profiles | PointChange::Transaction)
 }
 
 /// Returns the names of those charging profiles of an undo's point that aren't among the others.

@@ -10,15 +10,13 @@ mod later_changes;
 mod operator_url;
 mod shared_warnings;
 mod undo;
-mod undone_line;
 mod visit;
 
-pub use call_script::{CallScript, on_one_line, script_of_calls};
+pub use call_script::{on_one_line, script_of_calls};
 pub use caller::{Caller, SendOptions};
 pub use given_call::GivenCall;
 pub use later_changes::LaterChange;
 pub use operator_url::{is_without_point, point_of_url, url_of_point};
 pub use shared_warnings::SharedWarnings;
-pub use undo::{LostProfile, UNDO, Undo, undo_to};
-pub use undone_line::{line_at, point_of_line};
+pub use undo::{LostProfile, UNDO, Undo, UndoReader};
 pub use visit::{Visit, visits_of_site};

@@ -1,19 +1,16 @@
 //! Finds the calls that restore the profiles that a point had before a line of a journal.
 
-ghost use Rattle.std.specs.Prelude.{◌≤◌, length};
-ghost use Rattle.replay.specs.Limits.{max_script_bytes};
-
 use crate::given_call::GivenCall;
 use crate::kept::{InstalledProfile, contains_profile, installed_profiles, transaction_of};
 use crate::later_changes::{LaterChange, PointFollower};
 use client_lines::{clear_call, set_profile_call};
+use messages::Side;
+use ocpp_scalars::push_instant;
 use profile::Purpose;
 use profile_findings::takes_place_of;
-use replay::{Playing, Progress};
 use site_core::Machine;
-use site_rules::Site;
-use std::alloc::{AllocError, AllocGlobal, Global};
-use std::rt::Clock;
+use site_history::{Event, EventKind};
+use std::alloc::{AllocError, Global};
 
 /// The name of each call of an undo: that of its option.
 pub const UNDO: &str = "undo";
@@ -21,6 +18,10 @@ pub const UNDO: &str = "undo";
 /// The calls of an undo, and its further effects.
 #[derive(Drop)]
 pub struct Undo {
+    /// The identity of the undone line's point.
+    pub point: String,
+    /// The undone line, as a script has it. Empty if only a call went out at it.
+    pub line: String,
     /// The clears, and then the installs.
     pub calls: Vec<GivenCall>,
     /// The profiles that can't be installed again.
@@ -36,33 +37,116 @@ pub struct LostProfile {
     pub connector: u32,
 }
 
-/// Returns the calls that lead the point of this identity from the profiles that it has at the end
-/// of a script to those before the line of this number. Reports the progress on standard error if
-/// playing the script takes long.
-pub fn undo_to<R: Clock + Eprint + AllocGlobal>(
-    rt: &R,
-    script: &[u8],
-    site: Site,
+/// A reader of the events of a journal, of which a line is to be undone.
+#[derive(Drop)]
+pub struct UndoReader {
+    alloc: Global,
+    /// The number of that line.
     number: u64,
-    point: &str,
-) -> Result<Undo, AllocError>
-    requires { length script.now ≤ max_script_bytes }
-{
-    let alloc = rt.alloc();
-    let mut progress = Progress::of_lines(rt);
-    let mut playing = Playing::new(alloc, script, site)?;
-    play_to(rt, &mut playing, &mut progress, script.len(), number)?;
-    let mut before = installed_profiles(alloc, playing.machine(), point)?;
-    // The follower begins after the undone line, whose own changes aren't later ones.
-    let behind = number.saturating_add(1);
-    play_to(rt, &mut playing, &mut progress, script.len(), behind)?;
-    let mut follower = PointFollower::begin(alloc, playing.machine(), point)?;
-    follow_rest(rt, &mut playing, &mut progress, script.len(), &mut follower)?;
-    let now = installed_profiles(alloc, playing.machine(), point)?;
-    let lost = find_lost(alloc, playing.machine(), point, &mut before, now.as_slice())?;
-    let calls = calls_between(alloc, before.as_slice(), now.as_slice())?;
-    let later = follower.taken_back(before.as_slice())?;
-    Ok(Undo { calls, lost, later })
+    line: Option<UndoneLine>,
+}
+
+/// The line to undo, and the changes behind it.
+#[derive(Drop)]
+struct UndoneLine {
+    /// The identity of its point.
+    point: String,
+    /// The message of the line, as a script has it.
+    text: String,
+    /// The point's profiles before it.
+    before: Vec<InstalledProfile>,
+    /// The point's profiles after it, and their changes. None while it is read.
+    follower: Option<PointFollower>,
+}
+
+impl UndoReader {
+    /// Returns a reader before the first event, for the undo of the line of this number.
+    pub fn new(alloc: Global, number: u64) -> UndoReader {
+        UndoReader {
+            alloc,
+            number,
+            line: None,
+        }
+    }
+
+    /// Looks at the state before a line of this number, and this point.
+    pub fn before(&mut self, machine: &Machine, line: u64, point: &str) -> Result<(), AllocError> {
+        if line == self.number && self.line.is_none() {
+            self.line = Some(UndoneLine {
+                point: String::from_str(self.alloc, point)?,
+                text: String::new(self.alloc),
+                before: installed_profiles(self.alloc, machine, point)?,
+                follower: None,
+            });
+        }
+        Ok(())
+    }
+
+    /// Reads an event, given the state after it.
+    pub fn read(&mut self, machine: &Machine, event: &Event<'_>) -> Result<(), AllocError> {
+        let Some(line) = &mut self.line else {
+            return Ok(());
+        };
+        if line.point.as_str() != event.point {
+            return Ok(());
+        }
+        // The undone line's own changes aren't later ones.
+        if event.line == self.number {
+            line.follower = Some(PointFollower::begin(self.alloc, machine, event.point)?);
+            return line.add_text(event);
+        }
+        match &mut line.follower {
+            Some(follower) => follower.follow(machine, event),
+            None => Ok(()),
+        }
+    }
+
+    /// Returns the undo of the line, given the state at the end. None if there is no such line.
+    pub fn undo(self, machine: &Machine) -> Result<Option<Undo>, AllocError> {
+        let alloc = self.alloc;
+        let Some(line) = self.line else {
+            return Ok(None);
+        };
+        let UndoneLine {
+            point,
+            text,
+            mut before,
+            follower,
+        } = line;
+        let Some(follower) = follower else {
+            return Ok(None);
+        };
+        let now = installed_profiles(alloc, machine, point.as_str())?;
+        let lost = find_lost(alloc, machine, point.as_str(), &mut before, now.as_slice())?;
+        let calls = calls_between(alloc, before.as_slice(), now.as_slice())?;
+        let later = follower.taken_back(before.as_slice())?;
+        Ok(Some(Undo {
+            point,
+            line: text,
+            calls,
+            lost,
+            later,
+        }))
+    }
+}
+
+impl UndoneLine {
+    /// Keeps the message of an event of the undone line, to print it to the operator.
+    fn add_text(&mut self, event: &Event<'_>) -> Result<(), AllocError> {
+        let (side, frame) = match event.kind {
+            EventKind::Message { sender, frame } => (sender, frame),
+            EventKind::Reply { frame } => (Side::Point, frame),
+            EventKind::Verdict | EventKind::Sent { .. } => return Ok(()),
+        };
+        push_instant(&mut self.text, event.moment)?;
+        self.text.push_str(match side {
+            Side::Operator => " operator ",
+            Side::Point => " point ",
+        })?;
+        self.text.push_str(event.point)?;
+        self.text.push_str(" ")?;
+        self.text.push_str(frame)
+    }
 }
 
 /// Marks the earlier profiles of an undo's point that it lacks now and may get again. Returns those
@@ -88,45 +172,6 @@ fn find_lost(
         }
     }
     Ok(lost)
-}
-
-/// Plays the lines of a journal's script before the line of this number, for the state of the point
-/// that an undo compares.
-// A script has no more lines than bytes, so this range ends the loop without a proof.
-fn play_to<R: Clock + Eprint>(
-    rt: &R,
-    playing: &mut Playing<'_>,
-    progress: &mut Progress,
-    length: usize,
-    number: u64,
-) -> Result<(), AllocError> {
-    for _line in 0..length {
-        progress.say_lines(rt, playing.next_line().saturating_sub(1));
-        if playing.next_line() >= number || playing.follow_next()?.is_none() {
-            break;
-        }
-    }
-    Ok(())
-}
-
-/// Plays the remaining lines of a journal's script, and records how they changed the profiles of
-/// the point of an undo.
-// A script has no more lines than bytes, so this range ends the loop without a proof.
-fn follow_rest<R: Clock + Eprint>(
-    rt: &R,
-    playing: &mut Playing<'_>,
-    progress: &mut Progress,
-    length: usize,
-    follower: &mut PointFollower<'_>,
-) -> Result<(), AllocError> {
-    for _line in 0..length {
-        progress.say_lines(rt, playing.next_line().saturating_sub(1));
-        let Some(played) = playing.follow_next()? else {
-            break;
-        };
-        follower.follow(playing.machine(), &played)?;
-    }
-    Ok(())
 }
 
 /// Returns whether an undo may install a profile again at its point: a TxProfile only in its own

@@ -18,6 +18,8 @@ pub struct Visit {
     /// The indexes of the calls among those that are given.
     // A site has up to 1,000 points, and a copy of each frame for each would take much memory.
     pub calls: Vec<usize>,
+    /// The number that the next call to the point had before, by the journal; 0 without one.
+    pub next_call: u64,
 }
 
 impl Visit {
@@ -34,6 +36,7 @@ impl Visit {
             id: String::from_str(alloc, id)?,
             is_labelled,
             calls,
+            next_call: 0,
         })
     }
 

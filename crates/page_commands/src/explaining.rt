@@ -2,6 +2,7 @@
 
 ghost use Rattle.std.specs.Prelude.{◌≡◌, ◌≤◌, length};
 
+use crate::explain_reader::ExplainReader;
 use crate::lost_profiles::say_lost;
 use crate::picture_name::{PictureForm, picture_form};
 use crate::unconfirmed::say_unconfirmed;
@@ -56,26 +57,20 @@ pub fn explain_file<R: Files<File = File> + Input + Print + Eprint + Clock + All
     let Source::Journal(folder) = explaining.source else {
         return explain_script(rt, presentation, end, site, &ask);
     };
+    let mut reader = ExplainReader::new(rt.alloc(), site.len(), explaining.point, ask.start)?;
     let following = FollowRequest {
         site,
-        digest,
         folder,
         end,
-        point: explaining.point,
-        counted_from: Some(ask.start),
-        is_quiet: false,
+        noted_with: Some(digest),
     };
-    let followed = follow_journal(rt, following)?;
-    note_later_changes(rt, explaining.point, start, followed.changes())?;
-    say_unconfirmed(
-        rt,
-        explaining.point,
-        followed.unconfirmed_of(explaining.point),
-        followed.waiting_since(),
-    )?;
-    say_lost(rt, followed.machine(), explaining.point);
-    print_explained(rt, presentation, followed.machine(), &ask)?;
-    Ok(page_status(followed.is_as_wanted()))
+    let followed = follow_journal(rt, following, &mut reader)?;
+    let machine = &followed.machine;
+    note_later_changes(rt, explaining.point, start, reader.changes)?;
+    say_unconfirmed(rt, machine, &reader)?;
+    say_lost(rt, machine, &reader)?;
+    print_explained(rt, presentation, machine, &ask)?;
+    Ok(page_status(followed.is_as_wanted))
 }
 
 /// Explains the limits of a connector after the script of messages from standard input or a file,

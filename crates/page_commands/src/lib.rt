@@ -3,6 +3,7 @@
 #![tactic(auto)]
 
 mod checking;
+mod explain_reader;
 mod explaining;
 mod lost_profiles;
 mod picture_name;

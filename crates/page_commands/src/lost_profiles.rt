@@ -1,13 +1,22 @@
 //! The profiles that points rejected or may have lost.
 
+use crate::explain_reader::ExplainReader;
 use messages::purpose_name;
+use ocpp_scalars::push_instant;
+use profile::Row;
 use site_core::{Machine, ProfileState};
+use std::alloc::{AllocError, AllocGlobal, Global};
 
-/// Prints a note to standard error for each profile that a point rejected or may have lost: the
-/// explained limits have it, and the point perhaps doesn't.
-pub(crate) fn say_lost<R: Eprint>(rt: &R, machine: &Machine, point: &str) {
+/// Prints a note to standard error for each profile that the explained point rejected or may have
+/// lost: the limits have it, and the point perhaps doesn't.
+pub(crate) fn say_lost<R: Eprint + AllocGlobal>(
+    rt: &R,
+    machine: &Machine,
+    reader: &ExplainReader<'_>,
+) -> Result<(), AllocError> {
+    let point = reader.point;
     let Some(book) = machine.book_of(point) else {
-        return;
+        return Ok(());
     };
     for row in book.view().rows {
         let what = match machine.profile_state_of(point, row) {
@@ -16,8 +25,27 @@ pub(crate) fn say_lost<R: Eprint>(rt: &R, machine: &Machine, point: &str) {
             // `say_unconfirmed` counts the calls without a reply.
             ProfileState::Held | ProfileState::Sent => continue,
         };
+        let since = since_text(rt.alloc(), reader, row)?;
         let (purpose, id) = (purpose_name(row.profile.purpose), row.profile.id);
         let connector = row.connector;
-        let _ = eprintln!(rt; "central: {point} {what} {purpose} {id} at connector {connector}");
+        let _ = eprintln!(rt;
+            "central: {point} {what} {purpose} {id} at connector {connector}{since}"
+        );
     }
+    Ok(())
+}
+
+/// Returns since when a profile is in its state at the explained point, and by the reply to which
+/// call, as the end of a note.
+fn since_text(alloc: Global, reader: &ExplainReader<'_>, row: &Row) -> Result<String, AllocError> {
+    let mut text = String::new(alloc);
+    let Some(known) = reader.states.of(row) else {
+        return Ok(text);
+    };
+    text.push_str(", at ")?;
+    push_instant(&mut text, known.since)?;
+    if let Some(call) = known.by_call {
+        text.push_str(format!(in alloc; " by its reply to call {call}")?.as_str())?;
+    }
+    Ok(text)
 }

@@ -6,8 +6,8 @@ use command_io::{
 };
 use jobs::{Showing, Source};
 use journal_file::ScriptEnd;
-use journal_reader::{FollowRequest, follow_journal};
-use show_pages::{Depth, Standing, standing_json, standing_text, trace_script};
+use journal_reader::{CallReader, FollowRequest, follow_journal};
+use show_pages::{PlayedScript, Standing, standing_json, standing_text};
 use site_rules::Site;
 use std::alloc::AllocGlobal;
 use std::fs::File;
@@ -23,18 +23,23 @@ pub fn show_file<R: Files<File = File> + Input + Print + Eprint + Clock + AllocG
     let Source::Journal(folder) = showing.source else {
         return show_script(rt, showing, end, site);
     };
+    let mut reader = CallReader::new(rt.alloc(), site.len())?;
     let following = FollowRequest {
         site,
-        digest,
         folder,
         end,
-        point: "",
-        counted_from: None,
-        is_quiet: false,
+        noted_with: Some(digest),
     };
-    let followed = follow_journal(rt, following)?;
-    print_standing(rt, showing, &followed.standing())?;
-    Ok(page_status(followed.is_as_wanted()))
+    let followed = follow_journal(rt, following, &mut reader)?;
+    let standing = Standing {
+        machine: &followed.machine,
+        points: reader.points(),
+        held: &[],
+        lines: followed.lines,
+        faults: 0,
+    };
+    print_standing(rt, showing, &standing)?;
+    Ok(page_status(followed.is_as_wanted))
 }
 
 /// Prints `show`'s page with the state of each point after the script of messages from standard
@@ -47,9 +52,9 @@ fn show_script<R: Files<File = File> + Input + Print + Eprint + AllocGlobal>(
 ) -> Result<u8, ProgramFault> {
     let script = read_script_of(rt, showing.source)?;
     let last_line = end.last_line(script.as_slice());
-    let trace = trace_script(rt.alloc(), script.as_slice(), site, last_line, Depth::State)?;
-    let is_whole = note_refused_lines(rt, trace.playing());
-    print_standing(rt, showing, &trace.standing())?;
+    let played = PlayedScript::play(rt.alloc(), script.as_slice(), site, last_line)?;
+    let is_whole = note_refused_lines(rt, played.playing());
+    print_standing(rt, showing, &played.standing())?;
     Ok(page_status(is_whole))
 }
 

@@ -1,20 +1,23 @@
 //! The calls that a point hasn't confirmed.
 
-use ocpp_scalars::{Instant, push_instant};
+use crate::explain_reader::ExplainReader;
+use ocpp_scalars::push_instant;
+use site_core::Machine;
 use std::alloc::{AllocError, AllocGlobal};
 
-/// Prints how many calls a point hasn't confirmed, and since when, if there are any.
-pub fn say_unconfirmed<R: Eprint + AllocGlobal>(
+/// Prints how many calls the explained point hasn't confirmed, and since when, if there are any.
+pub(crate) fn say_unconfirmed<R: Eprint + AllocGlobal>(
     rt: &R,
-    point: &str,
-    calls: usize,
-    since: Option<Instant>,
+    machine: &Machine,
+    reader: &ExplainReader<'_>,
 ) -> Result<(), AllocError> {
+    let point = reader.point;
+    let calls = machine.outbox_of(point).map_or(0, |outbox| outbox.len());
     if calls == 0 {
         return Ok(());
     }
     let mut begin = String::new(rt.alloc());
-    if let Some(since) = since {
+    if let Some(since) = reader.waiting_since(machine) {
         begin.push_str(if calls == 1 {
             " since "
         } else {

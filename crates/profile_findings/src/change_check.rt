@@ -59,7 +59,7 @@ fn replaced(
     came: PrevailingProfile,
     gone: PrevailingProfile,
 ) -> Result<Finding, AllocError> {
-    let place = Location::Line(number);
+    let place = Location::line(number);
     let (purpose, id) = (purpose_name(came.purpose), came.id);
     let name = named(alloc, gone)?;
     if id != gone.id {
@@ -85,7 +85,7 @@ fn cleared_too(alloc: Global, number: u64, gone: PrevailingProfile) -> Result<Fi
     let message = format!(in alloc;
         "this clears {name} too: name id or chargingProfilePurpose, if that isn't meant"
     )?;
-    Ok(Finding::warning(Location::Line(number), message))
+    Ok(Finding::warning(Location::line(number), message))
 }
 
 /// Names a charging profile in a finding by its purpose, id, stack level and connector.

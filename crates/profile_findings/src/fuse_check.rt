@@ -61,7 +61,7 @@ pub fn check_raise(
         return Ok(None);
     }
     let message = raised_message(alloc, unit, was, now)?;
-    Ok(Some(Finding::remark(Location::Line(line), message)))
+    Ok(Some(Finding::remark(Location::line(line), message)))
 }
 
 /// Makes the remark that the point of this identity, unlike most of its site, has no fuse limit.

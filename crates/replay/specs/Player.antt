@@ -13,6 +13,10 @@ pub record PlayerState : Type 0 where
 abbrev pub with_machine : PlayerState → MachineState → PlayerState
 with_machine old machine = record old { machine = machine }
 
+-- before the first line of a script that begins with this machine
+abbrev pub state_with : MachineState → PlayerState
+state_with machine = record { machine = machine; held = [] }
+
 -- before the first line
 abbrev pub first_state : SiteState → PlayerState
-first_state site = record { machine = opening site; held = [] }
+first_state site = state_with (opening site)

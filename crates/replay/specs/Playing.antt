@@ -1,7 +1,8 @@
 -- A script between two of its lines.
 use Rattle.std.specs.Prelude.{ℕ, List}
+use Rattle.site_core.specs.State.{MachineState, opening}
 use Rattle.site_rules.specs.Site.{SiteState}
-use Rattle.replay.specs.Player.{PlayerState, first_state}
+use Rattle.replay.specs.Player.{PlayerState, state_with}
 
 pub record PlayingState : Type 0 where
   -- the number of the next line
@@ -13,6 +14,10 @@ pub record PlayingState : Type 0 where
   -- the rest of the script
   pub rest : List ℕ
 
+-- the beginning of a script on this machine
+abbrev pub on_machine : MachineState → List ℕ → PlayingState
+on_machine machine script =
+    record { number = 1; faults = 0; state = state_with machine; rest = script }
+
 abbrev pub before_first_line : SiteState → List ℕ → PlayingState
-before_first_line site script =
-    record { number = 1; faults = 0; state = first_state site; rest = script }
+before_first_line site script = on_machine (opening site) script

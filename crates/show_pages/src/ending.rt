@@ -1,21 +1,32 @@
 //! Sentences about what a script leaves undone.
 
-use crate::trace::{HeldLine, Trace};
-use crate::traced_calls::{PointCalls, UnsentCall};
 use crate::words::push_count;
 use page_text::Page;
+use replay::Held;
 use site_core::Machine;
+use site_history::{HeldLines, PointCalls, UnsentCall};
 use std::alloc::{AllocError, Global};
 
-/// Returns a sentence a line for what the lines of a script leave undone. These are requests that
-/// no line released, calls that never went out or were never answered, calls that a point rejected,
+/// The end of a site's history.
+#[derive(Clone, Copy)]
+pub struct Ending<'a> {
+    pub machine: &'a Machine,
+    /// The progress of the calls to each point, in the order of the site file.
+    pub points: &'a [PointCalls],
+    /// The requests of a script that are still held, and the lines that held requests.
+    pub held: &'a [Held],
+    pub held_lines: &'a HeldLines,
+}
+
+/// Returns a sentence a line for what a site's history leaves undone. These are requests that no
+/// line released, calls that never went out or were never answered, calls that a point rejected,
 /// and starts that it accepted and never made. A point that never sent a message isn't reported if
 /// only call 0 waits, which clears its earlier profiles.
-pub fn ending_text(alloc: Global, trace: &Trace<'_>) -> Result<String, AllocError> {
+pub fn ending_text(alloc: Global, ending: &Ending<'_>) -> Result<String, AllocError> {
     let mut page = Page::new(alloc);
-    push_held(&mut page, trace);
-    let machine = trace.playing().machine();
-    for (place, calls) in trace.points().iter().enumerate() {
+    push_held(&mut page, ending);
+    let machine = ending.machine;
+    for (place, calls) in ending.points.iter().enumerate() {
         if let Some(point) = machine.site().point(place) {
             push_rejected(&mut page, point.id, calls);
             push_starts(&mut page, point.id, machine);
@@ -28,10 +39,10 @@ pub fn ending_text(alloc: Global, trace: &Trace<'_>) -> Result<String, AllocErro
 
 /// Appends `check`'s sentence for each request for a schedule that the script held and never
 /// released.
-fn push_held(page: &mut Page, trace: &Trace<'_>) {
-    for held in trace.playing().held() {
+fn push_held(page: &mut Page, ending: &Ending<'_>) {
+    for held in ending.held {
         let number = held.number;
-        match line_of_request(trace.held(), number) {
+        match ending.held_lines.line_of(number) {
             Some(line) => {
                 let since = line.line;
                 let point = &line.point;
@@ -43,12 +54,6 @@ fn push_held(page: &mut Page, trace: &Trace<'_>) {
             None => write!(page, "request {number} was held and never released\n"),
         }
     }
-}
-
-/// Returns the line of a script that held a schedule request of this number, if there is one, for
-/// `check`'s sentence.
-fn line_of_request(lines: &[HeldLine], request: u64) -> Option<&HeldLine> {
-    lines.iter().find(|line| line.request == request)
 }
 
 /// Appends `check`'s sentence for each call of a script that the charge point rejected.
@@ -116,5 +121,6 @@ fn push_waiting(page: &mut Page, id: &str, calls: &PointCalls) {
 /// Returns the first line of a script that added one of these calls that never went out, for
 /// `check`'s sentence.
 fn first_line(waiting: &[UnsentCall]) -> Option<u64> {
-    waiting.iter().find_map(|added| added.line)
+    let (line, _moment) = waiting.iter().find_map(|unsent| unsent.added)?;
+    Some(line)
 }

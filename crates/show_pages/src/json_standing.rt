@@ -2,13 +2,13 @@
 
 use crate::call_of_point::{WaitingCall, state_name, state_of_call, waiting_calls};
 use crate::standing::{PointProfiles, Standing};
-use crate::traced_calls::RejectedCall;
 use messages::{CallBody, push_payload_fields, push_profile};
 use page_text::JsonPage;
 use point_book::PointBook;
 use profile::{Profile, Row};
 use replay::Held;
 use site_core::{Machine, Outbox, PointAudit, ProfileState, WaitingStart};
+use site_history::RejectedCall;
 use std::alloc::{AllocError, Global};
 use transactions::Transaction;
 

@@ -5,19 +5,16 @@
 mod call_of_point;
 mod ending;
 mod json_standing;
+mod played_script;
 mod profile_words;
-mod reply;
-mod row_changes;
 mod standing;
 mod table;
 mod trace;
-mod traced_calls;
 mod words;
 
-pub use ending::ending_text;
+pub use ending::{Ending, ending_text};
 pub use json_standing::standing_json;
-pub use row_changes::RowChange;
+pub use played_script::PlayedScript;
 pub use standing::{Standing, standing_text};
 pub use table::Table;
-pub use trace::{Depth, HeldLine, Trace, TracedLine, trace_script, trace_text};
-pub use traced_calls::{PointCalls, RejectedCall, TracedCall, UnsentCall};
+pub use trace::{Trace, trace_text};

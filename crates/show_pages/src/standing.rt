@@ -3,7 +3,6 @@
 use crate::call_of_point::{WaitingCall, state_name, state_of_call, waiting_calls};
 use crate::profile_words::{from_text, kind_text, periods_text, until_text};
 use crate::table::Table;
-use crate::traced_calls::{PointCalls, RejectedCall};
 use crate::words::instant_text;
 use messages::{CallBody, purpose_name, push_subject};
 use ocpp_scalars::Instant;
@@ -12,6 +11,7 @@ use point_book::PointBook;
 use profile::Row;
 use replay::Held;
 use site_core::{Machine, Outbox, PointAudit, ProfileState, WaitingStart};
+use site_history::{PointCalls, RejectedCall};
 use std::alloc::{AllocError, Global};
 
 /// The column headings of the table of profiles.

@@ -1,6 +1,5 @@
 //! Writes findings, one on each line.
 
-use crate::line_points::LinePoints;
 use findings::{Finding, Location, Severity};
 use std::alloc::{AllocError, Global};
 use std::fmt::Write;
@@ -31,11 +30,10 @@ pub fn push_findings(
     Ok(())
 }
 
-/// Appends to the output of `check` a line for each finding in a script of messages, with the point
-/// of its line. The findings are sorted by line, and equal ones at the end share a line.
-pub(crate) fn push_script_findings(
+/// Appends to the output of `check` a line for each finding in a script or a journal. The findings
+/// are sorted by line, and equal ones at the end share a line.
+pub(crate) fn push_history_findings(
     page: &mut String,
-    lines: &mut LinePoints<'_>,
     findings: &[Finding],
 ) -> Result<(), AllocError> {
     let is_at_end = |finding: &Finding| matches!(finding.place, Location::End(_));
@@ -44,40 +42,11 @@ pub(crate) fn push_script_findings(
         .position(is_at_end)
         .unwrap_or(findings.len());
     let (in_lines, at_end) = findings.split_at(first);
-    for finding in in_lines {
-        push_in_line(page, lines, finding)?;
-    }
+    push_findings(page, SCRIPT, in_lines)?;
     for number in 0..at_end.len() {
         push_once(page, SCRIPT, at_end, number)?;
     }
     Ok(())
-}
-
-/// Appends a finding in a line of a script of messages to the output of `check`, with the point
-/// that the line names.
-fn push_in_line(
-    page: &mut String,
-    lines: &mut LinePoints<'_>,
-    finding: &Finding,
-) -> Result<(), AllocError> {
-    let Location::Line(number) = finding.place else {
-        return push_finding(page, SCRIPT, finding);
-    };
-    let Some(point) = lines.point_at(*page.allocator(), number)? else {
-        return push_finding(page, SCRIPT, finding);
-    };
-    let message = finding.message.as_str();
-    let written = match finding.severity {
-        Severity::Fault => writeln!(page, "{SCRIPT}: line {number} ({point}): {message}"),
-        severity => writeln!(
-            page,
-            "{SCRIPT}: line {number} ({point}): {severity}: {message}"
-        ),
-    };
-    match written {
-        Ok(()) => Ok(()),
-        Err(_) => Err(AllocError),
-    }
 }
 
 /// Appends a line to the output of `check` for each finding of this severity in a site file.

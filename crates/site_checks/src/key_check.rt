@@ -37,7 +37,7 @@ pub fn find_in_keys(
         if let Some(point) = point {
             points.push(point)?;
         }
-        findings.push(found_at(Location::Line(number), severity, message))?;
+        findings.push(found_at(Location::line(number), severity, message))?;
     }
     if let Some(site) = site {
         find_left_out(alloc, points.as_slice(), site, &mut findings)?;

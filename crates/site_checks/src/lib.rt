@@ -2,15 +2,16 @@
 //! and the calls that are to follow it.
 #![tactic(auto)]
 
+mod checked_script;
 mod finding_lines;
+mod history_check;
 mod key_check;
-mod line_points;
 mod max_profile_limits;
 mod played_calls;
-mod played_lines;
-mod played_script;
+mod site_check;
 
+pub use checked_script::{CheckedScript, push_checked_script};
 pub use finding_lines::{push_findings, site_page};
 pub use key_check::find_in_keys;
 pub use played_calls::PlayedCalls;
-pub use played_script::{PlayedScript, push_played};
+pub use site_check::SiteCheck;

@@ -1,26 +1,15 @@
-//! Follows the fuse limits of the points of a site, line by line.
+//! Follows the fuse limits of the points of a site, event by event.
 
-use findings::Finding;
+use findings::{Finding, name_point};
 use profile_findings::{check_raise, check_unlimited, fuse_limit};
-use replay::{PlayedLine, PointChange, ScriptLine};
 use site_core::Machine;
+use site_history::{Event, EventKind};
 use std::alloc::{AllocError, Global};
 
 /// Returns the fuse limit of the point of this identity, for a finding of `call`: the highest limit
 /// of its ChargePointMaxProfiles, if any.
 pub(crate) fn fuse_at(machine: &Machine, point: &str) -> Option<u32> {
     fuse_limit(machine.book_of(point)?)
-}
-
-/// Returns the identity of the point whose state a line of a checked script of messages changed, if
-/// it changed one.
-fn changed_point<'a>(played: &'a PlayedLine<'_>) -> Option<&'a str> {
-    match &played.said {
-        Some(Ok(ScriptLine::Text(sent))) if played.outcome.change != PointChange::Nothing => {
-            Some(sent.point())
-        }
-        _ => None,
-    }
 }
 
 /// The fuse limit of a point.
@@ -38,11 +27,11 @@ pub(crate) struct MaxProfileLimits {
 }
 
 impl MaxProfileLimits {
-    /// Begins before the first line of a script that `check` plays. No point has a fuse limit
+    /// Begins before the first event that `check` reads. No point has a fuse limit
     /// (ChargePointMaxProfile) yet.
-    pub(crate) fn new(alloc: Global, machine: &Machine) -> Result<MaxProfileLimits, AllocError> {
+    pub(crate) fn new(alloc: Global, points: usize) -> Result<MaxProfileLimits, AllocError> {
         let mut fuses = Vec::new(alloc);
-        for _place in 0..machine.site().len() {
+        for _place in 0..points {
             fuses.push(MaxProfileLimit {
                 limit: None,
                 profiles: 0,
@@ -51,19 +40,36 @@ impl MaxProfileLimits {
         Ok(MaxProfileLimits { fuses })
     }
 
-    /// Follows the effect of a line of the checked script on the fuse limit of its point. Returns a
-    /// remark if a profile that replaces another one raised the limit.
-    pub(crate) fn follow(
+    /// Follows the effect of an event that `check` reads on the fuse limit of its point, given the
+    /// state after it. Returns a remark if a profile that replaces another one raised the limit.
+    pub(crate) fn read(
         &mut self,
         alloc: Global,
         machine: &Machine,
-        played: &PlayedLine<'_>,
+        event: &Event<'_>,
+    ) -> Result<Vec<Finding>, AllocError> {
+        let mut raises = Vec::new(alloc);
+        if let EventKind::Message { .. } = event.kind {
+            if let Some(raise) = self.raise_by(alloc, machine, event)? {
+                raises.push(raise)?;
+                name_point(alloc, &mut raises, event.point)?;
+            }
+        }
+        Ok(raises)
+    }
+
+    /// Returns a remark of `check` if the profile of an event's message raised the fuse limit of its
+    /// point by replacing another one.
+    fn raise_by(
+        &mut self,
+        alloc: Global,
+        machine: &Machine,
+        event: &Event<'_>,
     ) -> Result<Option<Finding>, AllocError> {
-        let Some(point) = changed_point(played) else {
-            return Ok(None);
-        };
-        let (Some(place), Some(book)) = (machine.site().place_of(point), machine.book_of(point))
-        else {
+        let (Some(place), Some(book)) = (
+            machine.site().place_of(event.point),
+            machine.book_of(event.point),
+        ) else {
             return Ok(None);
         };
         let Some(fuse) = self.fuses.get_mut(place) else {
@@ -79,11 +85,11 @@ impl MaxProfileLimits {
             return Ok(None);
         }
         let unit = machine.site().unit();
-        check_raise(alloc, unit, played.number, before.limit, fuse.limit)
+        check_raise(alloc, unit, event.line, before.limit, fuse.limit)
     }
 
-    /// Adds to the findings of `check` a remark for each point without a fuse limit when the script
-    /// ends, if most points have one.
+    /// Adds to the findings of `check` a remark for each point without a fuse limit at the end, if
+    /// most points have one.
     pub(crate) fn find_unlimited(
         &self,
         alloc: Global,

@@ -1,46 +1,39 @@
-//! Checks calls after a script, each by the state of its point at that line.
+//! Checks calls before they are sent, each by the state of its point.
 
 ghost use Rattle.std.specs.Prelude.{◌≤◌, length};
 ghost use Rattle.replay.specs.Limits.{max_script_bytes};
 
+use crate::history_check::{HistoryCheck, find_at_point};
 use crate::max_profile_limits::fuse_at;
-use crate::played_lines::{find_at_point, find_in_changes, find_in_played};
 use findings::{Finding, Severity};
-use message_findings::{ScriptCheck, check_sent};
+use message_findings::check_sent;
 use profile_findings::check_fuse;
-use replay::Progress;
-use show_pages::{Depth, Trace};
-use site_rules::Site;
+use replay::Playing;
+use site_core::Machine;
+use site_history::SiteRows;
 use std::alloc::{AllocError, Global};
-use std::rt::Clock;
 
-/// A script that has been played up to the calls at its end, each of which is a line.
+/// Calls that are played on a site, each as a line of a script.
 #[derive(Drop)]
 pub struct PlayedCalls<'a> {
-    trace: Trace<'a>,
+    playing: Playing<'a>,
+    check: HistoryCheck,
 }
 
 impl<'a> PlayedCalls<'a> {
-    /// Plays the first `lines` lines of a script. Reports slow progress on standard error.
-    pub fn behind<R: Clock + Eprint>(
-        rt: &R,
+    /// Makes these calls on a site in this state, before the first of them.
+    pub fn begin(
         alloc: Global,
-        script: &'a [u8],
-        lines: u64,
-        site: Site,
+        machine: Machine,
+        calls: &'a [u8],
     ) -> Result<PlayedCalls<'a>, AllocError>
-        requires { length script.now ≤ max_script_bytes }
+        requires { length calls.now ≤ max_script_bytes }
     {
-        let mut trace = Trace::new(alloc, script, site, Depth::Refusals)?;
-        let mut progress = Progress::of_lines(rt);
-        for line in 0..lines {
-            progress.say_lines(rt, line);
-            match trace.next()? {
-                Some(played) => trace.take_in(played)?,
-                None => break,
-            }
-        }
-        Ok(PlayedCalls { trace })
+        let rows = SiteRows::of(alloc, &machine)?;
+        Ok(PlayedCalls {
+            playing: Playing::on(alloc, machine, calls),
+            check: HistoryCheck::begin(alloc, rows),
+        })
     }
 
     /// Plays the next line, which is a call to a point. Returns the findings in it, and those in
@@ -51,16 +44,17 @@ impl<'a> PlayedCalls<'a> {
         point: &str,
         frame: &str,
     ) -> Result<Vec<Finding>, AllocError> {
-        let trace = &mut self.trace;
-        let number = trace.playing().next_line();
-        let before = find_at_point(alloc, trace.playing().machine(), point)?;
-        let fuse_before = fuse_at(trace.playing().machine(), point);
-        let found = find_in_line(alloc, trace, number)?;
-        let after = find_at_point(alloc, trace.playing().machine(), point)?;
+        let before = find_at_point(alloc, self.playing.machine(), point)?;
+        let fuse_before = fuse_at(self.playing.machine(), point);
+        if let Some(played) = self.playing.skim_next()? {
+            self.check.check_line(self.playing.machine(), &played)?;
+        }
+        let found = self.check.take_findings()?;
+        let machine = self.playing.machine();
+        let after = find_at_point(alloc, machine, point)?;
         // `call` has reported these already, so they would be there twice.
         let by_itself = check_sent(alloc, frame)?;
         let mut findings = without(alloc, found, by_itself.findings.as_slice())?;
-        let machine = trace.playing().machine();
         let fuse_after = fuse_at(machine, point);
         let mut standing = without(alloc, after, before.as_slice())?;
         // A remark on the ceilings has an instant that moves with each install. With the same fuse
@@ -75,24 +69,6 @@ impl<'a> PlayedCalls<'a> {
         }
         Ok(findings)
     }
-}
-
-/// Plays the line of this number, an operator's call that `call` put after the journal's script.
-/// Returns the findings in it, of which `call` reports the new ones to the operator.
-fn find_in_line(
-    alloc: Global,
-    trace: &mut Trace<'_>,
-    number: u64,
-) -> Result<Vec<Finding>, AllocError> {
-    let mut check = ScriptCheck::new(alloc);
-    let mut printed = Vec::new(alloc);
-    if let Some(played) = trace.next()? {
-        find_in_played(alloc, trace, &mut check, &mut printed, played)?;
-    }
-    let mut found = check.finish(&[])?;
-    found.append(&mut printed)?;
-    find_in_changes(alloc, trace, number, &mut found)?;
-    Ok(found)
 }
 
 /// Returns the findings whose message none of the others has, so that `call` reports only those

@@ -705,7 +705,8 @@ impl ChargePoint {
         ensures waiting { self.new.waiting ≡ self.old.waiting }
         ensures deliveries { self.new.deliveries ≡ self.old.deliveries }
         ensures booted { self.new.booted ≡ self.old.booted }
-        ensures lost { self.new.lost_before ≡ lost_after_audit self.new.audit self.old.lost_before }
+        ensures lost { self.new.lost_before
+            ≡ lost_after_audit self.new.audit self.old.lost_before }
     {
         if let Some(audit) = &mut self.audit {
             let kept = audit.kept_verdict(self.book.book(), verdict);

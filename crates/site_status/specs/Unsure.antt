@@ -1,5 +1,5 @@
--- The profiles that a point accepted and may have lost since: what its maker keeps over a boot isn't
--- known.
+-- The profiles that a point accepted and may have lost since: what its maker keeps over a boot
+-- isn't known.
 use Rattle.std.specs.Prelude.{ℕ, Bool, true, false, List}
 use Rattle.std.specs.List.{list_any}
 use Rattle.profile.specs.declared.row.Row.{Row}

@@ -165,8 +165,8 @@ asked_of text = asked_of_message text (message_of_text text.frame)
 
 -- ---- the requests of all messages
 
--- The steps that a CALL may request with its outcome as the answer. Steps over a link come from the link itself or from a reply,
--- and a verdict comes from a reply.
+-- The steps that a CALL may request with its outcome as the answer. Steps over a link come from the
+-- link itself or from a reply, and a verdict comes from a reply.
 abbrev pub IsOfCall : Step → Type 0
 IsOfCall (steps.Install point row) = Unit {0}
 IsOfCall (steps.Clear point criteria) = Unit {0}

@@ -47,19 +47,26 @@ impl Model for Player {
 }
 
 impl Player {
-    ghost use Rattle.replay.specs.Player.{first_state, with_machine};
+    ghost use Rattle.replay.specs.Player.{first_state, state_with, with_machine};
     ghost use Rattle.replay.specs.ByCases.Player.{ComesTo, Skims, Sends};
 
     /// Makes a player for a site, before the first line of a script.
     pub fn new(alloc: Global, site: Site) -> Result<Player, AllocError>
         ensures { IfOk result (λ player. player ≡ first_state site) }
     {
-        Ok(Player {
+        Ok(Player::with_machine(alloc, Machine::new(alloc, site)?))
+    }
+
+    /// Makes a player for a site in this state, before the first line of a script.
+    pub fn with_machine(alloc: Global, machine: Machine) -> Player
+        ensures { result ≡ state_with machine }
+    {
+        Player {
             alloc,
-            machine: Machine::new(alloc, site)?,
+            machine,
             held: Vec::new(alloc),
             memory: ReadingMemory::new(alloc),
-        })
+        }
     }
 
     /// Returns the allocator.

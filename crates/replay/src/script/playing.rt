@@ -50,7 +50,7 @@ impl<'a> Model for Playing<'a> {
 }
 
 impl<'a> Playing<'a> {
-    ghost use Rattle.replay.specs.Playing.{before_first_line};
+    ghost use Rattle.replay.specs.Playing.{before_first_line, on_machine};
     ghost use Rattle.replay.specs.Quiet.{IsNext, HasPrinted, is_up_to};
 
     /// Makes a script on a site, before its first line.
@@ -58,13 +58,21 @@ impl<'a> Playing<'a> {
         requires { length script.now ≤ max_script_bytes }
         ensures { IfOk result (λ playing. playing ≡ before_first_line site script.entry.now) }
     {
-        Ok(Playing {
-            player: Player::new(alloc, site)?,
+        Ok(Playing::on(alloc, Machine::new(alloc, site)?, script))
+    }
+
+    /// Makes a script on a site in this state, before its first line.
+    pub fn on(alloc: Global, machine: Machine, script: &'a [u8]) -> Playing<'a>
+        requires { length script.now ≤ max_script_bytes }
+        ensures { result ≡ on_machine machine script.entry.now }
+    {
+        Playing {
+            player: Player::with_machine(alloc, machine),
             rest: script,
             number: 1,
             script_faults: 0,
             refused_lines: 0,
-        })
+        }
     }
 
     /// Plays the next line, if one is left. If memory runs out, the script can't go on.

@@ -1,7 +1,9 @@
-//! The progress of a charge point's calls, line by line.
+//! The progress of a charge point's calls, event by event.
 
+use crate::event::{Event, EventKind};
 use crate::reply::rejection_in;
 use messages::{ActionKind, Call, push_payload_fields, push_subject};
+use ocpp_scalars::Instant;
 use ocppj_frame::ReadingMemory;
 use site_core::Outbox;
 use std::alloc::{AllocError, Global};
@@ -17,14 +19,16 @@ pub struct TracedCall {
     pub fields: String,
     /// The line after which it went out.
     pub line: u64,
+    /// When it was added; `None` for call 0, which waits from the start.
+    pub added: Option<Instant>,
 }
 
 /// A call that hasn't gone out.
-#[derive(Drop)]
+#[derive(Clone, Copy)]
 pub struct UnsentCall {
     pub number: u64,
-    /// The line that added it; `None` for call 0, which waits from the start.
-    pub line: Option<u64>,
+    /// The line that added it, and its moment; `None` for call 0, which waits from the start.
+    pub added: Option<(u64, Instant)>,
 }
 
 /// A call that the point replied to without doing it.
@@ -56,7 +60,7 @@ impl PointCalls {
         let mut waiting = Vec::new(alloc);
         waiting.push(UnsentCall {
             number: 0,
-            line: None,
+            added: None,
         })?;
         Ok(PointCalls {
             count: 1,
@@ -66,21 +70,48 @@ impl PointCalls {
         })
     }
 
-    /// Records that a line added the calls below the number `next`.
-    pub fn added(&mut self, next: u64, line: u64) -> Result<(), AllocError> {
+    /// Reads an event at the point, given its outbox after it.
+    pub(crate) fn read(
+        &mut self,
+        alloc: Global,
+        memory: &mut ReadingMemory,
+        outbox: &Outbox,
+        event: &Event<'_>,
+    ) -> Result<(), AllocError> {
+        match event.kind {
+            EventKind::Message { .. } => self.add(outbox.next_number(), event),
+            EventKind::Reply { frame } => self.confirm(alloc, memory, event.line, frame),
+            EventKind::Sent { call } => self.send(alloc, call, event.line),
+            EventKind::Verdict => Ok(()),
+        }
+    }
+
+    /// Returns since when the first unconfirmed call waits. None if there is none, and for call 0,
+    /// which waits from the start.
+    pub fn waiting_since(&self) -> Option<Instant> {
+        if let Some(call) = &self.in_flight {
+            return call.added;
+        }
+        let (_line, moment) = self.waiting.first()?.added?;
+        Some(moment)
+    }
+
+    /// Records that an event in a site's history added the calls to its point below the number
+    /// `next`.
+    fn add(&mut self, next: u64, event: &Event<'_>) -> Result<(), AllocError> {
         for number in self.count..next {
             self.waiting.push(UnsentCall {
                 number,
-                line: Some(line),
+                added: Some((event.line, event.moment)),
             })?;
         }
         self.count = self.count.max(next);
         Ok(())
     }
 
-    /// Records that a call to the charge point went out after a line of a script or a journal, for
-    /// `show` and `check`.
-    pub(crate) fn sent(&mut self, alloc: Global, call: &Call, line: u64) -> Result<(), AllocError> {
+    /// Records that a call to the point went out, after the line of this number in a site's
+    /// history.
+    fn send(&mut self, alloc: Global, call: &Call, line: u64) -> Result<(), AllocError> {
         let number = call.number;
         let action = call.body.kind();
         let name = action.name();
@@ -94,29 +125,29 @@ impl PointCalls {
             action,
             fields,
             line,
+            added: self.added_at(number),
         });
         // Calls go out in the order of their numbers, so no earlier one waits.
         self.waiting.retain(|added| added.number > number);
         Ok(())
     }
 
-    /// Records that the first call of the point's outbox went out, at a line.
-    pub fn sent_first(
-        &mut self,
-        alloc: Global,
-        outbox: &Outbox,
-        line: u64,
-    ) -> Result<(), AllocError> {
-        let number = outbox.first_number();
-        match outbox.bodies(alloc)?.into_iter().next() {
-            Some(body) => self.sent(alloc, &Call { number, body }, line),
-            None => Ok(()),
+    /// Returns when the call of this number, which goes out now, was added. It waits, or went out
+    /// over an earlier link.
+    fn added_at(&self, number: u64) -> Option<Instant> {
+        match &self.in_flight {
+            Some(call) if call.number == number => call.added,
+            _ => {
+                let unsent = self.waiting.iter().find(|unsent| unsent.number == number)?;
+                let (_line, moment) = unsent.added?;
+                Some(moment)
+            }
         }
     }
 
-    /// Records that the point replied to the call in flight, at a line. If it did the call, earlier
-    /// rejections of an equal call are dropped.
-    pub fn confirmed(
+    /// Records that the point replied to the call in flight, at the line of this number in a site's
+    /// history. If it did the call, earlier rejections of an equal call are dropped.
+    fn confirm(
         &mut self,
         alloc: Global,
         memory: &mut ReadingMemory,

@@ -1,0 +1,119 @@
+//! Checks the history of a site, line by line of a script or event by event of a journal.
+
+use findings::{Finding, name_point};
+use message_findings::{ScriptCheck, check_printed};
+use profile_findings::{ProfileChange, check_change, check_installed_profiles};
+use replay::PlayedLine;
+use site_core::Machine;
+use site_history::{Event, EventKind, SiteRows, change_in, message_in};
+use std::alloc::{AllocError, Global};
+
+/// A check of a site's history, with the findings that weren't taken yet.
+#[derive(Drop)]
+pub(crate) struct HistoryCheck {
+    alloc: Global,
+    messages: ScriptCheck,
+    rows: SiteRows,
+    /// The findings in messages, in the answers to them, and in changes of profiles.
+    in_messages: Vec<Finding>,
+    in_answers: Vec<Finding>,
+    in_changes: Vec<Finding>,
+}
+
+impl HistoryCheck {
+    /// Begins a check, for `check` or `call`, when the points have these profiles.
+    pub(crate) fn begin(alloc: Global, rows: SiteRows) -> HistoryCheck {
+        HistoryCheck {
+            alloc,
+            messages: ScriptCheck::new(alloc),
+            rows,
+            in_messages: Vec::new(alloc),
+            in_answers: Vec::new(alloc),
+            in_changes: Vec::new(alloc),
+        }
+    }
+
+    /// Checks the script's line played last, for `check` or `call`, given the state after it.
+    pub(crate) fn check_line(
+        &mut self,
+        machine: &Machine,
+        played: &PlayedLine<'_>,
+    ) -> Result<(), AllocError> {
+        let alloc = self.alloc;
+        let mut in_message = self.messages.check_line(machine, played)?;
+        let printed = played.outcome.printed.as_slice();
+        let mut in_answer = check_printed(alloc, played.number, printed)?;
+        // A hint on a mistyped identity names the point that it means.
+        if let Some(sent) = message_in(played) {
+            if machine.site().place_of(sent.point()).is_some() {
+                name_point(alloc, &mut in_message, sent.point())?;
+                name_point(alloc, &mut in_answer, sent.point())?;
+            }
+        }
+        self.in_messages.append(&mut in_message)?;
+        self.in_answers.append(&mut in_answer)?;
+        match change_in(played) {
+            Some(event) => self.check_change(machine, &event),
+            None => Ok(()),
+        }
+    }
+
+    /// Checks an event of a journal for `check`, given the state after it.
+    pub(crate) fn check_event(
+        &mut self,
+        machine: &Machine,
+        event: &Event<'_>,
+    ) -> Result<(), AllocError> {
+        let mut in_message = self.messages.check_event(machine, event)?;
+        name_point(self.alloc, &mut in_message, event.point)?;
+        self.in_messages.append(&mut in_message)?;
+        self.check_change(machine, event)
+    }
+
+    /// Adds to the findings of `check` or `call` those in the change that an event made to the
+    /// profiles of its point.
+    fn check_change(&mut self, machine: &Machine, event: &Event<'_>) -> Result<(), AllocError> {
+        let Some(changed) = self.rows.read(machine, event)? else {
+            return Ok(());
+        };
+        let EventKind::Message { frame, .. } = event.kind else {
+            return Ok(());
+        };
+        let change = ProfileChange {
+            number: event.line,
+            frame,
+            came: changed.came,
+            gone: changed.gone.as_slice(),
+        };
+        let mut in_change = check_change(self.alloc, &change)?;
+        name_point(self.alloc, &mut in_change, event.point)?;
+        self.in_changes.append(&mut in_change)
+    }
+
+    /// Adds findings of `check` that follow those in the answers so far.
+    pub(crate) fn add(&mut self, mut findings: Vec<Finding>) -> Result<(), AllocError> {
+        self.in_answers.append(&mut findings)
+    }
+
+    /// Takes the findings in the lines so far, for `check` or `call`: first all in messages, then
+    /// those in answers, and those in changes of profiles.
+    pub(crate) fn take_findings(&mut self) -> Result<Vec<Finding>, AllocError> {
+        let mut findings = Vec::new(self.alloc);
+        findings.append(&mut self.in_messages)?;
+        findings.append(&mut self.in_answers)?;
+        findings.append(&mut self.in_changes)?;
+        Ok(findings)
+    }
+}
+
+/// Returns the findings of `check` or `call` in the profiles that the point of this identity has.
+pub(crate) fn find_at_point(
+    alloc: Global,
+    machine: &Machine,
+    point: &str,
+) -> Result<Vec<Finding>, AllocError> {
+    match machine.book_of(point) {
+        Some(book) => check_installed_profiles(alloc, machine.site().unit(), point, book),
+        None => Ok(Vec::new(alloc)),
+    }
+}
