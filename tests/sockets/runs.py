@@ -9,7 +9,6 @@ import re
 import resource
 import socket
 import subprocess
-import tempfile
 import threading
 import time
 
@@ -17,7 +16,7 @@ from days import Day, charging, compare, evening, morning, replay
 from python_client import PythonClient
 from raw_client import CLOSE, CONTINUATION, TEXT, RawClient, frame_bytes, request_bytes
 from run_data import SITE, Data, SiteFile, SmallDevice, done_with, of_script, once, read, run_words, size, stop, tell, transaction_of
-from serving import ENVIRONMENT, PATIENCE, Running, Unexpected, expect, until
+from serving import ENVIRONMENT, PATIENCE, Running, Unexpected, expect, limit, until
 from texts import (
     CALL_0, OCPP, accepted, ask, call, clear, error, heartbeat, install, install_call, plain_site, profile, site, start,
 )
@@ -672,29 +671,26 @@ def progress_of_readers(program):
 
 
 def long_journals(program):
-    """`check`, `call --data` and `--undo` read a journal that is longer than a script may be, and a longer one in no more memory."""
-    short, long = size((5_000, 20_000), (50, 200), (500_000, 2_000_000))
-    peaks = []
-    for installs in (short, long):
-        with Data() as data, SiteFile(SITE) as site:
-            write_installs(data, installs)
-            status, lines, said, peak = peak_of([program, "check", "--site", site, "--data", data.path])
-            tell(f"{installs} installs, {os.path.getsize(data.journal) / 1e6:.1f} MB: check takes {peak / 1024:.1f} MB")
-            peaks.append(peak)
-            replaced = [line for line in lines if " takes the place of TxDefaultProfile " in line]
-            expect("what check finds", (status, len(replaced)), (0, installs - 1))
-            last = 3 * installs  # behind a message before call 0, and that call's reply
-            wanted = f"script: line {last} (P1): remark: TxDefaultProfile {1 + installs % 2} takes the place of TxDefaultProfile {2 - installs % 2} "
-            expect("what it finds last", replaced[-1].startswith(wanted), True)
-            expect("how far it was", f"central: journal: {last + 2} lines, the last one of {moment_of(installs)}\n" in said, True)
-            with Running(program, SITE, data.path) as running:
-                call = [program, "call", "--url", f"ws://127.0.0.1:{running.port}/operator/P1", "--site", site, "--data", data.path, "--dry-run"]
-                undone = peak_of([*call, "--undo", str(last)])
-                expect("what would undo the last install", (undone[0], [json.loads(line)[3] for line in undone[1]]), (0, [periods_of(installs - 1)]))
-                status, _, said, _ = peak_of([*call, "--clear", '{"id":9}'])
-                expect("what is said of a clear", (status, "this clears nothing" in said), (0, True))
-    if "UNPROVED" not in os.environ:
-        expect(f"the memory for {long} installs beside {short}: {peaks} KB", peaks[1] < peaks[0] + 4_096, True)
+    """`check`, `call --data` and `--undo` read a journal that is longer than a script may be, and `check` in memory that is bounded."""
+    installs = size(20_000, 200, 1_450_000)
+    memory = {} if "UNPROVED" in os.environ else {resource.RLIMIT_AS: 36_000 * 1_024}
+    with Data() as data, SiteFile(SITE) as site:
+        write_installs(data, installs)
+        began = time.monotonic()
+        status, lines, said = done_within([program, "check", "--site", site, "--data", data.path], memory)
+        tell(f"{installs} installs, {os.path.getsize(data.journal) / 1e6:.0f} MB: check takes {time.monotonic() - began:.0f} s")
+        replaced = [line for line in lines if " takes the place of TxDefaultProfile " in line]
+        expect("what check finds", (status, len(replaced)), (0, installs - 1))
+        last = 3 * installs  # behind a message before call 0, and that call's reply
+        wanted = f"script: line {last} (P1): remark: TxDefaultProfile {1 + installs % 2} takes the place of TxDefaultProfile {2 - installs % 2} "
+        expect("what it finds last", replaced[-1].startswith(wanted), True)
+        expect("how far it was", f"central: journal: {last + 2} lines, the last one of {moment_of(installs)}\n" in said, True)
+        with Running(program, SITE, data.path) as running:
+            call = [program, "call", "--url", f"ws://127.0.0.1:{running.port}/operator/P1", "--site", site, "--data", data.path, "--dry-run"]
+            status, lines, _ = done_within([*call, "--undo", str(last)])
+            expect("what would undo the last install", (status, [json.loads(line)[3] for line in lines]), (0, [periods_of(installs - 1)]))
+            status, _, said = done_within([*call, "--clear", '{"id":9}'])
+            expect("what is said of a clear", (status, "this clears nothing" in said), (0, True))
 
 
 def moment_of(install):
@@ -719,15 +715,13 @@ def write_installs(data, count):
             file.write(f"{moment} reply P1 1 {accepted(str(number))}\n")
 
 
-def peak_of(words):
-    """What a command ends with, prints and says, and the most memory that it took, in KB."""
-    with tempfile.TemporaryFile() as out, tempfile.TemporaryFile() as said:
-        with subprocess.Popen(words, stdin=subprocess.DEVNULL, stdout=out, stderr=said, env=ENVIRONMENT) as process:
-            _, status, used = os.wait4(process.pid, 0)
-            process.returncode = os.waitstatus_to_exitcode(status)
-        for file in (out, said):
-            file.seek(0)
-        return process.returncode, out.read().decode().splitlines(), said.read().decode(), used.ru_maxrss
+def done_within(words, limits=None):
+    """What a command ends with, prints and says, within limits."""
+    done = subprocess.run(
+        words, stdin=subprocess.DEVNULL, capture_output=True, timeout=None if "LARGE" in os.environ else PATIENCE, check=False,
+        env=ENVIRONMENT, preexec_fn=lambda: limit(limits or {}),
+    )
+    return done.returncode, done.stdout.decode().splitlines(), done.stderr.decode()
 
 
 def write_late(path, whole):
