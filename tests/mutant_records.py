@@ -45,14 +45,21 @@ def below(crates, crate):
     return sorted(found.union(*(below(crates, name) for name in found)))
 
 
-def fault_of(top, crate, edit):
-    """Why a mutant can't be applied, or None. This reads what `rt must-fail` reads."""
-    path, old, texts, was = "", None, {}, {}
+def mutated(top, crate, edit):
+    """The files that a mutant changes, with their texts then, and why it can't be applied, or None. It reads what rt reads."""
+    texts, was = {}, {}
+    why = mutate(os.path.join(top, "crates", crate), edit, texts, was)
+    return texts, why or (None if texts != was else "it changes nothing")
+
+
+def mutate(folder, edit, texts, was):
+    """Reads the files that a mutant names into both, and changes them in the first. Why it can't, or None."""
+    path, old = "", None
     for line in read(edit).split("\n"):
         if line.startswith("file: "):
             path = line.removeprefix("file: ").strip()
             if path not in texts:
-                place = os.path.join(top, "crates", crate, path)
+                place = os.path.join(folder, path)
                 if not path.startswith(("src/", "specs/", "proofs/")) or not os.path.isfile(place):
                     return f"there is no file {path}"
                 texts[path] = was[path] = read(place)
@@ -65,7 +72,7 @@ def fault_of(top, crate, edit):
             if found != 1:
                 return f"its old text is in {path} {found} times: {old}"
             texts[path], old = texts[path].replace(old, line.removeprefix("new:").removeprefix(" ")), None
-    return None if texts != was else "it changes nothing"
+    return None
 
 
 def read(path):
@@ -149,15 +156,30 @@ def sum_of(folder, texts):
 def sums_of(top, crate):
     """The two sums of a crate as it stands: `own` and `below`."""
     folder = os.path.join(top, "crates", crate)
-    files = [path for part in ("src", "specs", "proofs") for path in files_below(os.path.join(folder, part))]
-    own = [(path, without_comments(path)) for path in files]
+    own = sources_of(top, crate)
     own += [(path, read(path)) for path in (os.path.join(folder, "edits", name) for name in edits_of(top, crate))]
+    return sum_of(folder, own), sum_below(top, crate)
+
+
+def sources_of(top, crate):
+    """The files that the proof of a crate reads, without their comments."""
+    folder = os.path.join(top, "crates", crate)
+    files = [path for part in ("src", "specs", "proofs") for path in files_below(os.path.join(folder, part))]
+    return [(path, without_comments(path)) for path in files]
+
+
+def sum_of_sources(top, crate):
+    return sum_of(os.path.join(top, "crates", crate), sources_of(top, crate))
+
+
+def sum_below(top, crate):
+    """The sum of what the libraries below a crate state."""
     stated = []
     for library in below(crates_of(top), crate):
         place = os.path.join(top, "crates", library)
         stated += [(path, without_comments(path)) for path in files_below(os.path.join(place, "specs"))]
         stated += [(path, statements_of(path)) for path in files_below(os.path.join(place, "src"))]
-    return sum_of(folder, own), sum_of(os.path.join(top, "crates"), stated)
+    return sum_of(os.path.join(top, "crates"), stated)
 
 
 def place_of(top, crate):

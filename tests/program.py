@@ -796,7 +796,7 @@ def order_problems(program, folder):
     ):
         yield name, list(differences(run_on(program, arguments, folder, False), b"", error, status))
     # What is found in a site file is told first.
-    for name, site, found in (("a site file with a fault", bad, b"a list stands there"), ("a site file with a remark", good, b"remark: ")):
+    for name, site, found in (("a site file with a fault", bad, b"found a list"), ("a site file with a remark", good, b"remark: ")):
         done = run_on(program, ["check", "--site", site], folder, False)
         ok = (done.returncode, done.stderr) == (3, read) and found in done.stdout
         yield f"check: {name}, and no script", [] if ok else [f"{done}"]
@@ -845,7 +845,7 @@ def check_and_show_problems(program, folder):
         ("a clear of everything", good, CLEAR, 2, (b"script: line 1 (CP1): warning: ", b"clears EVERYTHING", b'"chargingProfileId"')),
         ("a line that says nothing", good, b"\n" + b"x\n", 1, (b"script: line 2: BadLine: ",)),
         ("an unknown point", good, heartbeat.replace(b"CP1", b"CP2"), 1, (b"line 1: UnknownPoint", b"CP1")),
-        ("a site file with a fault", bad, CLEAR, 1, (b"a list stands there", b"an object such as")),
+        ("a site file with a fault", bad, CLEAR, 1, (b"found a list", b"an object such as")),
     ):
         done = run(program, ["check", "--site", site], script)
         ok = done.returncode == status and not done.stderr and all(text in done.stdout for text in wanted)

@@ -70,19 +70,19 @@ FAULTS = r'''
 FOUND = r'''
 {"unit":"A","points":[{"id":"CP1","ceiling":63.0,"connectors":[32.0,31.0]}]} => -
 {"unit":"A","points":[{"id":"CP1","ceiling":63.0,"connectors":[32.0,32.0]}]} => points[0] (CP1): remark: the connectors' ceilings are 64.0 together
-{"unit":"A","points":[{"id":"CP1","ceiling":"63","connectors":[1]}]} => points[0] (CP1): ceiling: "63" is a string; a number from 0 to 100000000.0 with at most one decimal is wanted
+{"unit":"A","points":[{"id":"CP1","ceiling":"63","connectors":[1]}]} => points[0] (CP1): ceiling: "63" is a string; expected a number from 0 to 100000000.0 with at most one decimal
 {"unit":"A","points":[{"id":"CP1","ceilng":63.0,"connectors":[1]}]} => is "ceilng" meant + line 1, column 35: warning: "ceilng" is no field
 {"unit":"A","points":[{"id":"CP1","ceiling":63.25,"connectors":[32.05,1]}]} => points[0] (CP1): ceiling: 63.25 is a number + points[0] (CP1): connectors[0]: 32.05 is a number
-{"unit":"A","points":[{"id":"CP1","ceiling":63.0,"connectors":2}]} => connectors: 2 is a number; a list of 1 to 64 ceilings
-{"unit":"A","points":{"id":"CP1"}} => points: an object stands there
-{"unit":"kW","points":[]} => unit: "kW" is a string; "A" or "W" is wanted + points: 0 entries
+{"unit":"A","points":[{"id":"CP1","ceiling":63.0,"connectors":2}]} => connectors: 2 is a number; expected a list of 1 to 64 ceilings
+{"unit":"A","points":{"id":"CP1"}} => points: found an object
+{"unit":"kW","points":[]} => unit: "kW" is a string; expected "A" or "W" + points: 0 entries
 {"unit":"A","points":[{"id":"CP1","ceiling":1,"connectors":[1]},{"id":"CP2","ceiling":1,"connectors":[1]},{"id":"CP1","ceiling":1,"connectors":[1]}]} => points[2] (CP1): id: points[0] has it too
 {"unit":"A","points":[{"id":"CP1","ceiling":1,"connectors":[1]},7,{"id":"C P","connectors":null}]} => points[1]: 7 is a number + points[2] (C P): id: "C P" is a string + points[2] (C P): ceiling: it is absent + points[2] (C P): connectors: null counts as absent
-{"unit":"A","points":[{"id":"CP1","ceiling":63.0,"connectors":[32.0,]}]} => line 1, column 69: a value is wanted behind the comma, and `]` stands there: the comma before it is one too many
-{"unit":"A",// amperes => line 1, column 13: a name in double quotes is wanted behind the comma, and `/` stands there: JSON has no comments
-{"unit":"A","points":[{"id":"CP1","ceiling":63.0,"connectors":[32.0]}] => line 1, column 71: `,` or `}` is wanted, and the JSON ends
-{"unit":"A" "points":[]} => line 1, column 13: `,` or `}` is wanted, and `"` stands there: a comma is missing before it
-{"unit":"A","points":[{"id":"CP1","ceiling":.5}]} => line 1, column 45: a value is wanted, and `.` stands there
+{"unit":"A","points":[{"id":"CP1","ceiling":63.0,"connectors":[32.0,]}]} => line 1, column 69: expected a value after the comma, found `]`: the comma before it is one too many
+{"unit":"A",// amperes => line 1, column 13: expected a name in double quotes after the comma, found `/`: JSON has no comments
+{"unit":"A","points":[{"id":"CP1","ceiling":63.0,"connectors":[32.0]}] => line 1, column 71: expected `,` or `}`, but the JSON ends
+{"unit":"A" "points":[]} => line 1, column 13: expected `,` or `}`, found `"`: a comma is missing before it
+{"unit":"A","points":[{"id":"CP1","ceiling":.5}]} => line 1, column 45: expected a value, found `.`
 {"unit":"A","points":[{"id":"CP1","ceiling":1,"connectors":[1],"phases":3}],"name":"garage"} => column 64: warning: "phases" is no field that is looked at + column 77: warning: "name" is no field
 '''
 
@@ -90,7 +90,7 @@ FOUND = r'''
 FIRST_LINES = {
     "NotUtf8": r"the file: it isn't UTF-8 from the byte at offset \d+ on",
     "NotJson": r"line \d+, column \d+: (?!warning|remark)",
-    "NotAnObject": r"the file: .*; an object such as ",
+    "NotAnObject": r"the file: .*; expected an object such as ",
     "BadUnit": r"the file: unit: ",
     "BadPoints": r"(the file: points|points\[\d+\]): (?!warning|remark)",
     "BadId": r"points\[\d+\][^:]*: id: (?!points\[)",
@@ -139,15 +139,15 @@ def found_in_files():
         content, _, pieces = row.partition(" => ")
         yield content.encode(), [] if pieces == "-" else pieces.split(" + ")
     yield b'{"unit":"\xff"}', ["the file: it isn't UTF-8 from the byte at offset 9 on"]
-    yield b"\xef\xbb\xbf{}", ["U+FEFF stands there: a byte order mark"]
-    yield b'{"unit":"A",\r\n "points":[}\r\n', ["line 2, column 12: a value or `]` is wanted"]
+    yield b"\xef\xbb\xbf{}", ["U+FEFF: a byte order mark"]
+    yield b'{"unit":"A",\r\n "points":[}\r\n', ["line 2, column 12: expected a value or `]`"]
     many = [point(f"CP{number}") for number in range(1_001)]
     yield site_of(*many[:1_000]), []
-    yield site_of(*many), ["points: 1001 entries; 1 to 1000 are wanted"]
+    yield site_of(*many), ["points: 1001 entries; expected 1 to 1000"]
     yield site_of(point("CP1", ",".join(["1"] * 64))), []
-    yield site_of(point("CP1", ",".join(["1"] * 65))), ["connectors: 65 entries; 1 to 64 are wanted", "remark"]
+    yield site_of(point("CP1", ",".join(["1"] * 65))), ["connectors: 65 entries; expected 1 to 64", "remark"]
     for count in (1_000, 2_000, 2_001):
-        too_many = ["points: %d entries; 1 to 1000 are wanted" % count] if count > 1_000 else []
+        too_many = ["points: %d entries; expected 1 to 1000" % count] if count > 1_000 else []
         numbers = [f"points[{number}]: {number} is a number" for number in range(min(count, 2_000))]
         more = ["warning: there are more than 2000 faults and remarks"] if count > 2_000 else []
         yield site_of(*map(str, range(count))), too_many + numbers + more

@@ -96,7 +96,7 @@ def remote_starts_of_call(program):
         profile.write("}")
         profile.flush()
         given = operator(serving, "--remote-start", "1", "T1", profile.name)
-        why = b"remote-start: line 3, column 1: nothing more is wanted behind the value, and `}` stands there\n"
+        why = b"remote-start: line 3, column 1: expected nothing after the value, found `}`\n"
         expect("no JSON", given, (2, b"! remote-start NotACall\n", why))
         expect("the totals", serving.totals(), (2, 2))
     missing = b"central: /none: No such file or directory (os error 2)\ncentral: device: read\n"
@@ -143,12 +143,12 @@ def lines_of_call(program):
         b'[4,"e","TypeConstraintViolation","duration",{}]\n'
     )
     why = (
-        b"2: its JSON breaks at column 7, where `,` or `]` is wanted, and the JSON ends\n"
+        b"2: its JSON breaks at column 7: expected `,` or `]`, but the JSON ends\n"
         b"4: an operator sends CALLs, which begin with [2,\n"
         b'6: NotImplemented: "Reset" is no action of an operator that is known here\n'
         b"6: NotImplemented: the action isn't known here, or is one of the other side\n"
         b"7: FormationViolation: the CALL is malformed: its action is no string, or its payload no object\n"
-        b'8: TypeConstraintViolation: duration: "60" is a string; a whole number of seconds from 0 on is wanted\n'
+        b'8: TypeConstraintViolation: duration: "60" is a string; expected a whole number of seconds from 0 on\n'
         b"8: TypeConstraintViolation: duration: the field is of another kind of JSON than it has to be\n"
     )
     first, *others = wanted.splitlines(True)
@@ -165,7 +165,7 @@ def lines_of_call(program):
 
 def held_back(program):
     """A call that would be refused isn't sent, but by `--force`; `--dry-run` sends nothing, and needs nobody who listens."""
-    why = b'clear: TypeConstraintViolation: id: "1" is a string; a whole number from -2147483648 to 2147483647 is wanted\n'
+    why = b'clear: TypeConstraintViolation: id: "1" is a string; expected a whole number from -2147483648 to 2147483647\n'
     asked = b'[2,"ask","GetCompositeSchedule",{"connectorId":1,"duration":60}]\n'
     with Serving(program, SITE, 2) as serving:
         given = operator(serving, "--clear", '{"id":"1"}', "--ask", "1", "60")
@@ -225,7 +225,7 @@ def faults_of_call(program):
     closed = b"central: url: closed by the central system, which may have no such point\n"
     with Serving(program, SITE, 1) as serving, tempfile.NamedTemporaryFile("wb") as binary, tempfile.NamedTemporaryFile("wb") as long:
         expect("no such point", operator(serving, "--ask", "1", "60", point="P2"), (3, b"", closed))
-        why = b"clear: line 1, column 2: a name in double quotes or `}` is wanted, and `i` stands there\n"
+        why = b"clear: line 1, column 2: expected a name in double quotes or `}`, found `i`\n"
         expect("no JSON", operator(serving, "--clear", "{id:1}"), (2, b"! clear NotACall\n", why))
         for file, content in ((binary, b"\xff"), (long, b" " * 1_048_577)):
             file.write(content)

@@ -59,10 +59,11 @@ def same_in_each_reader(program, history, data):
     for command, same in (
         (("show", "--json"), state_shown),
         (("check",), findings),
-        *((("explain", *where, "--json"), json.loads) for where in places(history)),
+        *((("explain", *where, "--json"), limits_explained) for where in places(history)),
     ):
         seen, wanted = read(program, data, *command, of=SITE), of_script(program, script, *command, of=SITE)
         expect_same(f"what {' '.join(command[:5])} says of the journal", same(seen[1]), same(wanted[1]))
+    expect("whether explain has the states of show", states_explained(program, history, data), [])
     found, traced = (found_in_history(read(program, data, "check", *more, of=SITE)[1]) for more in ((), ("--trace",)))
     expect_same("what check finds in the journal, followed and as a script", found, traced)
     replayed = read(program, data, "replay", of=SITE)[1].splitlines()
@@ -85,6 +86,31 @@ def places(history):
         connector = history.chance.randint(0, CONNECTORS)
         start = f"2025-01-{history.chance.randint(1, 28):02}T{history.chance.randrange(24):02}:30:00Z"
         yield "--point", point.name, "--connector", str(connector), "--start", start, "--duration", "100000"
+
+
+def causes_in(explained):
+    return [part["cause"] for interval in explained["intervals"] for part in (interval, *interval["shares"])]
+
+
+def limits_explained(page):
+    """What `explain` says, but for whether points hold the profiles, which it says of a journal alone."""
+    explained = json.loads(page)
+    for cause in causes_in(explained):
+        for name in ("state", "since"):
+            cause.pop(name, None)
+    return explained
+
+
+def states_explained(program, history, data):
+    """The causes in `explain` of which it doesn't say the state that `show` says of the profile."""
+    shown = json.loads(read(program, data, "show", "--json", of=SITE)[1])["points"]
+    states = {(point["id"], row["csChargingProfiles"]["chargingProfileId"]): row["state"] for point in shown for row in point["profiles"]}
+    other = []
+    for where in places(history):
+        causes = causes_in(json.loads(read(program, data, "explain", *where, "--json", of=SITE)[1]))
+        named = [cause for cause in causes if cause["kind"] == "Profile"]
+        other += [cause for cause in named if cause.get("state") != states[where[1], cause["chargingProfileId"]]]
+    return other
 
 
 def state_shown(page):

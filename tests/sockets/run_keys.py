@@ -139,6 +139,27 @@ def what_is_said_of_others(program):
         expect("what else is said", running.kill_and_hear(), b"")
 
 
+def names_in_the_journal(program):
+    """The journal's line of an operator's change has the name of the key. Without keys it has none, whatever user a client gives."""
+    first, second = install("i", profile(1, [9])), install("j", profile(2, [8], level=1))
+    with Keys(program) as keys, Data() as data, SiteFile(SITE) as site:
+        with Running(program, SITE, data.path, keys=keys.path) as running, RawClient(running) as operator:
+            expect("its handshake", operator.shake_hands("/operator/P1", [PROTOCOL, basic("ann", keys.of["ann"].encode())]).status, 101)
+            expect("an answer", operator.texts_of(first), [accepted("i")])
+        expect("with keys", data.lines(), [f"operator:ann P1 1 {first}"])
+        with Running(program, SITE, data.path) as running, RawClient(running) as operator:
+            expect("its handshake", operator.shake_hands("/operator/P1", [PROTOCOL, basic("a b", b"key")]).status, 101)
+            expect("an answer", operator.texts_of(second), [accepted("j")])
+        expect("without keys", data.lines(), [f"operator:ann P1 1 {first}", f"operator P1 2 {second}"])
+        status, script, _ = done(program, "journal", "--data", data.path)
+        said = [line.partition(" ")[2] for line in script.splitlines()]
+        expect("the script", (status, said), (0, [f"operator P1 {first}", f"operator P1 {second}"]))
+        for line, sender in ((1, "operator:ann"), (2, "operator")):
+            words = "--url", "ws://127.0.0.1:9/operator/P1", "--data", data.path, "--site", site, "--undo", str(line), "--dry-run"
+            found = re.search(rf"undo: line {line} is \S+ (\S+) P1 ", done(program, "call", *words)[2])
+            expect("an undo says who", found and found[1], sender)
+
+
 def clients_with_keys(program):
     """`call` and `point` come with the name and the key of a file, and aren't let in without."""
     with Keys(program) as keys, Data() as data, Running(program, SITE, data.path, keys=keys.path) as running, SiteFile(SITE) as site:
@@ -214,7 +235,7 @@ def without_keys(program):
             expect("an operator", operator.texts_of(install("i", profile(1, [9]))), [accepted("i")])
     with Data() as data, SiteFile(SITE) as site:
         status, printed, said = done(program, "run", "--site", site, "--data", data.path, "--listen", "0.0.0.0:0")
-        wanted = "central: command line: without --keys it listens at this machine alone, such as 127.0.0.1:9000\n"
+        wanted = "central: command line: without --keys it listens only on this machine, such as at 127.0.0.1:9000\n"
         expect("an address of all networks", (status, printed, said), (4, "", wanted))
 
 
@@ -285,6 +306,7 @@ def faulty_keys(program):
 def tests():
     yield "who may come", who_may_come
     yield "what is said of others", what_is_said_of_others
+    yield "names in the journal", names_in_the_journal
     yield "clients with keys", clients_with_keys
     yield "examples with keys", examples_with_keys
     yield "checked keys", checked_keys

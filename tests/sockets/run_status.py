@@ -33,6 +33,7 @@ BREACHES = {
 }
 
 INSTANT = re.compile(r"\d{4}-\d\d-\d\dT\d\d:\d\d:\d\dZ")
+LIMITING = "TxDefaultProfile 1, stack level 0, at connector 0"
 
 
 def get(running, path, method="GET"):
@@ -291,6 +292,8 @@ def replies_that_accept_nothing(program):
         # They stand in the journal: a restart tells the same of them.
         running.kill()
         expect("what explain says", notes_of_explain(program, data), ["central: P1 rejected TxDefaultProfile 1 at connector 0, at AT by its reply to call 5"])
+        rejected = f"{LIMITING}, rejected by the point at AT", "rejected"
+        expect("the cause in explain", cause_in_explain(program, data), rejected)
         with Running(program, SITE, data.path, has_status=True) as again:
             then = point_of(again)
             del now["rejected"]["moment"], then["rejected"]["moment"]  # of the message, which came a little earlier
@@ -317,6 +320,8 @@ def an_audit_that_differs(program):
                 point.texts_of(heartbeat(f"then{number}"))  # its answer waits for the disk
                 lost = ["central: P1 may have lost TxDefaultProfile 1 at connector 0, at AT"]
                 expect(f"what explain says, told {limit}", notes_of_explain(program, data), lost if differs else [])
+                cause = (f"{LIMITING}, perhaps lost by the point at AT", "unsure") if differs else (LIMITING, "held")
+                expect(f"the cause in explain, told {limit}", cause_in_explain(program, data), cause)
 
 
 def states_of(running):
@@ -324,10 +329,20 @@ def states_of(running):
     return [entry["state"] for entry in point_of(running)["profiles"]]
 
 
+EXPLAINED = ("--point", "P1", "--connector", "1", "--start", "2030-01-01T00:00:00Z", "--duration", "60")
+
+
 def notes_of_explain(program, data):
     """What `explain` says on standard error of profiles that the point rejected or may have lost."""
-    explained = ("--point", "P1", "--connector", "0", "--start", "2030-01-01T00:00:00Z", "--duration", "60")
-    return INSTANT.sub("AT", read(program, data, "explain", *explained)[2]).splitlines()[1:]
+    return INSTANT.sub("AT", read(program, data, "explain", *EXPLAINED)[2]).splitlines()[1:]
+
+
+def cause_in_explain(program, data):
+    """The cause of P1's limit in `explain`'s table, and its state in the JSON."""
+    table, line = (read(program, data, "explain", *EXPLAINED, *form)[1] for form in ((), ("--json",)))
+    cause = json.loads(line)["intervals"][0]["cause"]
+    expect("since when", cause.get("since", "-") in table or cause["state"] == "held", True)
+    return INSTANT.sub("AT", table.splitlines()[3].partition(" A  ")[2]), cause["state"]
 
 
 def boots_in(data):
@@ -591,7 +606,7 @@ def refused_addresses(program):
             file.write(SITE)
         words += ["--site", file.name]
         done = subprocess.run([program, *words], capture_output=True, timeout=PATIENCE, check=False, env=ENVIRONMENT)
-        said = "central: command line: without --status-open the status port is at this machine alone, such as 127.0.0.1:9100\n"
+        said = "central: command line: without --status-open the status port is only on this machine, such as at 127.0.0.1:9100\n"
         expect("how it ends", (done.returncode, done.stderr.decode()), (4, said))
 
 

@@ -644,9 +644,13 @@ def readers(program):
                 expect(f"what {' '.join(command)} says", bool(re.fullmatch(wanted, said)), True)
 
 
+# What `explain` says behind a cause of a journal, and not of a script.
+HELD = re.compile(r", (?:not confirmed by the point since|perhaps lost by the point at|rejected by the point at) \S+Z$", re.MULTILINE)
+
+
 def without_links(status, out):
-    """What a command says, but for whether points have links: a script has a link from its point's first message on."""
-    return status, re.sub(r'"linked":\w+,', "", out)
+    """What a command says, but for whether points have links and hold profiles: a script has a link from its point's first message on."""
+    return status, HELD.sub("", re.sub(r'"linked":\w+,', "", out))
 
 
 def progress_of_readers(program):

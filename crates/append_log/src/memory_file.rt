@@ -86,6 +86,7 @@ impl MemoryFile {
 impl AppendedFile for MemoryFile {
     ghost history = { λ file. file.calls.history };
 
+    /// Appends as many of the bytes as the next planned answer allows.
     fn append(&mut self, bytes: &[u8]) -> Result<usize, WriteFault> {
         let planned = self.answers.pop().unwrap_or(FileAnswer::Made);
         let answer = append_some(&mut self.bytes, planned, bytes);
@@ -100,6 +101,7 @@ impl AppendedFile for MemoryFile {
         answer
     }
 
+    /// Counts all bytes in memory as synced, unless the next planned answer is a failure.
     fn sync(&mut self) -> io::Result<()> {
         if let Some(FileAnswer::Failed) = self.answers.pop() {
             self.has_failed = true;
@@ -111,6 +113,7 @@ impl AppendedFile for MemoryFile {
         Ok(())
     }
 
+    /// Cuts the bytes in memory, unless the next planned answer is a failure.
     fn cut(&mut self, end: u64) -> io::Result<()> {
         if let Some(FileAnswer::Failed) = self.answers.pop() {
             self.has_failed = true;

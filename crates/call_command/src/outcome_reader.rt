@@ -96,19 +96,13 @@ impl<'a, R: Clock> OutcomeReader<'a, R> {
 }
 
 impl<R: Clock> EventReader for OutcomeReader<'_, R> {
-    fn before(&mut self, _machine: &Machine, _line: u64, _point: &str) -> Result<(), FolderFault> {
-        Ok(())
-    }
-
     fn read(&mut self, machine: &Machine, event: &Event<'_>) -> Result<(), FolderFault> {
-        self.calls.read(machine, event)?;
+        self.calls.follow(machine, event)?;
         Ok(())
     }
 
-    fn end_part(&mut self) -> Result<(), FolderFault> {
-        Ok(())
-    }
-
+    /// Pauses and returns true, if a visited point hasn't replied to all its calls and time is
+    /// left.
     fn waits(&mut self, machine: &Machine) -> bool {
         self.note_ends(machine);
         if !self.awaits_any(machine) || self.is_over() {

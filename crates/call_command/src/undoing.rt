@@ -31,14 +31,6 @@ impl EventReader for UndoneJournal {
         self.reader.read(machine, event)?;
         Ok(())
     }
-
-    fn end_part(&mut self) -> Result<(), FolderFault> {
-        Ok(())
-    }
-
-    fn waits(&mut self, _machine: &Machine) -> bool {
-        false
-    }
 }
 
 /// Returns the calls that bring the point of a journal's line back to its profiles before that

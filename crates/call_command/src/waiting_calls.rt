@@ -14,13 +14,12 @@ use std::alloc::AllocGlobal;
 use std::fs::File;
 use std::rt::{Clock, Files};
 
-/// The exit status if a point rejected a call, or didn't reply in time.
+/// The exit status if a point rejected a call, or didn't reply in time, or if that isn't known.
 const NOT_DONE: u8 = 5;
 
 /// Prints which of the visited points aren't connected, or have calls that wait behind another, by
 /// the journal of the folder, if one is named. With `--wait` first waits for their replies, and
-/// prints which calls they rejected. Returns the exit status by that. If the journal can't be
-/// followed, no answer is lost.
+/// prints which calls they rejected. Returns the exit status by that.
 pub fn say_outcomes<R: Files<File = File> + Clock + Eprint + AllocGlobal>(
     rt: &R,
     calling: Calling<'_>,
@@ -35,10 +34,11 @@ pub fn say_outcomes<R: Files<File = File> + Clock + Eprint + AllocGlobal>(
     let site = read_site_file(rt, path)?;
     match say_followed(rt, calling.wait, folder, site, visits) {
         Ok(status) => Ok(status),
-        // The calls are sent by now, so this fault doesn't change the exit status.
+        // The calls are sent and answered by now: the fault changes the status only of who waits for
+        // the replies.
         Err(fault) => {
             let _ = eprintln!(rt; "central: which calls wait isn't known: {fault}");
-            Ok(0)
+            Ok(calling.wait.map_or(0, |_seconds| NOT_DONE))
         }
     }
 }

@@ -105,10 +105,10 @@ pub enum ProgramFault {
     #[error("central: command line: --after-boot has the value nothing, or isn't given")]
     AfterBoot,
     /// Without keys, no client on another machine may connect.
-    #[error("central: command line: without --keys it listens at this machine alone, such as 127.0.0.1:9000")]
+    #[error("central: command line: without --keys it listens only on this machine, such as at 127.0.0.1:9000")]
     NoKeys,
-    /// The status port has no passwords.
-    #[error("central: command line: without --status-open the status port is at this machine alone, such as 127.0.0.1:9100")]
+    /// The status port has no passwords, so other machines may reach it only with `--status-open`.
+    #[error("central: command line: without --status-open the status port is only on this machine, such as at 127.0.0.1:9100")]
     StatusOpen,
     /// A URL can't be that of a status port.
     #[error("central: url: not http://HOST:PORT")]

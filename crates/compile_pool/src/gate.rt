@@ -17,5 +17,6 @@ pub trait Gate {
 pub struct Open;
 
 impl Gate for Open {
+    /// Delays no worker.
     fn enter(&self, _number: u64) {}
 }

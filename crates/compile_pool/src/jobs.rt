@@ -52,7 +52,7 @@ impl<'a> Jobs<'a> {
         if short { self.short } else { self.long }
     }
 
-    /// Sends a job to its channel, once that has room. The job comes back if the channel has no
+    /// Sends a job to its channel as soon as that has room. Returns the job if the channel has no
     /// worker any more.
     pub fn send<R: Wait>(&self, rt: &R, job: Job) -> Result<(), Job>
         ensures back { IfErr result (λ back. back ≡ job) }
@@ -64,8 +64,7 @@ impl<'a> Jobs<'a> {
         }
     }
 
-    /// Sends a job to its channel, if that has room at once. `short` may be true only of a short
-    /// job.
+    /// Sends a job to its channel if there is room now. `short` may be true only for a short job.
     pub fn try_send<R: Wait>(&self, rt: &R, job: Job, short: bool) -> Result<(), Unsent>
         requires short { IsTrue short → IsShort job }
         ensures back { IfErr result (λ unsent. job_of unsent ≡ job) }

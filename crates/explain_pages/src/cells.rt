@@ -2,7 +2,8 @@
 
 use crate::clock::{ClockTime, needs_seconds, push_date, push_time};
 use crate::explained_request::ExplainedRequest;
-use crate::words::{push_length, push_limit, push_why};
+use crate::known_profile::KnownProfile;
+use crate::words::{push_known_why, push_length, push_limit};
 use crate::zone_clock::ZoneClock;
 use page_text::Page;
 use std::alloc::{AllocError, Global};
@@ -29,21 +30,24 @@ pub(crate) struct CellMaker<'a> {
     /// The zone to which times are local; UTC without one.
     zone: Option<ZoneClock<'a>>,
     with_seconds: bool,
+    known: &'a [KnownProfile<'a>],
     /// The day on which the interval before starts.
     day: Option<u64>,
 }
 
 impl<'a> CellMaker<'a> {
     /// Returns a formatter of the intervals of an explained schedule as table cells, with times
-    /// local to a zone or in UTC.
+    /// local to a zone or in UTC. The causes name what the point doesn't hold of these profiles.
     pub(crate) fn new(
         explained: &'a ExplainedRequest<'a>,
         zone: Option<ZoneClock<'a>>,
+        known: &'a [KnownProfile<'a>],
     ) -> CellMaker<'a> {
         CellMaker {
             explained,
             zone,
             with_seconds: needs_seconds(explained, zone),
+            known,
             day: None,
         }
     }
@@ -64,7 +68,7 @@ impl<'a> CellMaker<'a> {
         let mut limit = Page::new(alloc);
         push_limit(&mut limit, interval.reason.limit, self.explained.unit);
         let mut why = Page::new(alloc);
-        push_why(&mut why, &interval.reason, self.explained.unit);
+        push_known_why(&mut why, &interval.reason, self.explained.unit, self.known);
         Ok(Cells {
             from: self.time(alloc, from, dates.0)?,
             to: self.time(alloc, to, dates.1)?,
@@ -93,8 +97,9 @@ pub(crate) fn all_cells(
     alloc: Global,
     explained: &ExplainedRequest<'_>,
     zone: Option<ZoneClock<'_>>,
+    known: &[KnownProfile<'_>],
 ) -> Result<Vec<Cells>, AllocError> {
-    let mut maker = CellMaker::new(explained, zone);
+    let mut maker = CellMaker::new(explained, zone, known);
     let mut all = Vec::new(alloc);
     for interval in explained.intervals {
         all.push(maker.cells(alloc, interval)?)?;

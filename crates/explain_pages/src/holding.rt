@@ -20,8 +20,8 @@ use recurrence::{next_change, rate_at};
 const END_OF_TIME: u64 = LAST_SECOND + 1;
 
 impl RowAtConnector<'_> {
-    /// Returns whether a profile's row is installed at another connector, which is a reason that
-    /// `explain` gives for a profile that doesn't prevail.
+    /// Returns whether a profile's row is installed at another connector. `explain` gives this as a
+    /// reason why the profile doesn't prevail.
     pub(crate) fn is_elsewhere(&self) -> bool
         ensures { result ≡ is_elsewhere self.now.row.now.profile.purpose self.now.at
             self.now.row.now.connector }
@@ -34,8 +34,8 @@ impl RowAtConnector<'_> {
         }
     }
 
-    /// Returns whether a profile's row needs a transaction and there is none, which is a reason
-    /// that `explain` gives for a profile that doesn't prevail.
+    /// Returns whether a profile's row needs a transaction and there is none. `explain` gives this
+    /// as a reason why the profile doesn't prevail.
     pub(crate) fn lacks_transaction(&self) -> bool
         ensures { result
             ≡ lacks_transaction (point_state self.now.view) self.now.at self.now.row.now }
@@ -56,8 +56,8 @@ impl RowAtConnector<'_> {
             && !is_candidate(Purpose::TxDefaultProfile, self.view.rows, self.at, self.row)
     }
 
-    /// Returns the instant from which `explain` counts the seconds of a charging profile's row that
-    /// has no start of its own.
+    /// Returns the instant from which `explain` counts the seconds of a charging profile's row
+    /// without a start of its own.
     pub(crate) fn base_of(&self, row: &Row) -> Instant
         ensures { result ≡ base row.now (active_since (point_state self.now.view) self.now.at)
             self.now.ask.start }
@@ -65,8 +65,7 @@ impl RowAtConnector<'_> {
         row.base(self.view.active_since(self.at), self.ask.start)
     }
 
-    /// Returns the instant at which the charging schedule of the profile that `explain` checks
-    /// begins.
+    /// Returns the start of the charging schedule of the profile that `explain` checks.
     pub(crate) fn anchor(&self) -> Instant
         ensures { result ≡ anchor self.now.row.now.profile (base self.now.row.now
             (active_since (point_state self.now.view) self.now.at) self.now.ask.start) }
@@ -74,8 +73,8 @@ impl RowAtConnector<'_> {
         self.row.profile.anchor(self.base_of(self.row))
     }
 
-    /// Returns until when the schedule of the profile that `explain` checks remains past its
-    /// duration, if it is past it at an instant.
+    /// Returns the instant until which the schedule of the profile that `explain` checks stays past
+    /// its duration, if it is past it at `instant`.
     pub(crate) fn over_until(&self, instant: Instant) -> Option<u64>
         ensures { IfSome result (IsSoUntil (Holds PastDuration self.now) instant) }
     {
@@ -89,8 +88,8 @@ impl RowAtConnector<'_> {
         Some(counts_on_until(profile, base, instant, offset))
     }
 
-    /// Returns until when none of the periods of the profile that `explain` checks has begun, if
-    /// none has at an instant.
+    /// Returns the instant until which no period of the profile that `explain` checks has begun, if
+    /// none has at `instant`.
     pub(crate) fn ahead_until(&self, instant: Instant) -> Option<u64>
         ensures { IfSome result (IsSoUntil (Holds BeforeFirstPeriod self.now) instant) }
     {
@@ -111,8 +110,8 @@ impl RowAtConnector<'_> {
         }
     }
 
-    /// Returns until when a profile of the same purpose and a higher stack level takes precedence
-    /// over the one that `explain` checks, if one does.
+    /// Returns the instant until which another profile of the same purpose has precedence over the
+    /// one that `explain` checks, if one has. Its stack level is higher.
     pub(crate) fn above_until(&self, instant: Instant) -> Option<u64>
         ensures { IfSome result (IsSoUntil (Holds BelowHigherLevel self.now) instant) }
     {
@@ -120,8 +119,8 @@ impl RowAtConnector<'_> {
         self.other_until(profile.purpose, profile.stack_level + 1, instant)
     }
 
-    /// Returns until when a TxProfile takes precedence over the row that `explain` checks, if the
-    /// row is a TxDefaultProfile and a TxProfile has a limit.
+    /// Returns the instant until which a TxProfile with a limit has precedence over the row that
+    /// `explain` checks, if one has. The row is a TxDefaultProfile's then.
     pub(crate) fn tx_until(&self, instant: Instant) -> Option<u64>
         ensures { IfSome result (IsSoUntil (Holds BehindTxProfile self.now) instant) }
     {
@@ -131,8 +130,8 @@ impl RowAtConnector<'_> {
         }
     }
 
-    /// Returns until when a profile of a purpose at the stack level `least` or above has a limit,
-    /// if one has. It may take precedence over the row that `explain` checks.
+    /// Returns the instant until which a profile of a purpose at the stack level `least` or above
+    /// has a limit, if one has. It may have precedence over the row that `explain` checks.
     fn other_until(&self, purpose: Purpose, least: u32, instant: Instant) -> Option<u64>
         ensures { IfSome result (IsSoUntil (λ k. Reaches least (prevailing_row purpose
             (point_state self.now.view) self.now.at self.now.ask.start k)) instant) }
@@ -154,8 +153,8 @@ impl RowAtConnector<'_> {
     }
 }
 
-/// Returns until when a reason that `explain` may give holds: to the end of time if it always
-/// holds, and `None` if it never does.
+/// Returns the instant until which a reason of `explain` holds: the end of time if it always holds,
+/// and `None` if it never does.
 pub(crate) fn always(holds: bool) -> Option<u64>
     ensures { result ≡ (if holds then Some (last_second + 1) else None) }
 {
@@ -175,8 +174,8 @@ pub(crate) fn before(bound: Option<Instant>, instant: Instant) -> Option<u64>
     }
 }
 
-/// Returns until when a charging profile keeps the limit that it has at an instant, or keeps having
-/// none, for `explain`'s reasons.
+/// Returns the instant until which a charging profile keeps the limit that it has at `instant`, or
+/// keeps having none, for `explain`'s reasons.
 pub(crate) fn rate_until(profile: &Profile, base: Instant, instant: Instant) -> u64
     ensures { IsSoUntil
         (λ k. rate profile.now base k ≡ rate profile.now base instant) instant result }
@@ -187,8 +186,8 @@ pub(crate) fn rate_until(profile: &Profile, base: Instant, instant: Instant) -> 
     }
 }
 
-/// Returns, for `explain`'s reasons, an instant until which a charging profile that has a limit now
-/// keeps having one. It may have one for longer.
+/// Returns, for `explain`'s reasons, an instant until which a charging profile with a limit keeps
+/// having one. It may have one for longer.
 fn limit_until(profile: &Profile, base: Instant, instant: Instant) -> u64
     requires { is_some (rate profile.now base instant) ≡ true }
     ensures { IsSoUntil (λ k. is_some (rate profile.now base k) ≡ true) instant result }
@@ -213,8 +212,8 @@ fn valid_until(profile: &Profile, instant: Instant) -> u64
     }
 }
 
-/// Returns, for `explain`'s reasons, until when a charging schedule counts on from the offset that
-/// it has at an instant. A recurring one then begins again.
+/// Returns, for `explain`'s reasons, the instant until which a charging schedule counts on from its
+/// offset at `instant`. A recurring one then begins again.
 fn counts_on_until(profile: &Profile, base: Instant, instant: Instant, at: u64) -> u64
     requires { offset profile.now base instant ≡ Some at }
     ensures { IsSoUntil

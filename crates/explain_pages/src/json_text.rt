@@ -1,6 +1,7 @@
 //! The JSON of an explained schedule (RFC 8259), for programs.
 
 use crate::explained_request::{ExplainedRequest, NotCounted};
+use crate::known_profile::{KnownProfile, known_cause};
 use crate::words::{reason_name, sentence};
 use meaning::{Cause, PrevailingProfile, Share};
 use messages::{purpose_name, unit_name};
@@ -12,14 +13,19 @@ use sweep_compiler::Interval;
 /// Formats an explained schedule as one line of JSON: `point`, `connector`, `unit`, `start`,
 /// `duration` in seconds, `intervals`, each with `start`, `end`, `limit`, `cause` and `shares`, and
 /// `notCounted`. Limits have one decimal, and instants are strings (RFC 3339). An `end` after the
-/// last instant is null.
-pub fn write_json(alloc: Global, explained: &ExplainedRequest<'_>) -> Result<String, AllocError> {
+/// last instant is null. The cause of a known profile has its `state` at the point, and `since`
+/// when.
+pub fn write_json(
+    alloc: Global,
+    explained: &ExplainedRequest<'_>,
+    known: &[KnownProfile<'_>],
+) -> Result<String, AllocError> {
     let mut line = JsonPage::new(alloc);
     line.begin_object();
     push_asked(&mut line, explained);
     line.array("intervals");
     for interval in explained.intervals {
-        push_interval(&mut line, explained, interval);
+        push_interval(&mut line, explained, interval, known);
     }
     line.end_array();
     line.array("notCounted");
@@ -43,37 +49,46 @@ fn push_asked(line: &mut JsonPage, explained: &ExplainedRequest<'_>) {
 
 /// Appends an interval to the JSON of an explained schedule, with its limit, its cause and its
 /// shares.
-fn push_interval(line: &mut JsonPage, explained: &ExplainedRequest<'_>, interval: &Interval) {
+fn push_interval(
+    line: &mut JsonPage,
+    explained: &ExplainedRequest<'_>,
+    interval: &Interval,
+    known: &[KnownProfile<'_>],
+) {
     line.begin_object();
     // A moment after the last instant becomes null.
     line.instant("start", Instant::try_new(explained.moment(interval.start)));
     line.instant("end", Instant::try_new(explained.moment(interval.end)));
-    push_limit(line, interval.reason.limit, interval.reason.cause);
+    push_limit(line, interval.reason.limit, interval.reason.cause, known);
     line.array("shares");
     for share in interval.reason.shares.as_slice() {
-        push_share(line, share);
+        push_share(line, share, known);
     }
     line.end_array();
     line.end_object();
 }
 
 /// Appends a connector's share of a summed limit to the JSON of an explained schedule.
-fn push_share(line: &mut JsonPage, share: &Share) {
+fn push_share(line: &mut JsonPage, share: &Share, known: &[KnownProfile<'_>]) {
     line.begin_object();
     line.number("connector", u64::from(share.connector));
-    push_limit(line, share.limit, share.cause);
+    push_limit(line, share.limit, share.cause, known);
     line.end_object();
 }
 
 /// Appends the fields `limit` and `cause` of an interval or a share to the JSON of an explained
 /// schedule.
-fn push_limit(line: &mut JsonPage, limit: u32, cause: Cause) {
+fn push_limit(line: &mut JsonPage, limit: u32, cause: Cause, known: &[KnownProfile<'_>]) {
     line.tenths("limit", limit);
     line.object("cause");
     match cause {
         Cause::Profile(profile) => {
             line.text("kind", "Profile");
             push_profile(line, profile);
+            if let Some(found) = known_cause(known, cause) {
+                line.text("state", found.state);
+                line.instant("since", Some(found.since));
+            }
         }
         Cause::ConnectorCeiling => line.text("kind", "ConnectorCeiling"),
         Cause::PointCeiling => line.text("kind", "PointCeiling"),

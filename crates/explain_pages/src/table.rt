@@ -5,6 +5,7 @@ ghost use Rattle.std.specs.Prelude.{◌≤◌};
 use crate::cells::{Cells, all_cells};
 use crate::clock::{ClockTime, needs_seconds, push_date, push_time};
 use crate::explained_request::{ExplainedRequest, NotCounted};
+use crate::known_profile::KnownProfile;
 use crate::words::{push_length, push_profile, sentence};
 use crate::wrapping::{Margins, push_left, push_lines, push_made_lines, push_right, push_times};
 use crate::zone_clock::{ZoneClock, push_ahead};
@@ -18,16 +19,19 @@ const BAR: (usize, usize) = (8, 40);
 /// Formats an explained schedule as a table. Each interval has a line with its start, end, length,
 /// limit and cause. The profiles that never set the limit follow. Times are local to `zone`, whose
 /// clock changes come first, or else in UTC. If `columns` is given, bars show the limits, and no
-/// line is wider than that unless a word or an interval's numbers are.
+/// line is wider than that unless a word or an interval's numbers are. A cause says of a known
+/// profile whether the point doesn't hold it, and since when, in UTC.
 pub fn write_table(
     alloc: Global,
     explained: &ExplainedRequest<'_>,
     columns: Option<usize>,
     zone: Option<ZoneClock<'_>>,
+    known: &[KnownProfile<'_>],
 ) -> Result<String, AllocError> {
     let mut out = Page::new(alloc);
     push_heading(alloc, &mut out, explained, columns, zone);
-    push_intervals(alloc, &mut out, explained, columns, zone)?;
+    let all = all_cells(alloc, explained, zone, known)?;
+    push_intervals(alloc, &mut out, explained, columns, all.as_slice());
     push_not_counted(alloc, &mut out, explained.not_counted, columns);
     out.finish()
 }
@@ -82,8 +86,8 @@ fn push_changes(alloc: Global, out: &mut Page, clock: ZoneClock<'_>, columns: Op
     }
 }
 
-/// Returns the heading of an explained schedule: the point, the connector, and the start, the end
-/// and the length of the time.
+/// Returns the heading of an explained schedule: the point, the connector, and the start, end and
+/// length of the explained time.
 pub(crate) fn heading(
     alloc: Global,
     explained: &ExplainedRequest<'_>,
@@ -114,7 +118,8 @@ pub(crate) fn place(alloc: Global, explained: &ExplainedRequest<'_>) -> Result<S
     text.finish()
 }
 
-/// Appends a second of an explained schedule's request as date and time, local to a zone or in UTC.
+/// Appends, for `explain`, the moment `second` seconds after the start of its request, as date and
+/// time in a zone or in UTC.
 pub(crate) fn push_moment(
     alloc: Global,
     out: &mut Page,
@@ -199,8 +204,8 @@ enum Layout {
 }
 
 impl Layout {
-    /// Returns the layout of `explain`'s table: plain if no width is given, or else the first in
-    /// which a bar has its minimum width, or paragraphs.
+    /// Returns the layout of `explain`'s table. It is plain if no width is given. Otherwise it is
+    /// the first in which a bar has its minimum width, or else paragraphs.
     fn of(bare: Widths, columns: Option<usize>) -> Layout {
         let Some(columns) = columns else {
             return Layout::Plain;
@@ -233,20 +238,19 @@ struct Sheet<'a> {
     largest: u32,
 }
 
-/// Appends the intervals of an explained schedule to `explain`'s table, in the layout that fits
-/// into the columns.
+/// Appends the intervals of an explained schedule, with these cells, to `explain`'s table, in the
+/// layout that fits into the columns.
 fn push_intervals(
     alloc: Global,
     out: &mut Page,
     explained: &ExplainedRequest<'_>,
     columns: Option<usize>,
-    zone: Option<ZoneClock<'_>>,
-) -> Result<(), AllocError> {
-    let all = all_cells(alloc, explained, zone)?;
-    let bare = Widths::of(all.as_slice());
+    all: &[Cells],
+) {
+    let bare = Widths::of(all);
     let layout = Layout::of(bare, columns);
     let sheet = Sheet {
-        all: all.as_slice(),
+        all,
         widths: match layout {
             // Paragraphs have no headings, which would only widen their columns.
             Layout::Paragraphs(_) => bare,
@@ -260,7 +264,6 @@ fn push_intervals(
     for cells in sheet.all {
         sheet.push(alloc, out, cells);
     }
-    Ok(())
 }
 
 /// Returns the largest limit of an explained schedule's intervals, in tenths.

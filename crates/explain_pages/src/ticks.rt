@@ -3,16 +3,16 @@
 ghost use Rattle.std.specs.Prelude.{◌*◌, ◌≤◌, IfSome};
 ghost use Rattle.meaning.specs.Limits.{max_duration};
 
-/// Seconds from one tick of the time axis to the next.
+/// The possible distances between two ticks of the time axis up to two days, in seconds.
 const TIME_STEPS: [u32; 20] = [
     1, 2, 5, 10, 15, 30, 60, 120, 300, 600, 900, 1800, 3600, 7200, 10_800, 14_400, 21_600, 43_200,
     86_400, 172_800,
 ];
 
-/// Seconds from one date to the next.
+/// The possible distances between two dates of the time axis up to two days, in seconds.
 const DATE_STEPS: [u32; 2] = [86_400, 172_800];
 
-/// Tenths from one tick of the limit axis to the next.
+/// The possible distances between two ticks of the limit axis, in tenths of A or W.
 const LIMIT_STEPS: [u32; 29] = [
     1,
     2,
@@ -72,16 +72,16 @@ pub(crate) fn date_step(duration: u32) -> u32
     first_that_spans(&DATE_STEPS, duration, MOST_DATES).unwrap_or(345_600)
 }
 
-/// Returns the tenths between the ticks of the limit axis in `explain`'s picture: the fewest that
-/// make at most 6 spaces up to the largest limit.
+/// Returns the tenths between the ticks of the limit axis in `explain`'s picture. They are the
+/// fewest that make at most 6 spaces up to the largest limit.
 pub(crate) fn limit_step(largest: u32) -> u32
     ensures spans { largest ≤ result * 6 }
 {
     first_that_spans(&LIMIT_STEPS, largest, MOST_LIMITS).unwrap_or(2_000_000_000)
 }
 
-/// Returns the first of the steps of which `count` reach as far as `wanted`, as the distance
-/// between ticks of an axis in `explain`'s picture.
+/// Returns the first of the steps that covers `wanted` when it is repeated `count` times. It is the
+/// distance between ticks of an axis in `explain`'s picture.
 fn first_that_spans(steps: &[u32], wanted: u32, count: u32) -> Option<u32>
     ensures spans { IfSome result (λ step. wanted ≤ step * count) }
 {

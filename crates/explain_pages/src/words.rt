@@ -1,6 +1,7 @@
 //! Limits, causes and reasons in words. This is the only place with the sentences of reasons.
 
 use crate::explained_request::NotCountedReason;
+use crate::known_profile::{KnownProfile, push_known};
 use crate::length::length_of;
 use meaning::{Cause, PrevailingProfile, Reason, Share, WhyNot};
 use messages::{purpose_name, unit_name};
@@ -55,12 +56,12 @@ pub fn sentence(reason: NotCountedReason) -> &'static str {
 /// Returns the sentence of `explain` for a reason why a profile doesn't prevail.
 fn why_not_sentence(why: WhyNot) -> &'static str {
     match why {
-        WhyNot::OtherConnector => "It stands at another connector.",
+        WhyNot::OtherConnector => "It is at another connector.",
         WhyNot::NoTransaction => {
             "It is a TxProfile, and the connector has no active transaction."
         }
         WhyNot::Hidden => {
-            "It stands at connector 0, and a TxDefaultProfile of the connector's own has its stack level."
+            "It is at connector 0, and a TxDefaultProfile of the connector's own has its stack level."
         }
         WhyNot::NotYetValid => "It isn't valid yet: its validFrom is still to come.",
         WhyNot::NoLongerValid => "It isn't valid any more: its validTo has come.",
@@ -151,7 +152,19 @@ pub(crate) fn push_short_cause(out: &mut Page, cause: Cause) {
 
 /// Appends the cause of a limit, with its shares if it is a sum.
 pub fn push_why(out: &mut Page, reason: &Reason, unit: Unit) {
+    push_known_why(out, reason, unit, &[]);
+}
+
+/// Appends the cause of a limit, with its shares if it is a sum, and after each of these profiles
+/// that its point doesn't hold the words about that.
+pub(crate) fn push_known_why(
+    out: &mut Page,
+    reason: &Reason,
+    unit: Unit,
+    known: &[KnownProfile<'_>],
+) {
     push_cause(out, reason.cause);
+    push_known(out, known, reason.cause);
     if reason.cause != Cause::Sum {
         return;
     }
@@ -163,6 +176,7 @@ pub fn push_why(out: &mut Page, reason: &Reason, unit: Unit) {
     for share in shares {
         out.push_str(before);
         push_share(out, share, unit);
+        push_known(out, known, share.cause);
         before = ", ";
     }
 }

@@ -71,8 +71,8 @@ pub fn first_break(alloc: Global, text: &str) -> Result<JsonFault, AllocError> {
     Ok(fault_at(text, end))
 }
 
-/// Reads the next token of a site file or message that `central check` reads, with its offset and
-/// that of the comma after it.
+/// Reads the next token of a text that isn't JSON, with its offset and that of the comma after it.
+/// `check` and `call` report where such a text breaks.
 fn next_lexeme<'a>(bytes: &[u8], reader: &mut Reader<'a>) -> Option<Lexeme<'a>> {
     let start = reader.offset();
     let token = reader.next()?;
@@ -83,8 +83,8 @@ fn next_lexeme<'a>(bytes: &[u8], reader: &mut Reader<'a>) -> Option<Lexeme<'a>> 
     })
 }
 
-/// Returns the offset of the comma after a token of JSON that `central check` reads, if only blanks
-/// separate it from `end`.
+/// Returns the offset of the comma after a token of a text that isn't JSON, if only blanks separate
+/// it from `end`.
 fn comma_between(bytes: &[u8], start: usize, end: usize) -> Option<usize> {
     let mut comma = None;
     let mut offset = start;
@@ -99,8 +99,7 @@ fn comma_between(bytes: &[u8], start: usize, end: usize) -> Option<usize> {
     comma
 }
 
-/// Makes the fault, for `central check`, of a site file or message that isn't JSON, from its break,
-/// with the character there.
+/// Makes the fault of a text that isn't JSON from its break, with the character there.
 fn fault_at(text: &str, broken: Break) -> JsonFault {
     let Break { offset, wanted } = broken;
     let mut found = None;
@@ -118,8 +117,8 @@ fn fault_at(text: &str, broken: Break) -> JsonFault {
 }
 
 impl Walk {
-    /// Takes the next token of a site file or message that `central check` reads. Returns the
-    /// break, if the JSON breaks at this token.
+    /// Takes the next token of a text that isn't JSON. Returns the break, if the text breaks at
+    /// this token.
     fn take(&mut self, bytes: &[u8], lexeme: Lexeme<'_>) -> Result<Option<Break>, AllocError> {
         match lexeme.token {
             Token::BeginObject if self.wants_value() => self.begin(lexeme.start, true),
@@ -135,8 +134,7 @@ impl Walk {
         }
     }
 
-    /// Returns whether `central check` allows a JSON value next at this place of a site file or
-    /// message.
+    /// Returns whether JSON allows a value next at this place of the text.
     fn wants_value(&self) -> bool {
         matches!(
             self.wanted,
@@ -144,8 +142,7 @@ impl Walk {
         )
     }
 
-    /// Returns whether `central check` allows a JSON member's name next at this place of a site
-    /// file or message.
+    /// Returns whether JSON allows a member's name next at this place of the text.
     fn wants_name(&self) -> bool {
         matches!(
             self.wanted,
@@ -153,8 +150,7 @@ impl Walk {
         )
     }
 
-    /// Returns whether `central check` allows the end of a JSON object next at this place of a site
-    /// file or message.
+    /// Returns whether JSON allows the end of an object next at this place of the text.
     fn may_end_object(&self) -> bool {
         matches!(
             self.wanted,
@@ -162,8 +158,7 @@ impl Walk {
         )
     }
 
-    /// Returns whether `central check` allows the end of a JSON list next at this place of a site
-    /// file or message.
+    /// Returns whether JSON allows the end of a list next at this place of the text.
     fn may_end_list(&self) -> bool {
         matches!(
             self.wanted,
@@ -171,8 +166,8 @@ impl Walk {
         )
     }
 
-    /// Opens an object or a list of a site file or message that `central check` reads. Returns a
-    /// break if it is nested too deeply.
+    /// Opens an object or a list of a text that isn't JSON. Returns a break if it is nested too
+    /// deeply.
     fn begin(&mut self, start: usize, is_object: bool) -> Result<Option<Break>, AllocError> {
         if self.open.len() >= MAX_DEPTH {
             return Ok(Some(Break {
@@ -189,15 +184,15 @@ impl Walk {
         Ok(None)
     }
 
-    /// Closes the innermost object or list of a site file or message that `central check` reads,
-    /// after which a comma may have come.
+    /// Closes the innermost object or list of a text that isn't JSON. Returns a break if a comma
+    /// comes after it and isn't allowed there.
     fn end(&mut self, comma: Option<usize>) -> Option<Break> {
         let _ = self.open.pop();
         self.end_value(comma)
     }
 
-    /// Ends a JSON value of a site file or message that `central check` reads, after which a comma
-    /// may have come. A comma is a break after the outermost value.
+    /// Ends a value of a text that isn't JSON, after which a comma may have come. A comma is a
+    /// break after the outermost value.
     fn end_value(&mut self, comma: Option<usize>) -> Option<Break> {
         let wanted = self.wanted_behind_value();
         let Some(offset) = comma else {
@@ -212,8 +207,7 @@ impl Walk {
         None
     }
 
-    /// Returns the token that `central check` wants after a JSON value of a site file or message,
-    /// by the object or list around it.
+    /// Returns the token that JSON wants after a value, by the object or list around it.
     fn wanted_behind_value(&self) -> ExpectedToken {
         match self.open.last() {
             Some(true) => ExpectedToken::CommaOrObjectEnd,
@@ -222,8 +216,8 @@ impl Walk {
         }
     }
 
-    /// Returns the break, at a token that isn't allowed, of JSON that `central check` reads: at its
-    /// first byte, in it, or after it.
+    /// Returns the break of a text that isn't JSON, at a token that isn't allowed: at its first
+    /// byte, in it, or after it.
     // The library gives no cause with a bad token, only its offset, so its bytes are read again.
     fn break_in(&self, bytes: &[u8], start: usize) -> Break {
         if !self.may_begin(bytes.get(start)) {
@@ -245,8 +239,7 @@ impl Walk {
         }
     }
 
-    /// Returns whether `central check` allows a JSON token with this first byte at this place of a
-    /// site file or message.
+    /// Returns whether JSON allows a token with this first byte at this place of the text.
     fn may_begin(&self, first: Option<&u8>) -> bool {
         match first {
             Some(b'"') => self.wants_name() || self.wants_value(),
@@ -256,8 +249,7 @@ impl Walk {
     }
 }
 
-/// Returns whether a token in JSON that `central check` reads is a value by itself, such as a
-/// string or a number.
+/// Returns whether a token of JSON is a value by itself, such as a string or a number.
 fn is_scalar(token: Token<'_>) -> bool {
     matches!(
         token,
@@ -265,8 +257,7 @@ fn is_scalar(token: Token<'_>) -> bool {
     )
 }
 
-/// Returns the offset of the first byte from `start` on that isn't blank, in JSON that
-/// `central check` reads.
+/// Returns the offset of the first byte from `start` on that isn't a blank between tokens of JSON.
 fn behind_blanks(bytes: &[u8], start: usize) -> usize {
     let mut offset = start;
     for byte in bytes.get(start..).unwrap_or(&[]) {

@@ -26,9 +26,10 @@ pub enum Location {
     Character { line: u64, column: u64 },
     /// A point of the site file, counted from 0, and its identity if it has one.
     Point { index: usize, id: Option<String> },
-    /// A line of the script, counted from 1, and the identity of its point if it has one.
+    /// A line of a script or a journal, counted from 1, and the identity of its point if it has
+    /// one.
     Line { number: u64, point: Option<String> },
-    /// The state of the point of this identity when the script ends.
+    /// The state of the point of this identity at the end of a script or a journal.
     End(String),
 }
 
@@ -138,14 +139,14 @@ pub fn name_point(alloc: Global, findings: &mut [Finding], point: &str) -> Resul
     Ok(())
 }
 
-/// Sorts the findings of several passes over a script by line. Those of one line keep their order.
-/// Findings without a line come first, and those in the points at the end come last.
+/// Sorts the findings of several passes over a script or a journal by line. Those of one line keep
+/// their order. Findings without a line come first, and those in the points at the end come last.
 pub fn sort_by_line(findings: &mut Vec<Finding>) -> Result<(), AllocError> {
     findings.sort_by_key(|finding| line_of(&finding.place))
 }
 
-/// Returns a finding's line in the script that `central check` plays, or a number below or above
-/// all lines, to sort findings by it.
+/// Returns a finding's line in a script or a journal, or a number below or above all lines, to sort
+/// findings by it.
 fn line_of(place: &Location) -> u64 {
     match place {
         Location::Line { number, .. } => *number,

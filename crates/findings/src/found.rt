@@ -40,17 +40,15 @@ pub fn field_message(
         // A field that is present is spelled right, so no other one is meant to be it.
         Some(hint) if value.is_none() => {
             let hint = excerpt(alloc, hint)?;
-            format!(in alloc;
-                "{field}: {found}; {wanted} is wanted (is \"{hint}\" meant to be it?)"
-            )
+            format!(in alloc; "{field}: {found}; expected {wanted} (is \"{hint}\" meant to be it?)")
         }
-        _ => format!(in alloc; "{field}: {found}; {wanted} is wanted"),
+        _ => format!(in alloc; "{field}: {found}; expected {wanted}"),
     }
 }
 
 /// Joins the description of the value found and that of the value wanted.
 pub fn message_of(alloc: Global, found: &str, wanted: &str) -> Result<String, AllocError> {
-    format!(in alloc; "{found}; {wanted} is wanted")
+    format!(in alloc; "{found}; expected {wanted}")
 }
 
 /// Describes the value at a place.
@@ -66,9 +64,9 @@ pub fn describe_value(alloc: Global, value: Option<Glance<'_>>) -> Result<String
             format!(in alloc; "{number} is a number")
         }
         Some(Glance::Null) => String::from_str(alloc, "null counts as absent"),
-        Some(Glance::Object) => String::from_str(alloc, "an object stands there"),
-        Some(Glance::List) => String::from_str(alloc, "a list stands there"),
-        Some(Glance::Bool) => String::from_str(alloc, "true or false stands there"),
+        Some(Glance::Object) => String::from_str(alloc, "found an object"),
+        Some(Glance::List) => String::from_str(alloc, "found a list"),
+        Some(Glance::Bool) => String::from_str(alloc, "found true or false"),
     }
 }
 

@@ -47,23 +47,22 @@ pub struct JsonFault {
 impl fmt::Display for ExpectedToken {
     fn fmt<W: fmt::Write>(&self, f: &mut fmt::Formatter<W>) -> fmt::Result {
         f.write_str(match self {
-            ExpectedToken::Value => "a value is wanted",
-            ExpectedToken::NextValue => "a value is wanted behind the comma",
-            ExpectedToken::ValueOrEnd => "a value or `]` is wanted",
-            ExpectedToken::NameOrEnd => "a name in double quotes or `}` is wanted",
-            ExpectedToken::NextName => "a name in double quotes is wanted behind the comma",
-            ExpectedToken::Colon => "`:` is wanted behind the name",
-            ExpectedToken::CommaOrObjectEnd => "`,` or `}` is wanted",
-            ExpectedToken::CommaOrListEnd => "`,` or `]` is wanted",
-            ExpectedToken::Nothing => "nothing more is wanted behind the value",
-            ExpectedToken::Digit => "a digit is wanted in the number",
-            ExpectedToken::Quote => "the closing quote of a string is wanted",
-            ExpectedToken::Escape => "one of \" \\ / b f n r t u is wanted behind the backslash",
-            ExpectedToken::HexDigit => "four digits of base 16 are wanted behind \\u",
-            ExpectedToken::LowSurrogate => "both halves of a surrogate pair are wanted",
-            ExpectedToken::NoControl => "an escape such as \\n is wanted for a control character",
-            ExpectedToken::LessDepth =>
-                "at most 127 lists and objects inside one another are wanted",
+            ExpectedToken::Value => "expected a value",
+            ExpectedToken::NextValue => "expected a value after the comma",
+            ExpectedToken::ValueOrEnd => "expected a value or `]`",
+            ExpectedToken::NameOrEnd => "expected a name in double quotes or `}`",
+            ExpectedToken::NextName => "expected a name in double quotes after the comma",
+            ExpectedToken::Colon => "expected `:` after the name",
+            ExpectedToken::CommaOrObjectEnd => "expected `,` or `}`",
+            ExpectedToken::CommaOrListEnd => "expected `,` or `]`",
+            ExpectedToken::Nothing => "expected nothing after the value",
+            ExpectedToken::Digit => "expected a digit in the number",
+            ExpectedToken::Quote => "expected the closing quote of a string",
+            ExpectedToken::Escape => "expected one of \" \\ / b f n r t u after the backslash",
+            ExpectedToken::HexDigit => "expected four hexadecimal digits after \\u",
+            ExpectedToken::LowSurrogate => "expected both halves of a surrogate pair",
+            ExpectedToken::NoControl => "expected an escape such as \\n for a control character",
+            ExpectedToken::LessDepth => "expected at most 127 lists and objects inside one another",
         })
     }
 }
@@ -72,13 +71,11 @@ impl fmt::Display for ExpectedToken {
 pub fn json_fault_text(alloc: Global, fault: &JsonFault) -> Result<String, AllocError> {
     let wanted = fault.wanted;
     let mut text = match fault.found {
-        None => format!(in alloc; "{wanted}, and the JSON ends")?,
-        Some(found) if is_printable(found) => format!(in alloc;
-            "{wanted}, and `{found}` stands there"
-        )?,
+        None => format!(in alloc; "{wanted}, but the JSON ends")?,
+        Some(found) if is_printable(found) => format!(in alloc; "{wanted}, found `{found}`")?,
         Some(found) => {
             let code = u32::from(found);
-            format!(in alloc; "{wanted}, and the character U+{code:04X} stands there")?
+            format!(in alloc; "{wanted}, found the character U+{code:04X}")?
         }
     };
     if let Some(hint) = hint_of(fault) {
@@ -88,8 +85,7 @@ pub fn json_fault_text(alloc: Global, fault: &JsonFault) -> Result<String, Alloc
     Ok(text)
 }
 
-/// Returns whether a character is visible in print, in a message of `central check` about a text
-/// that isn't JSON.
+/// Returns whether a character is visible in print, for the message about a text that isn't JSON.
 // A no-break space looks like a space, and a byte order mark like nothing: their codes are printed.
 fn is_printable(character: char) -> bool {
     match character {
@@ -98,8 +94,7 @@ fn is_printable(character: char) -> bool {
     }
 }
 
-/// Returns the cure of a common mistake at the character where a text stops being JSON, for a
-/// message of `central check`.
+/// Returns the cure of a common mistake at the character where a text stops being JSON.
 fn hint_of(fault: &JsonFault) -> Option<&'static str> {
     match (fault.wanted, fault.found?) {
         (ExpectedToken::NextValue, ']') | (ExpectedToken::NextName, '}') => Some(
@@ -109,12 +104,12 @@ fn hint_of(fault: &JsonFault) -> Option<&'static str> {
         (_, '\u{201c}' | '\u{201d}' | '\u{201e}' | '\u{2018}' | '\u{2019}' | '\u{ab}' | '\u{bb}') =>
             { Some("a typographic quote; JSON has the straight one") }
         (_, '\u{feff}') => Some("a byte order mark; save the file without it"),
-        (_, '\u{a0}') => Some("a no-break space; JSON has the ordinary space alone"),
+        (_, '\u{a0}') => Some("a no-break space; JSON has only the ordinary space"),
         (ExpectedToken::NoControl | ExpectedToken::Quote, _) => None,
         (_, '#' | '/') => Some("JSON has no comments"),
-        (ExpectedToken::Digit, '.') => Some("a digit stands before the point"),
+        (ExpectedToken::Digit, '.') => Some("a digit comes before the point"),
         (ExpectedToken::Value, 'N' | 'T' | 'F' | 'u') => Some(
-            "true, false and null are written small",
+            "true, false and null are in lower case",
         ),
         (ExpectedToken::CommaOrObjectEnd | ExpectedToken::CommaOrListEnd, '"' | '{' | '[') => {
             Some("a comma is missing before it")

@@ -10,19 +10,18 @@ pub(crate) struct Break {
     pub wanted: ExpectedToken,
 }
 
-/// Returns whether a byte is a blank between the tokens of JSON that `central check` reads.
+/// Returns whether JSON allows a byte as a blank between tokens.
 pub(crate) fn is_blank(byte: u8) -> bool {
     matches!(byte, b' ' | b'\t' | b'\n' | b'\r')
 }
 
-/// Returns whether a string, a number or a literal may begin with this byte in JSON that
-/// `central check` reads.
+/// Returns whether a string, a number or a literal of JSON may begin with this byte.
 pub(crate) fn begins_lexeme(byte: u8) -> bool {
     matches!(byte, b'"' | b'-' | b'0'..=b'9' | b't' | b'f' | b'n')
 }
 
-/// Returns the offset after the string, number or literal that begins at `start` in JSON that
-/// `central check` reads, or its break.
+/// Returns the offset after the string, number or literal that begins at `start` in a text that
+/// isn't JSON, or its break.
 pub(crate) fn lexeme_end(bytes: &[u8], start: usize) -> Result<usize, Break> {
     match byte_at(bytes, start) {
         b'"' => string_end(bytes, start.saturating_add(1)),
@@ -33,20 +32,20 @@ pub(crate) fn lexeme_end(bytes: &[u8], start: usize) -> Result<usize, Break> {
     }
 }
 
-/// Returns the byte at an offset of JSON that `central check` reads, or 0 after the last: no
-/// string, number or literal has this byte.
+/// Returns the byte at an offset of a text that isn't JSON, or 0 after the last: no string, number
+/// or literal has this byte.
 fn byte_at(bytes: &[u8], offset: usize) -> u8 {
     bytes.get(offset).copied().unwrap_or(0)
 }
 
-/// Returns the break at this offset of JSON that `central check` reads, with the token or character
-/// wanted there.
+/// Returns the break at this offset of a text that isn't JSON, with the token or character wanted
+/// there.
 fn broken<T>(offset: usize, wanted: ExpectedToken) -> Result<T, Break> {
     Err(Break { offset, wanted })
 }
 
-/// Returns the end of a literal in JSON that `central check` reads, each letter of which has to be
-/// there, or its break.
+/// Returns the end of the literal `word` of JSON, each letter of which has to be there, or its
+/// break.
 fn word_end(bytes: &[u8], start: usize, word: &[u8]) -> Result<usize, Break> {
     let mut offset = start;
     for letter in word {
@@ -58,8 +57,7 @@ fn word_end(bytes: &[u8], start: usize, word: &[u8]) -> Result<usize, Break> {
     Ok(offset)
 }
 
-/// Returns the end of a number in JSON that `central check` reads (RFC 8259, section 6), or its
-/// break.
+/// Returns the end of a number of JSON (RFC 8259, section 6), or its break.
 fn number_end(bytes: &[u8], start: usize) -> Result<usize, Break> {
     let mut offset = start;
     if byte_at(bytes, offset) == b'-' {
@@ -84,8 +82,7 @@ fn number_end(bytes: &[u8], start: usize) -> Result<usize, Break> {
     Ok(offset)
 }
 
-/// Returns the end of one or more digits of a number in JSON that `central check` reads, or the
-/// break if there is none.
+/// Returns the end of one or more digits in a number of JSON, or the break if there is none.
 fn digits_end(bytes: &[u8], start: usize) -> Result<usize, Break> {
     let mut offset = start;
     for byte in bytes.get(start..).unwrap_or(&[]) {
@@ -100,8 +97,8 @@ fn digits_end(bytes: &[u8], start: usize) -> Result<usize, Break> {
     Ok(offset)
 }
 
-/// Returns the end of a string in JSON that `central check` reads (RFC 8259, section 7), from after
-/// its opening quote, or its break.
+/// Returns the end of a string of JSON (RFC 8259, section 7), from after its opening quote, or its
+/// break.
 fn string_end(bytes: &[u8], start: usize) -> Result<usize, Break> {
     let mut offset = start;
     // Each iteration passes at least one byte, so this range ends the loop without a proof.
@@ -117,8 +114,8 @@ fn string_end(bytes: &[u8], start: usize) -> Result<usize, Break> {
     broken(bytes.len(), ExpectedToken::Quote)
 }
 
-/// Returns the end of a string's escape in JSON that `central check` reads, from the offset of its
-/// backslash, or its break.
+/// Returns the end of an escape in a string of JSON, from the offset of its backslash, or its
+/// break.
 fn escape_end(bytes: &[u8], start: usize) -> Result<usize, Break> {
     let letter = start.saturating_add(1);
     match bytes.get(letter) {
@@ -131,8 +128,8 @@ fn escape_end(bytes: &[u8], start: usize) -> Result<usize, Break> {
     }
 }
 
-/// Returns the end of a string's escape in JSON that `central check` reads, from the offset after
-/// `\u`. The escape of a first surrogate includes that of the second.
+/// Returns the end of a `\u` escape in a string of JSON, from the offset after `\u`, or its break.
+/// The escape of a first surrogate includes that of the second.
 // RFC 8259 leaves a lone surrogate open, but a Rust string is UTF-8 and can't hold one.
 fn surrogates_end(bytes: &[u8], start: usize) -> Result<usize, Break> {
     let end = start.saturating_add(4);
@@ -143,8 +140,8 @@ fn surrogates_end(bytes: &[u8], start: usize) -> Result<usize, Break> {
     }
 }
 
-/// Returns the end of the escape at `start` in JSON that `central check` reads, which has to be the
-/// second half of a surrogate pair.
+/// Returns the end of the `\u` escape at `start` in a string of JSON, or its break. The escape has
+/// to be the second half of a surrogate pair.
 fn low_surrogate_end(bytes: &[u8], start: usize) -> Result<usize, Break> {
     let mut offset = start;
     for wanted in b"\\u" {
@@ -161,8 +158,8 @@ fn low_surrogate_end(bytes: &[u8], start: usize) -> Result<usize, Break> {
     }
 }
 
-/// Returns the number of the four hexadecimal digits in a `\u` escape of JSON that `central check`
-/// reads, or the break in them.
+/// Returns the number of the four hexadecimal digits in a `\u` escape of a JSON string, or the
+/// break in them.
 fn code_at(bytes: &[u8], start: usize) -> Result<u32, Break> {
     let mut code: u32 = 0;
     let mut offset = start;

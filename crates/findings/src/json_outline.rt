@@ -70,8 +70,7 @@ pub fn outline_of(alloc: Global, text: &str) -> Result<Outline, AllocError> {
 }
 
 impl Outline {
-    /// Takes the token that begins at an offset, for the outline of a message whose fields
-    /// `central check` checks.
+    /// Takes the token of a message that begins at an offset, for the message's outline.
     fn take(&mut self, start: usize, token: Token<'_>) -> Result<(), AllocError> {
         match token {
             Token::BeginObject => self.begin_parts(true),
@@ -91,8 +90,7 @@ impl Outline {
         }
     }
 
-    /// Opens an object or a list of a message, and adds it to the message's outline for
-    /// `central check`.
+    /// Opens an object or a list of a message, and adds it to the message's outline.
     fn begin_parts(&mut self, is_object: bool) -> Result<(), AllocError> {
         let part = self.parts.len();
         self.add_part()?;
@@ -104,8 +102,8 @@ impl Outline {
         Ok(())
     }
 
-    /// Adds a value of a message that is no object or list to the message's outline for
-    /// `central check`. One in a list is only counted.
+    /// Adds a value of a message that is no object or list to the message's outline. A value in a
+    /// list is only counted.
     // The checks read the names of members; a list of numbers has none, and may be long.
     fn add_scalar(&mut self) -> Result<(), AllocError> {
         match self.open.last() {
@@ -117,8 +115,8 @@ impl Outline {
         }
     }
 
-    /// Adds the JSON value that begins to a message's outline for `central check`, with its parent
-    /// and its name or index.
+    /// Adds the JSON value that begins to a message's outline, with its parent and its name or
+    /// index.
     fn add_part(&mut self) -> Result<(), AllocError> {
         let name = self.name;
         let part = match self.open.last() {
@@ -140,8 +138,8 @@ impl Outline {
         Ok(())
     }
 
-    /// Counts an entry of the innermost list in a message's outline for `central check`, so that
-    /// each part in a list has its index.
+    /// Counts an entry of the innermost list in a message's outline, so that each part in a list
+    /// has its index.
     fn count_entry(&mut self) {
         if let Some(open) = self.open.last_mut() {
             open.entries = open.entries.saturating_add(1);

@@ -7,8 +7,9 @@ use strsim::osa_distance;
 // A comparison takes time by the product of both lengths, and the checked text chooses one of them.
 const MAX_COMPARED: usize = 64;
 
-/// Returns the name that differs least from `found`, if one is similar: it differs only in case, or
-/// by at most two letters (three from 12 bytes on) and a quarter of the shorter name plus one.
+/// Returns the name that differs least from `found`, if one is similar. Similar names differ only
+/// in case, or in at most two letters (three in names of 12 bytes or more). These are at most a
+/// quarter of the shorter name plus one.
 pub fn similar_name<'a>(
     alloc: Global,
     found: &str,
@@ -30,8 +31,8 @@ pub fn is_similar(alloc: Global, found: &str, name: &str) -> Result<bool, AllocE
     Ok(distance_to(alloc, found, name)?.is_some())
 }
 
-/// Returns by how many letters a misspelled name differs from one that `central check` may suggest,
-/// 0 if only in case. `None` if they are equal or aren't similar.
+/// Returns by how many letters a misspelled name differs from one that may be meant, 0 if only in
+/// case. `None` if they are equal or aren't similar.
 fn distance_to(alloc: Global, found: &str, name: &str) -> Result<Option<usize>, AllocError> {
     if found == name || found.len() > MAX_COMPARED || name.len() > MAX_COMPARED {
         return Ok(None);

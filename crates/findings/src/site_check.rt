@@ -47,7 +47,7 @@ fn alone(alloc: Global, finding: Finding) -> Result<Vec<Finding>, AllocError> {
 
 /// Makes the fault that a site file has too many bytes.
 fn too_large(alloc: Global, count: usize) -> Result<Finding, AllocError> {
-    let message = format!(in alloc; "{count} bytes; at most {MAX_SITE_BYTES} are wanted")?;
+    let message = format!(in alloc; "{count} bytes; at most {MAX_SITE_BYTES} are allowed")?;
     Ok(site_fault(SiteFault::TooLarge, message))
 }
 
@@ -168,7 +168,7 @@ fn check_fields(
             let count = points.count;
             if count == 0 || count > MAX_POINTS {
                 let message = format!(in alloc;
-                    "points: {count} entries; 1 to {MAX_POINTS} are wanted"
+                    "points: {count} entries; expected 1 to {MAX_POINTS}"
                 )?;
                 findings.push(site_fault(SiteFault::BadPoints, message))?;
             }

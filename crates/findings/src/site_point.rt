@@ -290,7 +290,7 @@ fn check_list(
     } = connectors;
     if count == 0 || count > MAX_CONNECTORS {
         let message = format!(in points.alloc;
-            "connectors: {count} entries; 1 to {MAX_CONNECTORS} are wanted"
+            "connectors: {count} entries; expected 1 to {MAX_CONNECTORS}"
         )?;
         add_fault(points, point, SiteFault::BadConnectors, message)?;
     }

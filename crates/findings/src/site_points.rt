@@ -79,7 +79,7 @@ impl CheckedPoints {
         findings.append(&mut found)?;
         if more {
             let message = format!(in alloc;
-                "there are more than {MAX_FOUND} faults and remarks; those behind them aren't listed"
+                "there are more than {MAX_FOUND} faults and remarks; the others aren't listed"
             )?;
             findings.push(Finding::warning(Location::File, message))?;
         }

@@ -1,5 +1,5 @@
 -- A written line is read back, and no line feed is inside.
-use Rattle.std.proofs.Common.{◌≡◌, ◌≢◌, ℕ, zero, suc, ◌+◌, ◌/◌, ◌%◌, ◌<◌, ◌≤◌, Bool, true, false, cond, eqb, ◌||◌, ◌&&◌, nat_lt, List, [], ◌∷◌, ◌++◌, length, get_or, Some, Ok, codes, refl, ap, ◌∙◌, arith, append_assoc, length-append}
+use Rattle.std.proofs.Common.{◌≡◌, ◌≢◌, ℕ, zero, suc, ◌+◌, ◌/◌, ◌%◌, ◌<◌, ◌≤◌, Bool, true, false, cond, eqb, ◌||◌, ◌&&◌, nat_lt, List, [], ◌∷◌, ◌++◌, length, get_or, Some, None, Ok, codes, refl, ap, ◌∙◌, arith, append_assoc, length-append}
 use Rattle.std.specs.Prelude.{All}
 use Rattle.std.specs.Fmt.{decimal}
 use Rattle.std.specs.List.{position_or_len}
@@ -13,13 +13,12 @@ use Rattle.ocpp_scalars.specs.CalendarDay.{CalendarDay, calendar_day}
 use Rattle.ocpp_scalars.specs.Limits.{last_second}
 use Rattle.ocpp_scalars.specs.Writing.{in_digits, day_text, time_of_day_text, instant_text}
 use Rattle.ocpp_scalars.specs.ByCases.InstantText.{instant_of}
-use Rattle.messages.specs.declared.side.Side.TheVariants as sides
 use Rattle.site_core.specs.Limits.{max_number}
 use Rattle.texts.specs.Theory.Number.{number_made}
 use Rattle.journal.specs.declared.line_word.LineWord.{LineWord}
 use Rattle.journal.specs.declared.line_word.LineWord.TheVariants as words
-use Rattle.journal.specs.Line.{NotedState, LineState, message, reply, verdict, attached, sent, lost, word_of, noted_text, unbroken, on_one_line, line_words, HasNoLineFeed, CanBeNoted, CanBeWritten, noted_on_one_line, line_on_one_line}
-use Rattle.journal.specs.ByCases.Line.{is_space, word_at, word_named, number_or_fault, number_at, noted_in, line_of}
+use Rattle.journal.specs.Line.{NotedState, LineState, by_point, by_operator, message, reply, verdict, attached, sent, lost, word_of, noted_text, unbroken, on_one_line, line_words, HasNoLineFeed, IsWord, CanBeNoted, CanBeWritten, noted_on_one_line, line_on_one_line}
+use Rattle.journal.specs.ByCases.Line.{LineKind, is_space, unnamed, word_at, kind_of, number_or_fault, number_at, noted_in, line_of}
 
 -- ---- bytes above the space
 
@@ -124,30 +123,37 @@ number_and_rest n rest within =
 
 -- ---- the noted event
 
-abbrev named : NotedState → LineWord
-named (message sides.Operator number frame) = words.Operator
-named (message sides.Point number frame) = words.Point
-named (reply link frame) = words.Reply
-named (verdict call frame) = words.Verdict
-named (attached link) = words.Attached
-named (sent link call) = words.Sent
-named (lost link) = words.Lost
+abbrev kind_in : NotedState → LineKind
+kind_in (message by_point number frame) = unnamed words.Point
+kind_in (message (by_operator name) number frame) = record { word = words.Operator; name = name }
+kind_in (reply link frame) = unnamed words.Reply
+kind_in (verdict call frame) = unnamed words.Verdict
+kind_in (attached link) = unnamed words.Attached
+kind_in (sent link call) = unnamed words.Sent
+kind_in (lost link) = unnamed words.Lost
 
-word_is_named : (noted : NotedState) → word_named (word_of noted) ≡ Some (named noted)
-word_is_named (message sides.Operator number frame) = refl
-word_is_named (message sides.Point number frame) = refl
-word_is_named (reply link frame) = refl
-word_is_named (verdict call frame) = refl
-word_is_named (attached link) = refl
-word_is_named (sent link call) = refl
-word_is_named (lost link) = refl
+-- `operator` and a colon come before the name
+name_is_read : (name : List ℕ)
+    → kind_of (codes "operator:" ++ name) ≡ Some (record { word = words.Operator; name = Some name })
+name_is_read name =
+    rw (lt-ltb 8 (length (codes "operator:" ++ name)) (omega (arith, length-append (codes "operator:") name))) refl
+
+kind_is_read : (noted : NotedState) → kind_of (word_of noted) ≡ Some (kind_in noted)
+kind_is_read (message by_point number frame) = refl
+kind_is_read (message (by_operator None) number frame) = refl
+kind_is_read (message (by_operator (Some name)) number frame) = name_is_read name
+kind_is_read (reply link frame) = refl
+kind_is_read (verdict call frame) = refl
+kind_is_read (attached link) = refl
+kind_is_read (sent link call) = refl
+kind_is_read (lost link) = refl
 
 noted_read : (noted : NotedState) → CanBeNoted noted
-    → noted_in (named noted) (noted_text noted) ≡ Ok (noted_on_one_line noted)
-noted_read (message sides.Operator number frame) within =
-    rw (number_and_rest number (on_one_line frame) within) refl
-noted_read (message sides.Point number frame) within =
-    rw (number_and_rest number (on_one_line frame) within) refl
+    → noted_in (kind_in noted) (noted_text noted) ≡ Ok (noted_on_one_line noted)
+noted_read (message by_point number frame) can =
+    rw (number_and_rest number (on_one_line frame) can.1) refl
+noted_read (message (by_operator name) number frame) can =
+    rw (number_and_rest number (on_one_line frame) can.1) refl
 noted_read (reply link frame) within = rw (number_and_rest link (on_one_line frame) within) refl
 noted_read (verdict call frame) within = rw (number_and_rest call (on_one_line frame) within) refl
 noted_read (attached link) within = rw (number_read link within) refl
@@ -175,24 +181,36 @@ all_above (b ∷ text) is =
 visible : (text : List ℕ) → above text ≡ true → AreVisible text
 visible text is = record { each = all_above text is }
 
-visible_word : (noted : NotedState) → AreVisible (word_of noted)
-unfolding above
-visible_word (message sides.Operator number frame) = visible (codes "operator") refl
-visible_word (message sides.Point number frame) = visible (codes "point") refl
-visible_word (reply link frame) = visible (codes "reply") refl
-visible_word (verdict call frame) = visible (codes "verdict") refl
-visible_word (attached link) = visible (codes "attached") refl
-visible_word (sent link call) = visible (codes "sent") refl
-visible_word (lost link) = visible (codes "lost") refl
+visible_is_word : (text : List ℕ) → 0 < length text → AreVisible text → IsWord text
+visible_is_word text some are =
+    record { some = some; spaces = no_space text are; breaks = no_feed_in text are }
 
-some_word : (noted : NotedState) → 0 < length (word_of noted)
-some_word (message sides.Operator number frame) = omega arith
-some_word (message sides.Point number frame) = omega arith
-some_word (reply link frame) = omega arith
-some_word (verdict call frame) = omega arith
-some_word (attached link) = omega arith
-some_word (sent link call) = omega arith
-some_word (lost link) = omega arith
+-- a word behind visible bytes
+longer_word : (text word : List ℕ) → AreVisible text → IsWord word → IsWord (text ++ word)
+longer_word text word are is = record {
+  some = omega (arith, is.some, length-append text word);
+  spaces = All-append (λ byte. byte ≢ 32) text word (no_space text are) is.spaces;
+  breaks = All-append (λ byte. byte ≢ 10) text word (no_feed_in text are) is.breaks;
+}
+
+is_word : (noted : NotedState) → CanBeNoted noted → IsWord (word_of noted)
+unfolding above
+is_word (message by_point number frame) can =
+    visible_is_word (codes "point") (omega arith) (visible (codes "point") refl)
+is_word (message (by_operator None) number frame) can =
+    visible_is_word (codes "operator") (omega arith) (visible (codes "operator") refl)
+is_word (message (by_operator (Some name)) number frame) can =
+    longer_word (codes "operator:") name (visible (codes "operator:") refl) can.0
+is_word (reply link frame) can =
+    visible_is_word (codes "reply") (omega arith) (visible (codes "reply") refl)
+is_word (verdict call frame) can =
+    visible_is_word (codes "verdict") (omega arith) (visible (codes "verdict") refl)
+is_word (attached link) can =
+    visible_is_word (codes "attached") (omega arith) (visible (codes "attached") refl)
+is_word (sent link call) can =
+    visible_is_word (codes "sent") (omega arith) (visible (codes "sent") refl)
+is_word (lost link) can =
+    visible_is_word (codes "lost") (omega arith) (visible (codes "lost") refl)
 
 some_instant : (instant : ℕ) → 0 < length (instant_text instant)
 unfolding instant_text
@@ -222,12 +240,13 @@ pub line_read : InstantsAreRead → (line : LineState) → CanBeWritten line
 unfolding line_words line_of
 line_read again line can =
     let noted = line.noted in
+    let word = is_word noted can.noted in
     let behind = line.point ++ codes " " ++ noted_text noted in
     rw (grouped (instant_text line.moment) (word_of noted) line.point (noted_text noted))
     (rw (word_read (instant_text line.moment) (word_of noted ++ codes " " ++ behind) (some_instant line.moment) (no_space (instant_text line.moment) (visible_instant line.moment)))
-    (rw (word_read (word_of noted) behind (some_word noted) (no_space (word_of noted) (visible_word noted)))
+    (rw (word_read (word_of noted) behind word.some word.spaces)
     (rw (word_read line.point (noted_text noted) can.point.some can.point.spaces)
-    (rw (word_is_named noted)
+    (rw (kind_is_read noted)
     (rw (again line.moment can.moment)
     (rw (noted_read noted can.noted) refl))))))
 
@@ -261,8 +280,8 @@ decimal_feeds : (n : ℕ) → n ≤ max_number → HasNoLineFeed (decimal n)
 decimal_feeds n within = no_feed_in (decimal n) (visible_decimal n within)
 
 noted_feeds : (noted : NotedState) → CanBeNoted noted → HasNoLineFeed (noted_text noted)
-noted_feeds (message sender number frame) within =
-    spaced (decimal number) (on_one_line frame) (decimal_feeds number within) (one_line frame)
+noted_feeds (message sender number frame) can =
+    spaced (decimal number) (on_one_line frame) (decimal_feeds number can.1) (one_line frame)
 noted_feeds (reply link frame) within =
     spaced (decimal link) (on_one_line frame) (decimal_feeds link within) (one_line frame)
 noted_feeds (verdict call frame) within =
@@ -281,5 +300,5 @@ line_feeds line can =
     (spaced (instant_text line.moment ++ codes " " ++ word_of noted) line.point
     (spaced (instant_text line.moment) (word_of noted)
     (no_feed_in (instant_text line.moment) (visible_instant line.moment))
-    (no_feed_in (word_of noted) (visible_word noted))) can.point.breaks)
+    (is_word noted can.noted).breaks) can.point.breaks)
     (noted_feeds noted can.noted)

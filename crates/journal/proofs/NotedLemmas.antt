@@ -47,8 +47,9 @@ with_number number drawn is =
 
 pub changes : ChangesAreRestored
 unfolding restored
-changes state text step made number asks is drawn =
-    ap (λ (r : Result Step RestoreFault). r >>= made_with state (Some number)) asks
+changes state text sender step made number side asks is drawn =
+    ap (λ (r : Result Step RestoreFault). r >>= made_with state (Some number))
+    (ap (λ (s : Side). change_asked (asked_of (sent text.moment s text.point text.frame))) side ∙ asks)
     ∙ made_again state step made (Some number) is
     (with_number number (number_drawn made.reply made.after.numbers.version) drawn)
 

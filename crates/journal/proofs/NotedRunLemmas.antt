@@ -20,7 +20,7 @@ use Rattle.site_core.specs.Theory.Steps.{StepKind, kind_of, names_point, takes_o
 use Rattle.journal.specs.declared.restore_fault.RestoreFault.{RestoreFault}
 use Rattle.journal.specs.declared.restore_fault.RestoreFault.TheVariants.{OtherStep}
 use Rattle.version_store.specs.Recording.{forget, is_of_request}
-use Rattle.journal.specs.Line.{NotedState, LineState, number_written}
+use Rattle.journal.specs.Line.{NotedState, LineState, number_written, side_of_sender}
 use Rattle.journal.specs.Line as noted_as
 use Rattle.journal.specs.NotedRun.{begins, notes, passes, NotedRunsAreRestored}
 use Rattle.journal.specs.Restore.{is_change, change_asked, confirm_asked, judge_asked, judged_exactly, reply_on, step_noted, number_drawn, number_fault, unless_fault, made_or_refused, made_with, restored, restored_lines}
@@ -79,7 +79,7 @@ judged_at point call said (Some job) step is =
 noted_at : (state : MachineState) (line : LineState) (noted : NotedState) (step : Step)
     → step_noted state line noted ≡ Ok step → IsAtPoint step
 noted_at state line (noted_as.message sender number frame) step is =
-    asked_at (asked_of (texts.sent line.moment sender line.point frame)) step is
+    asked_at (asked_of (texts.sent line.moment (side_of_sender sender) line.point frame)) step is
 noted_at state line (noted_as.reply link frame) step is =
     confirm_at link (asked_of (reply_on line frame)) step is
 noted_at state line (noted_as.verdict call frame) step is =

@@ -1,7 +1,6 @@
 -- The noted event of a step, whose line leads to the step's state.
 use Rattle.std.specs.Prelude.{ℕ, ◌≡◌, Bool, List, Option, Some, None, Ok, if◌then◌else◌}
 use Rattle.messages.specs.declared.call.Call.{Call}
-use Rattle.messages.specs.declared.side.Side.{Side}
 use Rattle.messages.specs.declared.side.Side.TheVariants.{Point}
 use Rattle.sweep_compiler.specs.Verdict.{AuditRequest}
 use Rattle.texts.specs.declared.asked.Asked.TheVariants as asked
@@ -13,14 +12,14 @@ use Rattle.site_core.specs.declared.step.Step.TheVariants as steps
 use Rattle.site_core.specs.declared.reply.Reply.TheVariants as replies
 use Rattle.site_core.specs.State.{MachineState, audit_job}
 use Rattle.site_core.specs.Step.{Made, stepped, no_answer}
-use Rattle.journal.specs.Line.{NotedState, LineState, message, reply, verdict, attached, sent, lost}
+use Rattle.journal.specs.Line.{SenderState, NotedState, LineState, message, reply, verdict, attached, sent, lost, side_of_sender}
 use Rattle.journal.specs.Restore.{is_change, change_asked, judged_exactly, number_drawn, restored}
 
 -- the event to note of a step that a message requests, with 0 for the number that it draws: none
 -- for a request for a schedule or a status
-abbrev pub noted_by : Step → Side → List ℕ → Option NotedState
-noted_by (steps.Confirm point link call accepted) side frame = Some (reply link frame)
-noted_by step side frame = if is_change step then Some (message side 0 frame) else None
+abbrev pub noted_by : Step → SenderState → List ℕ → Option NotedState
+noted_by (steps.Confirm point link call accepted) sender frame = Some (reply link frame)
+noted_by step sender frame = if is_change step then Some (message sender 0 frame) else None
 
 -- ---- each line leads to the state of its step
 
@@ -34,13 +33,14 @@ IsStep state step made = stepped no_answer state step ≡ Ok made
 abbrev pub LeadsTo : MachineState → LineState → Made → Type 0
 LeadsTo state line made = restored state line ≡ Ok made.after
 
--- a change that was made and drew a number
+-- a change that was made and drew a number, whatever the name of the sender
 abbrev pub ChangesAreRestored : Type 0
 ChangesAreRestored =
-    (state : MachineState) (text : Sent) (step : Step) (made : Made) (number : ℕ)
+    (state : MachineState) (text : Sent) (sender : SenderState) (step : Step) (made : Made) (number : ℕ)
+    → side_of_sender sender ≡ text.sender
     → change_asked (asked_of text) ≡ Ok step → IsStep state step made
     → number_drawn made.reply made.after.numbers.version ≡ Some number
-    → LeadsTo state (line_at text.moment text.point (message text.sender number text.frame)) made
+    → LeadsTo state (line_at text.moment text.point (message sender number text.frame)) made
 
 -- a point's reply that confirmed a call
 abbrev pub ConfirmsAreRestored : Type 0

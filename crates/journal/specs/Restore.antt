@@ -23,7 +23,7 @@ use Rattle.site_core.specs.Step.{Made, stepped, no_answer}
 use Rattle.version_store.specs.Passes.{PassState}
 use Rattle.journal.specs.declared.restore_fault.RestoreFault.{RestoreFault}
 use Rattle.journal.specs.declared.restore_fault.RestoreFault.TheVariants.{OtherStep, Refused, Unchanged, OtherNumber, OutOfMemory}
-use Rattle.journal.specs.Line.{NotedState, LineState, message, reply, verdict, attached, sent, lost, number_written}
+use Rattle.journal.specs.Line.{NotedState, LineState, message, reply, verdict, attached, sent, lost, number_written, side_of_sender}
 
 -- ---- the step of a line
 
@@ -67,7 +67,7 @@ reply_on line frame = texts.sent line.moment Point line.point frame
 
 abbrev pub step_noted : MachineState → LineState → NotedState → Result Step RestoreFault
 step_noted state line (message sender number frame) =
-    change_asked (asked_of (texts.sent line.moment sender line.point frame))
+    change_asked (asked_of (texts.sent line.moment (side_of_sender sender) line.point frame))
 step_noted state line (reply link frame) = confirm_asked link (asked_of (reply_on line frame))
 step_noted state line (verdict call frame) =
     judge_asked line.point call (said_of (reply_on line frame)) (audit_job state line.point call)

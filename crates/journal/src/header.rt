@@ -10,7 +10,7 @@ use hex::FromHex;
 use std::alloc::{AllocError, Global};
 use thiserror::Error;
 
-/// The reason for which a text isn't the first line of a journal.
+/// The reason why a text isn't the first line of a journal.
 #[derive(Clone, Copy, Debug, PartialEq, Eq, Error)]
 pub enum HeaderFault {
     /// It doesn't begin as a journal does.
@@ -96,7 +96,7 @@ fn digest_in(line: &str, format: Format) -> Option<[u8; 32]>
     read_digest(digits)
 }
 
-/// Returns the reason for which the first line of a file isn't that of a journal.
+/// Returns the reason why the first line of a file isn't that of a journal.
 fn fault_of(line: &str) -> HeaderFault {
     let Some(rest) = line.strip_prefix("central journal ") else {
         return HeaderFault::NotAJournal;

@@ -49,7 +49,7 @@ pub trait Journal<N: ListName> {
     fn write_out(&self) -> Result<(), JournalFault>;
 }
 
-/// The reason for which a step can't be noted, or noted steps can't be kept.
+/// The reason why a step can't be noted, or noted steps can't be kept.
 #[derive(Clone, Copy, PartialEq, Eq)]
 pub enum JournalFault {
     /// Nothing can be written at present.
@@ -69,6 +69,7 @@ impl From<AllocError> for JournalFault {
 pub struct NoJournal;
 
 impl<N: ListName> Journal<N> for NoJournal {
+    /// Returns none, since `NoJournal` notes nothing.
     fn prepare(
         &self,
         _moment: Instant,
@@ -78,6 +79,7 @@ impl<N: ListName> Journal<N> for NoJournal {
         Ok(None)
     }
 
+    /// Does nothing, since `NoJournal` notes nothing.
     fn note(
         &self,
         _entry: Entry,
@@ -89,10 +91,13 @@ impl<N: ListName> Journal<N> for NoJournal {
             (IsAt N.is_recorded _before.now) (IsAt N.is_recorded _after.now) }
     {}
 
+    /// Waits for nothing, since `serve` and other users of `NoJournal` keep no journal. Fails if
+    /// the states are recorded: only a journal keeps those.
     fn receipt(&self, recorded: &RecordedStates<N>) -> Result<Receipt<N>, JournalFault> {
         Receipt::of_nothing(recorded).ok_or(JournalFault::Unwritable)
     }
 
+    /// Waits for nothing, since nothing was noted.
     fn write_out(&self) -> Result<(), JournalFault> {
         Ok(())
     }

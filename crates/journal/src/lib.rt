@@ -38,7 +38,7 @@ pub use forgetting::requests_can_be_left_out;
 pub use header::{Format, Header, HeaderFault, push_header, read_header};
 pub use journal::{Journal, JournalFault, NoJournal};
 pub use laws::{answered_survives, entries_are_restored};
-pub use line::{Line, Noted, push_line};
+pub use line::{Line, Noted, Sender, push_line};
 pub use line_fault::LineFault;
 pub use line_laws::lines_read_back;
 pub use lines::{split_line, whole_lines};

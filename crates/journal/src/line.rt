@@ -1,24 +1,55 @@
 //! A line of a journal, and its text.
 
-ghost use Rattle.std.specs.Prelude.{◌≡◌, string_bytes};
+ghost use Rattle.std.specs.Prelude.{◌≡◌, option_copied, string_bytes};
 ghost use Rattle.ocpp_scalars.specs.Appending.{Appends};
 ghost use Rattle.journal.specs.Entry.{before_number, behind_number, drawn_text, noted_before, noted_behind};
 ghost use Rattle.journal.specs.ByCases.Line.{without_returns};
-ghost use Rattle.journal.specs.Line.{line_text, noted_state, number_written, numbered_frame, on_one_line, side_word, word_of};
+ghost use Rattle.journal.specs.Line.{line_text, noted_state, name_of_sender, number_written, numbered_frame, on_one_line, sender_state, sender_word, side_of_sender, word_of};
 
 use messages::Side;
 use ocpp_scalars::{Instant, push_instant, push_integer};
 use std::alloc::AllocError;
 use std::marker::Model;
 
+/// The sender of a message.
+#[derive(Clone, Copy, PartialEq, Eq)]
+pub enum Sender<'a> {
+    /// The point itself.
+    Point,
+    /// An operator, or the central system as one. The name is that of the key, if there are keys.
+    Operator { name: Option<&'a str> },
+}
+
+impl<'a> Sender<'a> {
+    /// Returns the side that sends.
+    pub fn side(self) -> Side
+        ensures { result ≡ side_of_sender (sender_state self.entry) }
+    {
+        match self {
+            Sender::Point => Side::Point,
+            Sender::Operator { .. } => Side::Operator,
+        }
+    }
+
+    /// Returns the name of an operator's key, if there is one.
+    pub fn name(self) -> Option<&'a str>
+        ensures { option_copied result ≡ name_of_sender (sender_state self.entry) }
+    {
+        match self {
+            Sender::Operator { name } => name,
+            Sender::Point => None,
+        }
+    }
+}
+
 /// The event that a line notes of its point.
 #[derive(Clone, Copy, PartialEq, Eq)]
 pub enum Noted<'a> {
-    /// A message from this side whose step was made. The number is the one that the step drew: of
+    /// A message from this sender whose step was made. The number is the one that the step drew: of
     /// the transaction that began, of the call that was added for an audit or a remote start, or
     /// else the version of the store after it.
     Message {
-        sender: Side,
+        sender: Sender<'a>,
         number: u64,
         frame: &'a str,
     },
@@ -69,20 +100,6 @@ impl<'a> Model for Line<'a> {
 }
 
 impl Noted<'_> {
-    /// Returns the second word of the event's line in the journal, such as `operator` or `sent`.
-    pub(crate) fn word(&self) -> &'static str
-        ensures { result.now ≡ word_of (noted_state self.now) }
-    {
-        match self {
-            Noted::Message { sender, .. } => side_word(*sender),
-            Noted::Reply { .. } => "reply",
-            Noted::Verdict { .. } => "verdict",
-            Noted::Attached { .. } => "attached",
-            Noted::Sent { .. } => "sent",
-            Noted::Lost { .. } => "lost",
-        }
-    }
-
     /// Returns the number in the event's line of the journal that its step draws, if it draws one.
     pub(crate) fn number(&self) -> Option<u64>
         ensures { result ≡ number_written (noted_state self.now) }
@@ -93,16 +110,6 @@ impl Noted<'_> {
             Noted::Sent { call, .. } => Some(*call),
             Noted::Reply { .. } | Noted::Verdict { .. } | Noted::Lost { .. } => None,
         }
-    }
-}
-
-/// Returns the second word of a message's line in the journal, by the side that sent it.
-fn side_word(side: Side) -> &'static str
-    ensures { result.now ≡ side_word side }
-{
-    match side {
-        Side::Operator => "operator",
-        Side::Point => "point",
     }
 }
 
@@ -133,11 +140,41 @@ pub(crate) fn push_before_number(text: &mut String, line: &Line<'_>) -> Result<(
 {
     push_instant(text, line.moment)?;
     text.push(' ')?;
-    text.push_str(line.noted.word())?;
+    push_word(text, &line.noted)?;
     text.push(' ')?;
     text.push_str(line.point)?;
     text.push(' ')?;
     push_noted_before(text, &line.noted)
+}
+
+/// Appends the second word of the event's line in the journal, such as `operator:ann` or `sent`.
+fn push_word(text: &mut String, noted: &Noted<'_>) -> Result<(), AllocError>
+    ensures { Appends result (string_bytes text.old) (string_bytes text.new)
+        (word_of (noted_state noted.now)) }
+{
+    match noted {
+        Noted::Message { sender, .. } => push_sender(text, *sender),
+        Noted::Reply { .. } => text.push_str("reply"),
+        Noted::Verdict { .. } => text.push_str("verdict"),
+        Noted::Attached { .. } => text.push_str("attached"),
+        Noted::Sent { .. } => text.push_str("sent"),
+        Noted::Lost { .. } => text.push_str("lost"),
+    }
+}
+
+/// Appends the second word of a message's line in the journal: its sender.
+fn push_sender(text: &mut String, sender: Sender<'_>) -> Result<(), AllocError>
+    ensures { Appends result (string_bytes text.old) (string_bytes text.new)
+        (sender_word (sender_state sender.entry)) }
+{
+    match sender {
+        Sender::Point => text.push_str("point"),
+        Sender::Operator { name: None } => text.push_str("operator"),
+        Sender::Operator { name: Some(name) } => {
+            text.push_str("operator:")?;
+            text.push_str(name)
+        }
+    }
 }
 
 /// Appends the part of a journal's line between the point and the drawn number, or up to the line's

@@ -1,8 +1,8 @@
-//! The reasons for which a text isn't a line of a journal.
+//! The reasons why a text isn't a line of a journal.
 
 use thiserror::Error;
 
-/// The reason for which a text isn't a line of a journal, in the order of the checks.
+/// The reason why a text isn't a line of a journal. The variants are in the order of the checks.
 #[derive(Clone, Copy, Debug, PartialEq, Eq, Error)]
 pub enum LineFault {
     /// It isn't UTF-8.

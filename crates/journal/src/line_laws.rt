@@ -15,6 +15,6 @@ pub fn lines_read_back()
         → line_of (line_words line) ≡ Ok line }
     ensures one { (line : LineState) → CanBeWritten line → HasNoLineFeed (line_words line) }
 {
-    // A law that the proof of this one uses: nothing runs.
+    // This call makes the law available to the proof. It does nothing at run time.
     instant_texts();
 }

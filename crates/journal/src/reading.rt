@@ -1,22 +1,29 @@
 //! Reading of a line of a journal.
 
-ghost use Rattle.std.specs.Prelude.{◌≡◌};
+ghost use Rattle.std.specs.Prelude.{◌≡◌, option_map};
 ghost use Rattle.std.specs.Result.{result_map_both};
-ghost use Rattle.journal.specs.ByCases.Line.{line_in, line_of, message_in, noted_in, number_at, number_or_fault, word_at, words_of, words_view};
-ghost use Rattle.journal.specs.Line.{noted_state};
+ghost use Rattle.journal.specs.ByCases.Line.{kind_of, kind_view, line_in, line_of, message_in, noted_in, number_at, number_or_fault, word_at, words_of, words_view};
+ghost use Rattle.journal.specs.Line.{noted_state, sender_state};
 
-use crate::line::{Line, Noted};
+use crate::line::{Line, Noted, Sender};
 use crate::line_fault::LineFault;
 use crate::line_word::LineWord;
-use messages::Side;
 use ocpp_scalars::read_instant;
 use texts::number_of;
+
+/// The kind of a line, by its second word.
+#[derive(Clone, Copy)]
+struct Kind<'a> {
+    word: LineWord,
+    /// The name of an operator's key, behind a colon.
+    name: Option<&'a str>,
+}
 
 /// The words of a line.
 #[derive(Clone, Copy)]
 struct Words<'a> {
     instant: &'a str,
-    word: LineWord,
+    kind: Kind<'a>,
     point: &'a str,
     /// The text after the point.
     rest: &'a str,
@@ -44,7 +51,7 @@ pub fn read_line(text: &str) -> Result<Line<'_>, LineFault>
     let Ok(moment) = read_instant(words.instant) else {
         return Err(LineFault::Moment);
     };
-    match read_noted(words.word, words.rest) {
+    match read_noted(words.kind, words.rest) {
         Ok(noted) => Ok(Line {
             moment,
             point: words.point,
@@ -61,10 +68,10 @@ fn split_words(text: &str) -> Result<Words<'_>, LineFault>
     let (instant, text) = split_word(text)?;
     let (word, text) = split_word(text)?;
     let (point, rest) = split_word(text)?;
-    match LineWord::named(word) {
-        Some(word) => Ok(Words {
+    match read_kind(word) {
+        Some(kind) => Ok(Words {
             instant,
-            word,
+            kind,
             point,
             rest,
         }),
@@ -72,13 +79,31 @@ fn split_words(text: &str) -> Result<Words<'_>, LineFault>
     }
 }
 
-/// Reads the event of a journal's line with this second word, from the text after its point.
-fn read_noted(word: LineWord, text: &str) -> Result<Noted<'_>, LineFault>
-    ensures { result_map_both noted_state (λ fault. fault) result ≡ noted_in word text.entry.now }
+/// Reads the second word of a journal's line, such as `operator:ann` or `sent`.
+fn read_kind(word: &str) -> Option<Kind<'_>>
+    ensures { option_map kind_view result ≡ kind_of word.entry.now }
 {
-    match word {
-        LineWord::Operator => read_message(Side::Operator, text),
-        LineWord::Point => read_message(Side::Point, text),
+    match word.split_once(':') {
+        Some(("operator", name)) => Some(Kind {
+            word: LineWord::Operator,
+            name: Some(name),
+        }),
+        Some(_) => None,
+        None => {
+            let word = LineWord::named(word)?;
+            Some(Kind { word, name: None })
+        }
+    }
+}
+
+/// Reads the event of a journal's line of this kind, from the text after its point.
+fn read_noted<'a>(kind: Kind<'a>, text: &'a str) -> Result<Noted<'a>, LineFault>
+    ensures { result_map_both noted_state (λ fault. fault) result
+        ≡ noted_in (kind_view kind.entry) text.entry.now }
+{
+    match kind.word {
+        LineWord::Operator => read_message(Sender::Operator { name: kind.name }, text),
+        LineWord::Point => read_message(Sender::Point, text),
         LineWord::Reply => {
             let (link, frame) = split_number(text)?;
             Ok(Noted::Reply { link, frame })
@@ -101,11 +126,11 @@ fn read_noted(word: LineWord, text: &str) -> Result<Noted<'_>, LineFault>
     }
 }
 
-/// Reads the event of a journal's line with a message from this side: the number that its step
+/// Reads the event of a journal's line with a message from this sender: the number that its step
 /// drew, and the message.
-fn read_message(sender: Side, text: &str) -> Result<Noted<'_>, LineFault>
+fn read_message<'a>(sender: Sender<'a>, text: &'a str) -> Result<Noted<'a>, LineFault>
     ensures { result_map_both noted_state (λ fault. fault) result
-        ≡ message_in sender text.entry.now }
+        ≡ message_in (sender_state sender.entry) text.entry.now }
 {
     let (number, frame) = split_number(text)?;
     Ok(Noted::Message {

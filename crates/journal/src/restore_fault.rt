@@ -1,4 +1,4 @@
-//! The reasons for which a line of a journal can't be restored.
+//! The reasons why a line of a journal can't be restored.
 
 ghost use Rattle.std.specs.Prelude.{◌≡◌};
 
@@ -7,7 +7,7 @@ use ocpp_scalars::Refusal;
 use std::alloc::AllocError;
 use thiserror::Error;
 
-/// The reason for which a line of a journal can't be restored.
+/// The reason why a line of a journal can't be restored.
 #[derive(Clone, Copy, Debug, PartialEq, Eq, Error)]
 pub enum RestoreFault {
     /// It isn't a line of a journal.

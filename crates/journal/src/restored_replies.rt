@@ -119,7 +119,7 @@ fn judged_by(
 ) -> Result<Judged, AllocError>
     ensures { IfOk result (λ judged. judged ≡ judged_exactly job (said_of text.now)) }
 {
-    // A law that the proof uses: nothing runs.
+    // This call makes the law available to the proof. It does nothing at run time.
     verdicts_are_computed();
     let said = said_of(alloc, memory, text)?;
     let judged = Judged::make(alloc, job, said);

@@ -41,7 +41,7 @@ pub(crate) fn restore_line<C: Ledger, A: Ledger, N: ListName>(
             number,
             frame,
         } => {
-            let text = SentText::new(line.moment, sender, line.point, frame);
+            let text = SentText::new(line.moment, sender.side(), line.point, frame);
             change(alloc, memory, book, pass, &text, number)
         }
         Noted::Reply { link, frame } => {

@@ -4,8 +4,7 @@
 use crate::folder_fault::FolderFault;
 use crate::named_file::report_error;
 use ghost_list::ListName;
-use journal::{Line, Noted, push_line, split_line};
-use messages::Side;
+use journal::{Line, Noted, Sender, push_line, split_line};
 use ocpp_scalars::{Instant, Refusal, read_instant};
 use site_core::PointId;
 use std::alloc::{AllocGlobal, Global};
@@ -96,7 +95,7 @@ fn note_boot<C: Ledger, A: Ledger, N: ListName>(
         Err(_) => return Err(FolderFault::OutOfMemory),
     };
     let noted = Noted::Message {
-        sender: Side::Point,
+        sender: Sender::Point,
         number,
         frame: MESSAGE,
     };

@@ -191,7 +191,7 @@ impl ScriptLines {
     /// another time, the script has a message of the point that changes nothing.
     pub fn take_in<'a>(&mut self, line: &Line<'a>) -> Result<Option<(Side, &'a str)>, AllocError> {
         let (side, frame) = match line.noted {
-            Noted::Message { sender, frame, .. } => (sender, frame),
+            Noted::Message { sender, frame, .. } => (sender.side(), frame),
             Noted::Reply { frame, .. } => (Side::Point, frame),
             Noted::Sent { .. } if self.is_from(line.point) => return Ok(None),
             Noted::Sent { .. } => (Side::Point, BEFORE_A_CALL),

@@ -83,43 +83,13 @@ fn follow_counted<
     let mut file = open_to_read(rt, folder)?;
     let mut follower: Follower<C, A> = Follower::begin(rt.alloc(), site, end, blanks)?;
     let mut journal = JournalLines::new(rt.alloc());
-    follow_parts(rt, &mut file, &mut journal, &mut follower, reader)?;
+    follower.follow_parts(rt, &mut file, &mut journal, reader)?;
     let mut has_end = true;
     if let Some(digest) = noted_with {
         let _ = say_other_site(rt, &file, &journal, &digest);
         has_end = say_followed(rt, &file, &journal, &follower)?;
     }
     follower.into_followed(has_end && journal.torn() == 0)
-}
-
-/// Follows all parts of a journal, to the state of the site at the requested end. If that takes
-/// long, prints to standard error how many lines are read.
-fn follow_parts<C: Ledger, A: Ledger, R: Eprint + Clock + AllocGlobal, E: EventReader>(
-    rt: &R,
-    file: &mut NamedFile,
-    journal: &mut JournalLines,
-    follower: &mut Follower<C, A>,
-    reader: &mut E,
-) -> Result<(), FolderFault> {
-    let mut progress = Progress::of_lines(rt);
-    for _part in 0..u64::MAX {
-        let has_more = match journal.next(rt, file)? {
-            Some(lines) => {
-                follower.follow_lines(lines, reader)?;
-                true
-            }
-            None => false,
-        };
-        if has_more {
-            reader.end_part()?;
-            progress.say_lines(rt, follower.script.count());
-        } else if reader.waits(follower.book.present()) {
-            journal.look_again();
-        } else {
-            break;
-        }
-    }
-    Ok(())
 }
 
 /// Prints to standard error how much of a journal was read. Returns whether the journal reaches the
@@ -195,6 +165,36 @@ impl<C: Ledger, A: Ledger> Follower<C, A> {
         })
     }
 
+    /// Follows all parts of a journal, to the state of the site at the requested end. If that takes
+    /// long, prints to standard error how many lines are read.
+    fn follow_parts<R: Eprint + Clock + AllocGlobal, E: EventReader>(
+        &mut self,
+        rt: &R,
+        file: &mut NamedFile,
+        journal: &mut JournalLines,
+        reader: &mut E,
+    ) -> Result<(), FolderFault> {
+        let mut progress = Progress::of_lines(rt);
+        for _part in 0..u64::MAX {
+            let has_more = match journal.next(rt, file)? {
+                Some(lines) => {
+                    self.follow_lines(lines, reader)?;
+                    true
+                }
+                None => false,
+            };
+            if has_more {
+                reader.end_part()?;
+                progress.say_lines(rt, self.script.count());
+            } else if reader.waits(self.book.present()) {
+                journal.look_again();
+            } else {
+                break;
+            }
+        }
+        Ok(())
+    }
+
     /// Reads these lines of a journal, restores the site's state from those up to the requested
     /// end, and lets a reader read their events.
     fn follow_lines<E: EventReader>(
@@ -255,7 +255,11 @@ impl<C: Ledger, A: Ledger> Follower<C, A> {
     /// Lets a reader read the event of the journal's line that was restored last, if it has one.
     fn let_read<E: EventReader>(&self, line: &Line<'_>, reader: &mut E) -> Result<(), FolderFault> {
         let kind = match line.noted {
-            Noted::Message { sender, frame, .. } => EventKind::Message { sender, frame },
+            Noted::Message { sender, frame, .. } => EventKind::Message {
+                sender: sender.side(),
+                name: sender.name(),
+                frame,
+            },
             Noted::Reply { frame, .. } => EventKind::Reply { frame },
             Noted::Verdict { .. } => EventKind::Verdict,
             Noted::Sent { .. } => {

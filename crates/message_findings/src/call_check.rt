@@ -30,7 +30,7 @@ pub(crate) struct LineCall<'a, 'node, 'memory> {
 }
 
 impl<'a, 'node, 'memory> LineCall<'a, 'node, 'memory> {
-    /// Makes the CALL in a line of a script, of its message, action and payload, for `check`.
+    /// Makes a `LineCall` of the message in a line of a script, its action and its payload.
     pub(crate) fn new(
         text: &'a LineMessage<'a>,
         action: &'a str,
@@ -57,13 +57,13 @@ pub(crate) fn check_call(report: &mut Report, call: &LineCall<'_, '_, '_>) {
     }
 }
 
-/// Reports, for `check` or `call`, a CALL whose action its sender, an operator or a point, doesn't
-/// have, and the action that was probably meant.
+/// Reports, for `check` or `call`, a CALL with an action that its sender doesn't have. Adds the
+/// action that was probably meant.
 pub(crate) fn refuse_action(report: &mut Report, sender: Side, name: &str) {
     report.fault(unknown_action_message(report.alloc, sender, name));
 }
 
-/// Describes, for `check` or `call`, the action of a CALL that its sender doesn't have, and the one
+/// Describes, for `check` or `call`, a CALL's action that its sender doesn't have. Adds the action
 /// that was probably meant.
 fn unknown_action_message(alloc: Global, sender: Side, name: &str) -> Result<String, AllocError> {
     let actions = actions_of(alloc, sender)?;
@@ -85,8 +85,8 @@ fn unknown_action_message(alloc: Global, sender: Side, name: &str) -> Result<Str
     }
 }
 
-/// Returns the names of the actions that an operator or a point may send, from which `check` or
-/// `call` suggests one.
+/// Returns the names of the actions that an operator or a point may send. `check` or `call`
+/// suggests one of them.
 fn actions_of(alloc: Global, side: Side) -> Result<Vec<&'static str>, AllocError> {
     let mut names = Vec::new(alloc);
     for kind in ActionKind::all() {
@@ -236,8 +236,8 @@ fn unknown_field_message(
     }
 }
 
-/// Checks, for `check`, a ClearChargingProfile in a line of a script: whether the site has its
-/// point, and its fields that are no criteria.
+/// Checks a ClearChargingProfile in a line of a script: whether the site has its point, and its
+/// fields that are no criteria.
 fn check_clear(report: &mut Report, call: &LineCall<'_, '_, '_>, criteria: &Criteria) {
     if call.text.site.place_of(call.text.point).is_none() {
         refuse_point(report, call.text);
@@ -249,8 +249,8 @@ fn check_clear(report: &mut Report, call: &LineCall<'_, '_, '_>, criteria: &Crit
     }
 }
 
-/// Warns, for `check` or `call`, of a ClearChargingProfile that clears more than it seems to, by
-/// its fields that are no criteria.
+/// Warns, for `check` or `call`, of a ClearChargingProfile that clears more than it seems to. It
+/// has no criterion, or has fields that are none.
 // Unknown fields are ignored, so a clear whose only criterion is misspelled clears everything.
 pub(crate) fn warn_of_clear(
     report: &mut Report,
@@ -339,15 +339,15 @@ fn criterion_meant(alloc: Global, name: &str) -> Result<Option<&'static str>, Al
     }
 }
 
-/// Reports that the site lacks the point of a message in a script, with the identity that is
+/// Reports that the site lacks the point of a message in a script. Adds the identity that is
 /// probably meant.
 pub(crate) fn refuse_point(report: &mut Report, text: &LineMessage<'_>) {
     let message = unknown_point_message(report, text.site, text.point);
     report.fault(message);
 }
 
-/// Describes, for `check`, the refusal of a script's message for a point that the site lacks, with
-/// the identity that is probably meant.
+/// Describes the refusal of a message for a point that the site lacks. Adds the identity that is
+/// probably meant.
 fn unknown_point_message(report: &mut Report, site: &Site, id: &str) -> Result<String, AllocError> {
     let alloc = report.alloc;
     let hint = point_hint(report, site, id)?;
@@ -355,7 +355,7 @@ fn unknown_point_message(report: &mut Report, site: &Site, id: &str) -> Result<S
     format!(in alloc; "UnknownPoint: the site has no point \"{id}\"{hint}")
 }
 
-/// Returns, for `check`, the point of the site that a line of a script names, if the site has it.
+/// Returns the point of the site that a line of a script names, if the site has it.
 pub(crate) fn point_of<'a>(site: &'a Site, text: &LineMessage<'_>) -> Option<SitePoint<'a>> {
     site.point(site.place_of(text.point)?)
 }
@@ -374,8 +374,7 @@ fn check_ask(report: &mut Report, text: &LineMessage<'_>, request: &ScheduleRequ
     }
 }
 
-/// Describes, for a fault of `check`, the value for which a GetCompositeSchedule or an AuditPoint
-/// is refused.
+/// Describes the value for which a GetCompositeSchedule or an AuditPoint in a script is refused.
 fn ask_found(
     alloc: Global,
     text: &LineMessage<'_>,
@@ -394,8 +393,8 @@ fn ask_found(
     }
 }
 
-/// Describes, for a fault of `check` in an operator's CALL, its connectorId and the last connector
-/// of the point.
+/// Describes an operator's unknown connectorId, for a fault of `check` or `call --data`. Adds the
+/// last connector of the point, if the site has the point.
 pub(crate) fn connector_found(
     alloc: Global,
     site: &Site,
@@ -411,13 +410,13 @@ pub(crate) fn connector_found(
     }
 }
 
-/// Returns, for a fault of `check`, the number of connectors of the point that a script's line
-/// names, 0 if the site lacks it.
+/// Returns the number of connectors of the point that a script's line names, 0 if the site lacks
+/// it.
 pub(crate) fn connector_count(text: &LineMessage<'_>) -> usize {
     point_of(text.site, text).map_or(0, |point| point.ceilings.len())
 }
 
-/// Describes, for a fault of `check`, the unit of the site file, where a CALL has the other
+/// Describes the unit of the site file, for the fault that an operator's CALL has the other
 /// chargingRateUnit.
 pub(crate) fn unit_found(site: &Site) -> &'static str {
     match site.unit() {

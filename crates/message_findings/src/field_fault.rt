@@ -54,8 +54,8 @@ fn field_of(fault: CallFault) -> Option<FieldName> {
     }
 }
 
-/// Returns, for a fault of `check`, the outermost object of a CALL's payload whose table has a
-/// field of this name. Where an object on the path is absent, returns the last one that is present.
+/// Returns the outermost object of a CALL's payload whose table has a field of this name, and the
+/// path to it. If an object on the path is absent, returns the last one that is present.
 // A fault names its field without a path, so the payload is searched for it.
 fn place_of_field<'node, 'memory>(
     alloc: Global,
@@ -85,8 +85,8 @@ fn place_of_field<'node, 'memory>(
     Ok(place)
 }
 
-/// Returns, for `check`, the first entry in a list of a CALL's payload with this field at fault,
-/// its list and its index.
+/// Returns the first entry in a list of a CALL's payload with this field at fault, its list and its
+/// index.
 fn first_bad<'node, 'memory>(
     object: PayloadObject<'node, 'memory>,
     name: &str,
@@ -113,8 +113,8 @@ fn first_bad<'node, 'memory>(
     None
 }
 
-/// Returns whether `check` finds no fault in a field of an object in a list of a CALL's payload,
-/// such as a period's limit. The objects of lists have no fields of other kinds.
+/// Returns whether a field of an object in a list of a CALL's payload has no fault, such as a
+/// period's limit. The objects of lists have no fields of other kinds.
 fn is_right(object: Node<'_, '_>, row: FieldRow) -> bool {
     let name = row.name().text();
     match row.kind() {
@@ -132,8 +132,7 @@ fn is_right(object: Node<'_, '_>, row: FieldRow) -> bool {
     }
 }
 
-/// Returns whether a field of a CALL's payload is optional, so that `check` finds no fault in its
-/// absence.
+/// Returns whether a field of a CALL's payload is optional, so that its absence is no fault.
 fn may_be_absent(row: FieldRow) -> bool {
     matches!(row, FieldRow::Optional(_, _))
 }

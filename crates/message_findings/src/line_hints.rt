@@ -25,7 +25,7 @@ pub(crate) fn mistake_message(
     match fault {
         ScriptLineFault::TooLong => {
             let count = line.len();
-            format!(in alloc; "{fault}: {count} bytes; at most 1048576 are wanted")
+            format!(in alloc; "{fault}: {count} bytes; at most 1048576 are allowed")
         }
         ScriptLineFault::BadText => {
             format!(in alloc; "{fault}: it isn't UTF-8 from its byte at offset {valid} on")
@@ -77,17 +77,18 @@ fn bad_instant(alloc: Global, word: &str) -> Result<String, AllocError> {
     format!(in alloc; "{fault}: \"{word}\" {hint}; {rule}")
 }
 
-/// Describes, for `check`, the mistake in a script's line that has none of the forms of lines.
+/// Describes, for `check`, what is wrong with a line that has none of the forms of a script's
+/// lines.
 fn form_hint(alloc: Global, text: &str) -> Result<String, AllocError> {
     // This comes first, since two blanks would begin an empty word, and a tab would end none.
     if let Some(hint) = plain_hint(text) {
         return String::from_str(alloc, hint);
     }
     let Some((_, rest)) = text.split_once(' ') else {
-        return String::from_str(alloc, "there is one word alone");
+        return String::from_str(alloc, "there is only one word");
     };
     let Some((word, _)) = rest.split_once(' ') else {
-        return String::from_str(alloc, "too few words stand there, or two blanks in a row");
+        return String::from_str(alloc, "there are too few words, or two blanks in a row");
     };
     if WORDS.contains(&word) {
         return String::from_str(alloc, words_hint(word));
@@ -115,7 +116,7 @@ fn plain_hint(text: &str) -> Option<&'static str> {
         return Some("this is a line of a replay's output, and no line of a script");
     }
     if text.starts_with('[') {
-        return Some("this is a frame alone, without the words before it");
+        return Some("this is only a frame, without the words before it");
     }
     if text.starts_with(' ') {
         return Some("the line begins with a blank");
@@ -128,15 +129,13 @@ fn plain_hint(text: &str) -> Option<&'static str> {
 fn first_word_hint(text: &str) -> Option<&'static str> {
     let (first, rest) = text.split_once(' ').unwrap_or((text, ""));
     if first.contains('\t') || rest.starts_with('\t') {
-        return Some("a tab stands where one blank is wanted");
+        return Some("there is a tab in place of a blank");
     }
     if rest.starts_with(' ') {
-        return Some("two blanks stand where one is wanted");
+        return Some("there are two blanks in place of one");
     }
     if is_date(first) {
-        return Some(
-            "the date and the time stand apart; a T joins them, as in 2025-01-31T18:00:00Z",
-        );
+        return Some("the date and the time are apart; a T joins them, as in 2025-01-31T18:00:00Z");
     }
     None
 }
@@ -166,15 +165,15 @@ fn has_shape(text: &str, shape: &str) -> bool {
     true
 }
 
-/// Describes, for a fault of `check`, the words that have to follow the second word of a script's
-/// line, which is right.
+/// Describes, for a fault of `check`, the words that have to follow the right second word of a
+/// script's line.
 fn words_hint(word: &str) -> &'static str {
     match word {
         "release" => {
-            "behind release stands the number of a held request, from 1 to 1000000000000, without zeros before it and with nothing behind it"
+            "after release comes the number of a held request, from 1 to 1000000000000, without leading zeros and with nothing after it"
         }
         _ =>
-            "behind operator, point and hold stand the identity of a point and a frame, with one blank between them",
+            "after operator, point and hold come the identity of a point and a frame, with one blank between them",
     }
 }
 
@@ -199,8 +198,8 @@ fn instant_hint(word: &str, fault: InstantFault) -> &'static str {
     "is no instant"
 }
 
-/// Returns a hint of `check` at the point that an unknown identity in a script probably means, for
-/// the first 1,000 such identities.
+/// Returns a hint at the point that an unknown identity in a script probably means, for the first
+/// 1,000 such identities.
 pub(crate) fn point_hint(report: &mut Report, site: &Site, id: &str) -> Result<String, AllocError> {
     let alloc = report.alloc;
     if !report.takes_hint() {

@@ -20,7 +20,7 @@ pub(crate) enum Sender {
 }
 
 impl Sender {
-    /// Returns, for `check`, who sends a message of this side without a `hold`.
+    /// Returns the sender of a message of this side in a line of a script without a `hold`.
     pub(crate) fn of_side(side: Side) -> Sender {
         match side {
             Side::Operator => Sender::Operator,
@@ -28,8 +28,8 @@ impl Sender {
         }
     }
 
-    /// Returns, for `check`, the side that sends the message in a line of a script: an operator,
-    /// also in a `hold` line, or a point.
+    /// Returns the side that sends the message in a line of a script: an operator, also in a `hold`
+    /// line, or a point.
     pub(crate) fn side(self) -> Side {
         match self {
             Sender::Operator | Sender::Hold => Side::Operator,
@@ -72,8 +72,7 @@ impl<'a> LineMessage<'a> {
         }
     }
 
-    /// Makes the message of a script's line, with the output that `replay` prints for it, for
-    /// `check`.
+    /// Makes the message of a script's line, with the output that `replay` prints for it.
     pub(crate) fn new(
         site: &'a Site,
         played: &'a PlayedLine<'_>,
@@ -115,8 +114,7 @@ impl<'a> LineMessage<'a> {
         }
     }
 
-    /// Returns, for `check`, the reason of a `Rejected`, if that is the answer to this message of a
-    /// script.
+    /// Returns the reason of a `Rejected`, if that is the answer to this message of a script.
     pub(crate) fn rejection(&self) -> Option<Refusal> {
         for line in self.printed {
             if let PrintedLine::Answer {
@@ -130,8 +128,8 @@ impl<'a> LineMessage<'a> {
         None
     }
 
-    /// Returns, for `check`, the reason of a `Rejected` or of a CALLERROR, if that is the answer to
-    /// this message of a script.
+    /// Returns the reason of a `Rejected` or of a CALLERROR, if that is the answer to this message
+    /// of a script.
     pub(crate) fn refusal(&self) -> Option<Refusal> {
         for line in self.printed {
             let PrintedLine::Answer { response, .. } = line else {
@@ -147,8 +145,8 @@ impl<'a> LineMessage<'a> {
     }
 }
 
-/// Returns a script's line as a text for `check`, empty if it isn't UTF-8, and the number of its
-/// bytes that are UTF-8.
+/// Returns a script's line as a text, empty if the line isn't UTF-8. Also returns the number of
+/// bytes up to the first that isn't UTF-8.
 pub(crate) fn utf8_of(line: &[u8]) -> (&str, usize) {
     match std::str::from_utf8(line) {
         Ok(text) => (text, line.len()),

@@ -16,8 +16,7 @@ enum PayloadPart {
 }
 
 impl PayloadPart {
-    /// Returns the known fields of an object of an operator's payload, and none of a list, so that
-    /// `check` finds unknown ones.
+    /// Returns the known fields of an object of an operator's payload. A list has none.
     fn fields(self) -> &'static [FieldRow] {
         match self {
             PayloadPart::Object(fields) => fields,
@@ -25,8 +24,8 @@ impl PayloadPart {
         }
     }
 
-    /// Returns, for `check`, the object or list of an operator's payload that the member of this
-    /// name is, if its field is known as one.
+    /// Returns the object or list of an operator's payload that the member of this name is, if its
+    /// field is known as one.
     fn member(self, name: &str) -> Option<PayloadPart> {
         match row_named(self.fields(), name)?.kind() {
             FieldKind::Object(kind) => Some(PayloadPart::Object(fields_in(kind))),
@@ -35,7 +34,8 @@ impl PayloadPart {
         }
     }
 
-    /// Returns, for `check`, the object that each entry of this list of an operator's payload is.
+    /// Returns the object that each entry of this list of an operator's payload is. An object has
+    /// no entries.
     fn entry(self) -> Option<PayloadPart> {
         match self {
             PayloadPart::List(fields) => Some(PayloadPart::Object(fields)),
@@ -105,8 +105,8 @@ pub(crate) fn repeated_payload_fields<'text>(
     Ok(repeated)
 }
 
-/// Returns whether an earlier member of the same object in a CALL has this name, so that `check`
-/// warns of this part as a duplicate.
+/// Returns whether an earlier member of the same object in a CALL has this name, so that this part
+/// is a duplicate.
 pub(crate) fn stands_before(
     text: &str,
     outline: &Outline,
@@ -128,8 +128,8 @@ pub(crate) fn stands_before(
     false
 }
 
-/// Returns, for `check`, the name of a part of an operator's CALL that is a member, unless the name
-/// has an escape.
+/// Returns the name of a part of an operator's CALL that is a member, unless the name has an
+/// escape.
 // The span of a name with an escape isn't the whole name, so it can't be compared.
 fn name_of<'text>(text: &'text str, part: &Part) -> Option<&'text str> {
     let Label::Member(span) = part.label else {
@@ -142,8 +142,8 @@ fn name_of<'text>(text: &'text str, part: &Part) -> Option<&'text str> {
     Some(name)
 }
 
-/// Returns for each part of an operator's CALL that `check` reads the object or list of the payload
-/// that it is, if it is one.
+/// Returns, for each part of an operator's CALL, the object or list of the payload that it is, if
+/// it is one.
 fn known_parts(
     alloc: Global,
     text: &str,
@@ -158,14 +158,14 @@ fn known_parts(
     Ok(known)
 }
 
-/// Returns the object or list of an operator's payload that contains this part of the CALL, to find
-/// unknown fields for `check`.
+/// Returns the object or list of an operator's payload that contains this part of the CALL, if one
+/// does.
 fn owner_of(known: &Vec<Option<PayloadPart>>, part: &Part) -> Option<PayloadPart> {
     *known.get(part.parent?)?
 }
 
-/// Returns, for `check`, the object or list of an operator's payload that a part of the CALL is, by
-/// the one that contains it.
+/// Returns the object or list of an operator's payload that a part of the CALL is. `owner` is the
+/// one that contains it.
 fn part_of(
     text: &str,
     outline: &Outline,
@@ -184,8 +184,7 @@ fn part_of(
     }
 }
 
-/// Returns whether a part of an operator's CALL is an element of the frame, the outermost list, to
-/// find unknown fields for `check`.
+/// Returns whether a part of an operator's CALL is an element of the frame, the outermost list.
 fn is_frame_element(outline: &Outline, part: &Part) -> bool {
     match part.parent {
         Some(parent) => match outline.parts.get(parent) {

@@ -8,8 +8,8 @@ use ocpp_scalars::Refusal;
 use replay::PrintedLine;
 use std::alloc::{AllocError, Global};
 
-/// Returns, for `check`, whether the refusal of a message in a script depends on the point's state
-/// or the length of a schedule.
+/// Returns whether the refusal of a message in a script depends on the point's state or the length
+/// of a schedule.
 // The check of a message by itself leaves these out, so that none is reported twice.
 pub(crate) fn depends_on_state(refusal: Refusal) -> bool {
     matches!(
@@ -56,8 +56,7 @@ fn check_answer(report: &mut Report, response: &Response) {
     }
 }
 
-/// Reports, for `check`, that a message in a script is refused, if that depends on the point's
-/// state.
+/// Reports that a message in a script is refused, if that depends on the point's state.
 fn check_refusal(report: &mut Report, refusal: Refusal) {
     if depends_on_state(refusal) {
         let why = sentence(refusal);

@@ -68,8 +68,7 @@ pub(crate) fn warn_never_rated(report: &mut Report, profile: &Profile) {
     }
 }
 
-/// Describes, for a fault of `check`, the value in a SetChargingProfile for which the site doesn't
-/// admit the profile.
+/// Describes the value in a SetChargingProfile for which the site doesn't admit the profile.
 fn place_found(
     alloc: Global,
     site: &Site,
@@ -117,8 +116,8 @@ fn refuse_parts(report: &mut Report, refusal: Refusal, parts: &ProfileParts) {
     reject_found(report, refusal, found);
 }
 
-/// Describes, for a fault of `check`, the first chargingSchedulePeriod of a profile that doesn't
-/// start later than the one before it.
+/// Describes the first chargingSchedulePeriod of a profile that doesn't start later than the one
+/// before it.
 fn out_of_order(alloc: Global, periods: &[Period]) -> Result<String, AllocError> {
     let mut before: Option<u32> = None;
     for (index, period) in periods.iter().enumerate() {
@@ -170,8 +169,7 @@ fn warn_ceiling(report: &mut Report, point: SitePoint<'_>, connector: u32, profi
     }
 }
 
-/// Describes, for a warning of `check`, a profile whose limits are all above this ceiling of the
-/// site file, in tenths.
+/// Describes a profile whose limits are all above this ceiling of the site file, in tenths.
 fn ceiling_message(alloc: Global, ceiling: u32) -> Result<String, AllocError> {
     let ceiling = tenths_text(alloc, u64::from(ceiling))?;
     format!(in alloc;
@@ -179,9 +177,9 @@ fn ceiling_message(alloc: Global, ceiling: u32) -> Result<String, AllocError> {
     )
 }
 
-/// Returns the highest ceiling of the site file that a profile could lower, in tenths, for a
-/// warning of `check`. A ChargePointMaxProfile could lower the point's ceiling, any other the lower
-/// of the point's and the connector's. At connector 0 the highest ceiling of a connector counts.
+/// Returns the highest ceiling of the site file that a profile could lower, in tenths. A
+/// ChargePointMaxProfile could lower the point's ceiling. Any other could lower the lesser of the
+/// point's and the connector's. At connector 0 the highest ceiling of a connector counts.
 fn highest_ceiling(point: SitePoint<'_>, connector: u32, purpose: Purpose) -> u32 {
     if matches!(purpose, Purpose::ChargePointMaxProfile) {
         return point.ceiling;
@@ -214,7 +212,7 @@ pub(crate) fn warn_rates(report: &mut Report, moment: Instant, profile: &Profile
     }
 }
 
-/// Describes, for a warning of `check`, a profile whose validTo is over when it is installed.
+/// Describes a profile whose validTo is over when it is installed.
 fn over_message(alloc: Global, end: Instant) -> Result<String, AllocError> {
     let end = instant_text(alloc, end)?;
     format!(in alloc;
@@ -237,7 +235,7 @@ fn warn_duration(report: &mut Report, profile: &Profile) {
 }
 
 /// Returns the index and the start of a profile's first chargingSchedulePeriod that starts at this
-/// offset or later, in seconds, for a warning of `check`.
+/// offset or later, in seconds.
 fn first_past(profile: &Profile, end: u64) -> Option<(usize, u32)> {
     for (index, period) in profile.schedule.periods.as_slice().iter().enumerate() {
         if u64::from(period.start) >= end {
@@ -298,8 +296,8 @@ fn warn_gap(report: &mut Report, profile: &Profile, recurrency: Recurrency, from
     report.warn_of(profile.purpose, profile.id, message);
 }
 
-/// Describes, for a warning of `check`, the time of each day or week in which a Recurring profile
-/// sets no limit. Writes times of the clock if those are known, otherwise offsets in seconds.
+/// Describes the time of each day or week in which a Recurring profile sets no limit. Writes times
+/// of the clock if those are known, otherwise offsets in seconds.
 fn gap_text(
     alloc: Global,
     profile: &Profile,
@@ -318,8 +316,8 @@ fn gap_text(
     }
 }
 
-/// Describes, for a warning of `check`, the time of each day in which a Daily profile sets no
-/// limit, by two offsets from its startSchedule. None if one of them lies after the calendar.
+/// Describes the time of each day in which a Daily profile sets no limit, by two offsets from its
+/// startSchedule. None if one of them lies after the calendar.
 fn clock_text(
     alloc: Global,
     start: Instant,
@@ -341,8 +339,7 @@ fn clock_text(
     }
 }
 
-/// Returns the hour and the minute in the text of an instant, and the second unless 0, for a
-/// warning of `check`.
+/// Returns the hour and the minute in the text of an instant, and the second unless it is 0.
 fn time_in(instant: &str) -> Option<&str> {
     let (_, time) = instant.split_once('T')?;
     let time = time.strip_suffix('Z')?;

@@ -12,8 +12,8 @@ const MAX_HINTS: u32 = 1_000;
 
 /// The findings so far, and the current line. After a failed allocation findings may be missing,
 /// and `into_findings` returns the error.
-// A `?` behind each finding would say the same, but each costs the prover what it costs a reader: a
-// way out, with all that has to be dropped there.
+// A `?` after each finding would have the same effect. But each adds a return to the proof, with
+// all values that are dropped there.
 #[derive(Drop)]
 pub(crate) struct Report {
     pub alloc: Global,
@@ -64,13 +64,13 @@ impl Report {
         self.is_short = true;
     }
 
-    /// Goes to the line of this number in a script, which the next findings of `check` are in.
+    /// Sets the number of the line for the next findings in a script or a journal.
     pub(crate) fn go_to(&mut self, line: u64) {
         self.line = line;
     }
 
-    /// Returns whether `check` may compare one more unknown identity in a script with all those of
-    /// the site, and counts it.
+    /// Returns whether one more unknown identity in a script may be compared with all those of the
+    /// site, and counts it.
     pub(crate) fn takes_hint(&mut self) -> bool {
         if self.hints == 0 {
             return false;

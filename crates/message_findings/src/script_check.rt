@@ -36,7 +36,8 @@ impl ScriptCheck {
         }
     }
 
-    /// Checks the script's line played last, given the state after it. Returns the findings.
+    /// Checks the line of a script that was played last, given the state after it. Returns the
+    /// findings.
     pub fn check_line(
         &mut self,
         machine: &Machine,
@@ -85,7 +86,7 @@ impl ScriptCheck {
         self.report.go_to(event.line);
         let site = machine.site();
         match event.kind {
-            EventKind::Message { sender, frame } => {
+            EventKind::Message { sender, frame, .. } => {
                 let text = LineMessage::noted(site, event, Sender::of_side(sender), frame);
                 self.check_change(machine, event, text);
             }
@@ -108,8 +109,8 @@ impl ScriptCheck {
         self.report.take_findings()
     }
 
-    /// Checks, for `check`, the message of an event that changed something, and the remote start
-    /// that ended with it.
+    /// Checks the message of an event that changed something, and the remote start that ended with
+    /// it.
     fn check_change(&mut self, machine: &Machine, event: &Event<'_>, text: LineMessage<'_>) {
         let starts = self.change_of_starts(machine, event);
         let audit = match event.kind {
@@ -127,8 +128,8 @@ impl ScriptCheck {
         }
     }
 
-    /// Follows, for `check`, the effect of an event on the remote starts of its point. Without
-    /// memory for it the report fails.
+    /// Follows the effect of an event on the remote starts of its point. Without memory for it the
+    /// report fails.
     fn change_of_starts(&mut self, machine: &Machine, event: &Event<'_>) -> StartsChange {
         match self.starts.follow(machine, event) {
             Ok(change) => change,
@@ -155,8 +156,7 @@ pub fn check_held(
     Ok(remarks)
 }
 
-/// Makes the remark of `check` on a script's line that took a request which is still held when the
-/// script ends.
+/// Makes the remark of `check` on a script's line whose request is still held when the script ends.
 fn still_held(alloc: Global, line: &HeldLine) -> Result<Finding, AllocError> {
     let number = line.request;
     let place = Location::Line {

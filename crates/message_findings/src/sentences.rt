@@ -13,8 +13,8 @@ pub fn sentence(refusal: Refusal) -> &'static str {
             "the site has no point of this identity; letters of either case differ",
         Refusal::UnknownConnector => "the point has no connector of this number",
         Refusal::MaxNotAtZero =>
-            "a ChargePointMaxProfile stands at connector 0, the whole point, alone",
-        Refusal::TxAtZero => "a TxProfile stands at a connector above 0, not at the whole point",
+            "a ChargePointMaxProfile is allowed only at connector 0, the whole point",
+        Refusal::TxAtZero => "a TxProfile is allowed only at a connector above 0",
         Refusal::WrongUnit => "chargingRateUnit isn't the unit of the site file",
         Refusal::NotTxProfile => "the profile of a remote start isn't a TxProfile",
         Refusal::LevelTooHigh => "the stackLevel is above 99",

@@ -57,8 +57,7 @@ pub(crate) struct PendingRemoteStarts {
 }
 
 impl PendingRemoteStarts {
-    /// Begins, for `check`, before the first line of a script, with no remote start that waits at a
-    /// point.
+    /// Begins before the first event, with no remote start that waits at a point.
     pub(crate) fn new(alloc: Global) -> PendingRemoteStarts {
         PendingRemoteStarts {
             alloc,
@@ -66,8 +65,8 @@ impl PendingRemoteStarts {
         }
     }
 
-    /// Follows, for `check`, the effect of an event on the remote starts that wait at its point,
-    /// given the state after it.
+    /// Follows the effect of an event on the remote starts that wait at its point, given the state
+    /// after it.
     pub(crate) fn follow(
         &mut self,
         machine: &Machine,
@@ -83,8 +82,8 @@ impl PendingRemoteStarts {
         known.follow(alloc, machine, event)
     }
 
-    /// Returns the remote starts that wait at the point at this index of the site, as `check` knows
-    /// them so far from a script.
+    /// Returns the remote starts that wait at the point at this index of the site, by the events so
+    /// far.
     fn known(&mut self, place: usize) -> Result<Option<&mut PointStarts>, AllocError> {
         for _place in self.points.len()..place.saturating_add(1) {
             self.points.push(PointStarts {
@@ -97,8 +96,7 @@ impl PendingRemoteStarts {
 }
 
 impl StartsChange {
-    /// Returns, for `check`, the change by an event without an effect on the remote starts of its
-    /// point.
+    /// Returns the change by an event without an effect on the remote starts of its point.
     pub(crate) fn none() -> StartsChange {
         StartsChange {
             replies_to: None,
@@ -108,7 +106,7 @@ impl StartsChange {
 }
 
 impl PointStarts {
-    /// Follows, for `check`, the effect of an event on the remote starts that wait at this point.
+    /// Follows the effect of an event on the remote starts that wait at this point.
     fn follow(
         &mut self,
         alloc: Global,
@@ -134,7 +132,7 @@ impl PointStarts {
     }
 }
 
-/// Returns, for `check`, the remote starts that wait at a point in this state.
+/// Returns the remote starts that wait at a point in this state.
 fn known_starts(
     alloc: Global,
     machine: &Machine,
@@ -154,7 +152,7 @@ fn known_starts(
 }
 
 /// Returns the remote start that a transaction ended at its point, if it had a profile that isn't
-/// installed, for a warning of `check`.
+/// installed.
 fn ended_start(
     alloc: Global,
     known: &PointStarts,
@@ -182,22 +180,20 @@ fn ended_start(
     }
 }
 
-/// Returns the id of the active transaction at a connector of a point, to see for `check` whether
-/// another one begins.
+/// Returns the id of the active transaction at a connector of a point. If the id changes, another
+/// transaction has begun.
 fn active_at(machine: &Machine, point: &str, connector: u32) -> Option<i32> {
     let active = machine.book_of(point)?.transaction_at(connector)?;
     Some(active.id)
 }
 
-/// Returns whether the idTags of a remote start and of the transaction after it are the same, for a
-/// warning of `check`.
+/// Returns whether the idTags of a remote start and of the transaction after it are the same.
 // An idTag is a CiString, whose case doesn't count. Here that holds for ASCII letters.
 fn is_same_tag(tag: &IdTag, other: &IdTag) -> bool {
     tag.as_str().eq_ignore_ascii_case(other.as_str())
 }
 
 /// Returns whether a connector has the TxProfile of this id, which came with a remote start.
-/// Otherwise `check` warns.
 fn has_tx_profile(book: &PointBook, connector: u32, id: i32) -> bool {
     book.view().rows.iter().any(|row| {
         row.connector == connector

@@ -24,7 +24,7 @@ enum Reading {
     Dropped,
 }
 
-/// Checks the message in a line of a script as a frame of OCPP-J, for `check`.
+/// Checks the message in a line of a script, or of an event in a journal, as a frame of OCPP-J.
 pub(crate) fn check_text(report: &mut Report, memory: &mut ReadingMemory, text: &LineMessage<'_>) {
     match check_message(report, memory, text) {
         Reading::Checked => {}
@@ -88,9 +88,9 @@ fn unaccepted_status<'memory>(
     }
 }
 
-/// Checks, for `check`, a reply in a line of a script. Warns of an operator's reply, and of a point
-/// that doesn't accept the call in flight or isn't in step by an audit. Ignores a point's reply
-/// that confirms no call.
+/// Checks a reply in a line of a script, or of an event in a journal. Warns of an operator's reply,
+/// and of a point that doesn't accept the call in flight or isn't in step by an audit. Ignores a
+/// point's reply that confirms no call.
 fn check_reply(report: &mut Report, text: &LineMessage<'_>, id: &str, status: Option<&str>) {
     if text.sender != Sender::Point {
         return report.warn_text(
@@ -149,7 +149,7 @@ fn check_malformed(report: &mut Report, text: &LineMessage<'_>) {
     report.fault(malformed_message(report.alloc, text.frame));
 }
 
-/// Describes, for `check`, a CALL whose action is no string or whose payload is no object.
+/// Describes a CALL whose action is no string or whose payload is no object.
 fn malformed_message(alloc: Global, frame: &str) -> Result<String, AllocError> {
     let sentence = call_sentence(CallFault::FormationViolation);
     let frame = excerpt(alloc, frame)?;
@@ -168,7 +168,7 @@ fn check_dropped(report: &mut Report, memory: &mut ReadingMemory, text: &LineMes
     report.warn(dropped_message(report.alloc, text.frame, why.as_str()));
 }
 
-/// Describes, for a warning of `check`, a frame that is no message of OCPP-J and gets no answer.
+/// Describes, for a warning, a frame that is no message of OCPP-J and gets no answer.
 fn dropped_message(alloc: Global, frame: &str, why: &str) -> Result<String, AllocError> {
     let frame = excerpt(alloc, frame)?;
     format!(in alloc; "this is no message and is discarded without an answer: {why}: {frame}")
@@ -205,7 +205,7 @@ fn broken_at(
         column = column.saturating_add(1);
     }
     let found = json_fault_text(alloc, fault)?;
-    format!(in alloc; "its JSON breaks at column {column}, where {found}")
+    format!(in alloc; "its JSON breaks at column {column}: {found}")
 }
 
 /// Returns, for `check` or `call`, the reason why a JSON text is no message of OCPP-J, such as a

@@ -39,8 +39,8 @@ fn remark_field(report: &mut Report, object: PayloadObject<'_, '_>, row: FieldRo
     }
 }
 
-/// Returns whether an instant in an operator's payload has `Z` or an offset after its `T`; if not,
-/// `check` remarks on it. Without a `T`, returns true.
+/// Returns whether an instant in an operator's payload has `Z` or an offset after its `T`. Without
+/// a `T`, returns true.
 // A date has hyphens too, so only the part after the `T` is searched.
 fn has_zone(text: &str) -> bool {
     match text.split_once(['T', 't']) {

@@ -13,7 +13,7 @@ use thiserror::Error;
 // RFC 3339 sets no bound, so this one is our choice.
 const MAX_FRACTION_DIGITS: usize = 9;
 
-/// The reason for which a text isn't read as an instant.
+/// The reason why a text isn't read as an instant.
 #[derive(Clone, Copy, Debug, PartialEq, Eq, Error)]
 pub enum InstantFault {
     /// The text isn't a date and time of day (RFC 3339, section 5.6).

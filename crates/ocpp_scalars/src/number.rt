@@ -21,7 +21,7 @@ const MAX_WHOLE: u32 = 2_147_483_647;
 // OCPP's integers have 32 bits in two's complement, which has one number more below zero.
 const MAX_NEGATIVE_WHOLE: u32 = 2_147_483_648;
 
-/// The reason for which a text isn't read as tenths or as a whole number.
+/// The reason why a text isn't read as tenths or as a whole number.
 #[derive(Clone, Copy, Debug, PartialEq, Eq, Error)]
 pub enum NumberFault {
     /// The text doesn't have the form of a number (RFC 8259, section 6).
@@ -117,8 +117,8 @@ fn read_digits(start: u128, digits: &[u8]) -> u128
     value
 }
 
-/// Returns the power of ten that scales the digits of a JSON number, of which `places` are after
-/// the point.
+/// Returns the power of ten that scales the digits of a JSON number. `places` of the digits are
+/// after the point.
 fn power(negative: bool, exponent: u128, places: usize) -> i128
     requires exponent { exponent < 10 ^ 32 }
     requires places { places ≤ 32 }

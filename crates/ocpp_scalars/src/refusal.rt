@@ -1,4 +1,4 @@
-//! The reasons for which the central system refuses a request.
+//! The reasons why the central system refuses a request.
 ghost use Rattle.std.specs.Prelude.{◌≡◌, Some};
 ghost use Rattle.ocpp_scalars.specs.Refusal.{refusal_name};
 
@@ -6,8 +6,8 @@ use std::alloc::{AllocError, AllocFailed};
 use std::error::Error;
 use std::fmt;
 
-/// A reason for which the central system refuses a request, by name. Each function's contract says
-/// which state a refusal leaves.
+/// A reason why the central system refuses a request, by name. Each function's contract says which
+/// state a refusal leaves.
 #[derive(Clone, Copy, Debug, PartialEq, Eq)]
 pub enum Refusal {
     /// The site has no point of this identity.

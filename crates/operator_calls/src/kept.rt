@@ -4,6 +4,7 @@ use meaning::PrevailingProfile;
 use messages::push_profile;
 use profile::Row;
 use site_core::Machine;
+use site_history::name_of;
 use std::alloc::{AllocError, Global};
 
 /// A profile of a point at a line.
@@ -38,16 +39,6 @@ pub(crate) fn installed_profiles(
         }
     }
     Ok(kept)
-}
-
-/// Names a point's charging profile by its id, purpose, stack level and connector, for an undo.
-fn name_of(row: &Row) -> PrevailingProfile {
-    PrevailingProfile {
-        id: row.profile.id,
-        purpose: row.profile.purpose,
-        stack_level: row.profile.stack_level,
-        connector: row.connector,
-    }
 }
 
 /// Returns the payload of the SetChargingProfile by which an undo installs a profile again.

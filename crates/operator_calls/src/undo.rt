@@ -131,18 +131,28 @@ impl UndoReader {
 }
 
 impl UndoneLine {
-    /// Keeps the message of an event of the undone line, to print it to the operator.
+    /// Keeps the message of an event of the undone line, to print it to the operator, with the name
+    /// of who sent it if the journal has it.
     fn add_text(&mut self, event: &Event<'_>) -> Result<(), AllocError> {
-        let (side, frame) = match event.kind {
-            EventKind::Message { sender, frame } => (sender, frame),
-            EventKind::Reply { frame } => (Side::Point, frame),
+        let (side, name, frame) = match event.kind {
+            EventKind::Message {
+                sender,
+                name,
+                frame,
+            } => (sender, name, frame),
+            EventKind::Reply { frame } => (Side::Point, None, frame),
             EventKind::Verdict | EventKind::Sent { .. } => return Ok(()),
         };
         push_instant(&mut self.text, event.moment)?;
         self.text.push_str(match side {
-            Side::Operator => " operator ",
-            Side::Point => " point ",
+            Side::Operator => " operator",
+            Side::Point => " point",
         })?;
+        if let Some(name) = name {
+            self.text.push_str(":")?;
+            self.text.push_str(name)?;
+        }
+        self.text.push_str(" ")?;
         self.text.push_str(event.point)?;
         self.text.push_str(" ")?;
         self.text.push_str(frame)

@@ -123,15 +123,12 @@ struct JournalCheck<'a, R> {
 }
 
 impl<R: Print + Eprint + AllocGlobal> EventReader for JournalCheck<'_, R> {
-    fn before(&mut self, _machine: &Machine, _line: u64, _point: &str) -> Result<(), FolderFault> {
-        Ok(())
-    }
-
     fn read(&mut self, machine: &Machine, event: &Event<'_>) -> Result<(), FolderFault> {
         self.check.check_event(machine, event)?;
         Ok(())
     }
 
+    /// Prints the findings in the events since the last time.
     fn end_part(&mut self) -> Result<(), FolderFault> {
         let mut page = String::new(self.rt.alloc());
         self.check.push_findings(&mut page)?;
@@ -139,10 +136,6 @@ impl<R: Print + Eprint + AllocGlobal> EventReader for JournalCheck<'_, R> {
             Ok(()) => Ok(()),
             Err(_) => Err(FolderFault::Print),
         }
-    }
-
-    fn waits(&mut self, _machine: &Machine) -> bool {
-        false
     }
 }
 

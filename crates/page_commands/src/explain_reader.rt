@@ -73,15 +73,7 @@ impl EventReader for ExplainReader<'_> {
             self.changes = self.changes.saturating_add(1);
         }
         self.states.read(machine, event)?;
-        self.calls.read(machine, event)?;
+        self.calls.follow(machine, event)?;
         Ok(())
-    }
-
-    fn end_part(&mut self) -> Result<(), FolderFault> {
-        Ok(())
-    }
-
-    fn waits(&mut self, _machine: &Machine) -> bool {
-        false
     }
 }

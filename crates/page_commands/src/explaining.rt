@@ -3,7 +3,7 @@
 ghost use Rattle.std.specs.Prelude.{◌≡◌, ◌≤◌, length};
 
 use crate::explain_reader::ExplainReader;
-use crate::lost_profiles::say_lost;
+use crate::lost_profiles::{known_profiles, say_lost};
 use crate::picture_name::{PictureForm, picture_form};
 use crate::unconfirmed::say_unconfirmed;
 use crate::zone_file::{read_clock_shifts, zone_name};
@@ -12,8 +12,8 @@ use command_io::{
     read_digested_site, read_script_of, script_end, write_file,
 };
 use explain_pages::{
-    ClockShift, ExplainedRequest, ZoneClock, not_counted, write_json, write_page, write_picture,
-    write_table,
+    ClockShift, ExplainedRequest, KnownProfile, ZoneClock, not_counted, write_json, write_page,
+    write_picture, write_table,
 };
 use jobs::{Explaining, Source, Start, read_duration};
 use journal_file::ScriptEnd;
@@ -69,7 +69,8 @@ pub fn explain_file<R: Files<File = File> + Input + Print + Eprint + Clock + All
     note_later_changes(rt, explaining.point, start, reader.changes)?;
     say_unconfirmed(rt, machine, &reader)?;
     say_lost(rt, machine, &reader)?;
-    print_explained(rt, presentation, machine, &ask)?;
+    let known = known_profiles(rt.alloc(), machine, &reader)?;
+    print_explained(rt, presentation, machine, &ask, known.as_slice())?;
     Ok(page_status(followed.is_as_wanted))
 }
 
@@ -86,7 +87,7 @@ fn explain_script<R: Files<File = File> + Input + Print + Eprint + AllocGlobal>(
     let last_line = end.last_line(script.as_slice());
     let played = play_quietly(rt.alloc(), script.as_slice(), site, last_line)?;
     let is_whole = note_refused_lines(rt, &played);
-    print_explained(rt, presentation, played.machine(), ask)?;
+    print_explained(rt, presentation, played.machine(), ask, &[])?;
     Ok(page_status(is_whole))
 }
 
@@ -196,12 +197,13 @@ fn ask_of(explaining: &Explaining<'_>, start: Instant) -> Result<Ask, ProgramFau
 }
 
 /// Prints `explain`'s table or JSON for a request for a schedule by the state of the charge point,
-/// and writes its picture.
+/// with what is known of its profiles, and writes its picture.
 fn print_explained<R: Files + Print + Eprint + AllocGlobal>(
     rt: &R,
     presentation: Presentation<'_>,
     machine: &Machine,
     ask: &Ask,
+    known: &[KnownProfile<'_>],
 ) -> Result<(), ProgramFault> {
     let Some(book) = machine.book_of(presentation.explaining.point) else {
         return Err(ProgramFault::NoSuchPoint);
@@ -211,16 +213,17 @@ fn print_explained<R: Files + Print + Eprint + AllocGlobal>(
     if ask.connector > book.connectors() {
         return Err(ProgramFault::NoSuchConnector);
     }
-    print_explanation(rt, presentation, book, ask)
+    print_explanation(rt, presentation, book, ask, known)
 }
 
 /// Prints `explain`'s table or JSON for a request for a schedule by the point's book of installed
-/// profiles, and writes its picture.
+/// profiles, with what is known of them, and writes its picture.
 fn print_explanation<R: Files + Print + Eprint + AllocGlobal>(
     rt: &R,
     presentation: Presentation<'_>,
     book: &PointBook,
     ask: &Ask,
+    known: &[KnownProfile<'_>],
 ) -> Result<(), ProgramFault>
     requires has_connector { ask.now.connector ≤ length book.now.ceilings }
 {
@@ -244,13 +247,14 @@ fn print_explanation<R: Files + Print + Eprint + AllocGlobal>(
         write_file(rt, picture.path, drawn.as_str())?;
     }
     let page = if presentation.explaining.json {
-        write_json(alloc, &explained)?
+        write_json(alloc, &explained, known)?
     } else {
         write_table(
             alloc,
             &explained,
             presentation.screen.columns(),
             presentation.zone_clock(),
+            known,
         )?
     };
     print_page(rt, page.as_str())

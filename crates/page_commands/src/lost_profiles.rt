@@ -1,10 +1,12 @@
 //! The profiles that points rejected or may have lost.
 
 use crate::explain_reader::ExplainReader;
+use explain_pages::KnownProfile;
 use messages::purpose_name;
 use ocpp_scalars::push_instant;
 use profile::Row;
 use site_core::{Machine, ProfileState};
+use site_history::name_of;
 use std::alloc::{AllocError, AllocGlobal, Global};
 
 /// Prints a note to standard error for each profile that the explained point rejected or may have
@@ -48,4 +50,45 @@ fn since_text(alloc: Global, reader: &ExplainReader<'_>, row: &Row) -> Result<St
         text.push_str(format!(in alloc; " by its reply to call {call}")?.as_str())?;
     }
     Ok(text)
+}
+
+/// Returns what is known of the explained point's profiles, for `explain`'s table and JSON.
+pub(crate) fn known_profiles<'a>(
+    alloc: Global,
+    machine: &Machine,
+    reader: &ExplainReader<'a>,
+) -> Result<Vec<KnownProfile<'a>>, AllocError> {
+    let mut known = Vec::new(alloc);
+    let Some(book) = machine.book_of(reader.point) else {
+        return Ok(known);
+    };
+    for row in book.view().rows {
+        if let Some(found) = known_profile(reader, row) {
+            // The prover doesn't cover a `push` of a struct with two references.
+            known.extend_from_slice(&[found])?;
+        }
+    }
+    Ok(known)
+}
+
+/// Returns what is known of a profile of the explained point.
+fn known_profile<'a>(reader: &ExplainReader<'a>, row: &Row) -> Option<KnownProfile<'a>> {
+    let found = reader.states.of(row)?;
+    Some(KnownProfile {
+        profile: name_of(row),
+        state: found.state.name(),
+        note: note_of(found.state),
+        since: found.since,
+    })
+}
+
+/// Returns the words for a profile in this state that a moment follows, or none if the point holds
+/// it.
+fn note_of(state: ProfileState) -> &'static str {
+    match state {
+        ProfileState::Held => "",
+        ProfileState::Sent => "not confirmed by the point since",
+        ProfileState::Unsure => "perhaps lost by the point at",
+        ProfileState::Rejected => "rejected by the point at",
+    }
 }

@@ -6,8 +6,9 @@ use command_io::{
 };
 use jobs::{Showing, Source};
 use journal_file::ScriptEnd;
-use journal_reader::{CallReader, FollowRequest, follow_journal};
+use journal_reader::{FollowRequest, follow_journal};
 use show_pages::{PlayedScript, Standing, standing_json, standing_text};
+use site_history::SiteCalls;
 use site_rules::Site;
 use std::alloc::AllocGlobal;
 use std::fs::File;
@@ -23,7 +24,7 @@ pub fn show_file<R: Files<File = File> + Input + Print + Eprint + Clock + AllocG
     let Source::Journal(folder) = showing.source else {
         return show_script(rt, showing, end, site);
     };
-    let mut reader = CallReader::new(rt.alloc(), site.len())?;
+    let mut reader = SiteCalls::new(rt.alloc(), site.len())?;
     let following = FollowRequest {
         site,
         folder,

@@ -108,7 +108,7 @@ impl PointBook {
         self.ceilings.len() as u32
     }
 
-    /// Returns the cause for which a row isn't installed even with enough memory: the first of
+    /// Returns the reason why a row isn't installed even with enough memory: the first of
     /// `NoTransaction`, `OtherTransaction` and `TooManyProfiles`. Changes nothing.
     pub fn install_refusal(&self, row: &Row) -> Option<Refusal>
         ensures { result ≡ install_refusal self.now row.now }

@@ -19,8 +19,8 @@ use site_core::{
 /// requested. The printed calls for a point have the numbers 0, 1, .., each perhaps several times
 /// before the next. A point may obey any of these calls, but each confirmed one at least once. Then
 /// it has the ChargePointMaxProfiles and TxDefaultProfiles that the central system had for it after
-/// the last call that it obeyed, apart from the moments of their installs, unless a transaction
-/// began there with a profile of its own.
+/// the last obeyed call. Only the moments of their installs may differ. This excludes a point where
+/// a transaction began with a profile of its own.
 pub fn scripts_are_runs()
     ensures runs { (site : SiteState) (script : List ℕ) → ScriptRun site script }
     ensures right { (site : SiteState) (script : List ℕ) (run : ScriptRun site script)
@@ -29,7 +29,7 @@ pub fn scripts_are_runs()
     ensures obeying { (site : SiteState) (script : List ℕ) (run : ScriptRun site script)
         → PrintedCallsKeepPointsInStep site script run }
 {
-    // Laws that the proof of this one uses: nothing runs.
+    // These calls make the laws available to the proof. They do nothing at run time.
     exact_schedules();
     runs_join();
     runs_keep_the_site();

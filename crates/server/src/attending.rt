@@ -194,9 +194,9 @@ fn send_to_silent<R: Wait + Clock, W: World>(
 }
 
 impl ClientState {
-    /// Reports on standard error that a request of the session's client is refused, if the event is
-    /// that.
-    // An action that the central system doesn't have is no mistake of the point's.
+    /// Reports on standard error that a request of the session's client is refused, if this is the
+    /// event.
+    // A point that sends an action unknown here makes no mistake, so this isn't reported.
     fn report_refused<R: Wait + Clock>(
         &mut self,
         watch: &SessionWatch<'_, R>,

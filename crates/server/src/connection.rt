@@ -59,7 +59,12 @@ pub(crate) fn admit<W: World>(
         return Ok(None);
     };
     let core = match peer {
-        PathPeer::Operator(id) => SessionCore::operator(context.alloc, id, site.unit())?,
+        PathPeer::Operator(id) => SessionCore::operator(
+            context.alloc,
+            id,
+            asked.key_name(),
+            site.unit(),
+        )?,
         PathPeer::Point(id) => SessionCore::point(context.alloc, id)?,
     };
     Ok(Some(Admitted { core, place }))

@@ -128,8 +128,8 @@ impl<R: Wait + Clock> SessionWatch<'_, R> {
         }
     }
 
-    /// Records for the status page that a message of the session's point was refused. An action that
-    /// isn't implemented is no fault of the point.
+    /// Records for the status page that a message of the session's point was refused. An action
+    /// that isn't implemented is no fault of the point.
     fn hear_refused(&self, fault: CallFault, moment: Instant) {
         if fault != CallFault::NotImplemented {
             self.see(Observation::Refused(RefusedMessage { fault, moment }));
@@ -205,8 +205,8 @@ impl Event {
     }
 }
 
-/// Returns a copy of the reason for which a point's reply rejects a call, for a line on standard
-/// error. The text is empty if the reply doesn't.
+/// Returns a copy of the reason why a point's reply rejects a call, for a line on standard error.
+/// The text is empty if the reply rejects none.
 fn reason_of(alloc: Global, reply: &PointReply) -> Result<String, AllocError> {
     match &reply.rejection {
         Some(reason) => String::from_str(alloc, reason.as_str()),

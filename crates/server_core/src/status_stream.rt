@@ -45,6 +45,7 @@ impl<R: Clock> Write for StatusStream<'_, R> {
         stream.write(buf)
     }
 
+    /// Does nothing, since `write` keeps no bytes back.
     fn flush(&mut self) -> io::Result<()> {
         Ok(())
     }

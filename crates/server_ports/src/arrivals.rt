@@ -32,8 +32,7 @@ pub fn note_unknown<R: Wait + Clock>(
     note_refused(seats, from, pushed.map(|()| what));
 }
 
-/// Reports that an operator has connected, with its address and user. The journal records only that
-/// a change came from an operator.
+/// Reports that an operator has connected, with its address and user.
 pub fn note_operator<R: Wait + Clock>(
     seats: &Seats<R>,
     asked: &ClientRequest,

@@ -30,6 +30,11 @@ pub enum Access<'a> {
 }
 
 impl Access<'_> {
+    /// Returns whether each client that is let in has a key.
+    pub(crate) fn has_keys(self) -> bool {
+        matches!(self, Access::Guarded { keys: Some(_), .. })
+    }
+
     /// Returns the status that refuses a request (RFC 9110, sections 15.5.2, 15.5.4 and 15.5.20),
     /// or None if its client is let in.
     pub fn refusal(

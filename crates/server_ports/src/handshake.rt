@@ -23,6 +23,19 @@ pub struct ClientRequest {
     pub offers_ocpp: bool,
     /// The user that it gave, if it gave one.
     pub user: Option<String>,
+    /// Whether it was let in by the key of this user.
+    has_key: bool,
+}
+
+impl ClientRequest {
+    /// Returns the name of the key that let the client in, if there are keys. It is a word: a name
+    /// in a file of keys has no blank.
+    pub fn key_name(&self) -> Option<&str> {
+        match &self.user {
+            Some(user) if self.has_key => Some(user.as_str()),
+            _ => None,
+        }
+    }
 }
 
 /// The challenge to a client without a valid key (RFC 7617).
@@ -60,7 +73,7 @@ impl Callback for RequestReader<'_> {
             refused,
         } = self;
         let status = match entry.refusal(alloc, request) {
-            Ok(None) => return Ok(accepted(alloc, request, response, asked)),
+            Ok(None) => return Ok(accepted(alloc, entry, request, response, asked)),
             Ok(Some(status)) => status,
             Err(AllocError) => StatusCode::SERVICE_UNAVAILABLE,
         };
@@ -73,6 +86,7 @@ impl Callback for RequestReader<'_> {
 /// it. If memory runs out, it stores nothing.
 fn accepted(
     alloc: Global,
+    entry: Access<'_>,
     request: &Request<()>,
     response: Response<()>,
     asked: &mut Option<ClientRequest>,
@@ -98,6 +112,7 @@ fn accepted(
         path,
         offers_ocpp,
         user,
+        has_key: entry.has_keys(),
     });
     response
 }

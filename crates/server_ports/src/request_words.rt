@@ -5,7 +5,7 @@ use http::{Request, StatusCode};
 use site_keys::user_in;
 use std::alloc::{AllocError, Global};
 
-/// The most characters of a path or a user in a line.
+/// The maximum number of characters of a path or a user in a line.
 const LONGEST_NAME: usize = 100;
 
 /// The number of digits of a key.
@@ -54,9 +54,9 @@ pub fn push_path(said: &mut String, path: &str) -> Result<(), AllocError> {
     Ok(())
 }
 
-/// Appends the user of a request for a session to its line in the log, or only the beginning if it
-/// is long.
-// A client may send its key in the place of its user, and keys must not get into the log.
+/// Appends the user of a session's request to the request's log line. Only the beginning of a long
+/// user is written, and nothing of a user that looks like a key.
+// A client may send its key in place of its user, and keys must not get into the log.
 fn push_user(said: &mut String, user: &Option<String>) -> Result<(), AllocError> {
     let Some(user) = user else {
         return said.push_str(", no user");

@@ -3,7 +3,6 @@ use Rattle.std.proofs.Common.{◌≡◌, ℕ, List, Bool, true, false, cond, Som
 use Rattle.ocpp_scalars.specs.declared.refusal.Refusal.{Refusal}
 use Rattle.meaning.specs.declared.said.Said.{Said}
 use Rattle.messages.specs.declared.call.Call.{Call}
-use Rattle.messages.specs.declared.side.Side.{Side}
 use Rattle.messages.specs.declared.action_kind.ActionKind.{ActionKind}
 use Rattle.messages.specs.declared.side.Side.TheVariants.{Point}
 use Rattle.sweep_compiler.specs.Judged.{Judgement}
@@ -19,7 +18,7 @@ use Rattle.version_store.specs.Passes.{PassState}
 use Rattle.version_store.specs.Store.{StoreState, IsStore}
 use Rattle.version_store.specs.Calls.{Calls, Makes, sending}
 use Rattle.journal.specs.Entry.{EntryState, IsEntryOf}
-use Rattle.journal.specs.Line.{NotedState, noted_state}
+use Rattle.journal.specs.Line.{SenderState, NotedState, noted_state, side_of_sender}
 use Rattle.journal.specs.Line as kinds
 use Rattle.journal.specs.declared.line.Noted.{Noted}
 use Rattle.journal.specs.MadeStep.{IsOfMadeStep}
@@ -233,46 +232,51 @@ verdict_noted earlier later text short moment there point call frame judged mayb
 
 -- ---- messages
 
-to_note : (text : Sent) (step : Step) (noted : Noted) (entry : EntryState)
-    → AsksFor text step → Some (noted_state noted) ≡ noted_by step text.sender text.frame
+to_note : (text : Sent) (sender : SenderState) (step : Step) (noted : Noted) (entry : EntryState)
+    → side_of_sender sender ≡ text.sender
+    → AsksFor text step → Some (noted_state noted) ≡ noted_by step sender text.frame
     → IsEntryOf entry (line_at text.moment text.point (noted_state noted))
     → IsEntryToNote step entry
-to_note text step noted entry asks by entry_is = record {
+to_note text sender step noted entry side asks by entry_is = record {
   text = text;
   asks = asks;
+  sender = sender;
+  side = side;
   noted = noted_state noted;
   noted_is = sym by;
   entry_is = entry_is;
 }
 
-for_some : (text : Sent) (step : Step) (noted : Noted)
+for_some : (text : Sent) (sender : SenderState) (step : Step) (noted : Noted)
     (result : Result (Option EntryState) JournalFault)
-    → AsksFor text step → Some (noted_state noted) ≡ noted_by step text.sender text.frame
+    → side_of_sender sender ≡ text.sender
+    → AsksFor text step → Some (noted_state noted) ≡ noted_by step sender text.frame
     → IfOk result (λ (entry : Option EntryState). IfSome entry (λ (e : EntryState).
     IsEntryOf e (line_at text.moment text.point (noted_state noted))))
     → IfOk result (IsEntryFor (Some step))
-for_some text step noted (Ok None) asks by entry_is = tt
-for_some text step noted (Ok (Some entry)) asks by entry_is =
-    to_note text step noted entry asks by entry_is
-for_some text step noted (Err fault) asks by entry_is = tt
+for_some text sender step noted (Ok None) side asks by entry_is = tt
+for_some text sender step noted (Ok (Some entry)) side asks by entry_is =
+    to_note text sender step noted entry side asks by entry_is
+for_some text sender step noted (Err fault) side asks by entry_is = tt
 
 -- the entry of a message that asks for a step
-pub prepared : (text : Sent) (maybe : Option Step) (step : Step) (found : Option Noted)
-    (noted : Noted) (moment : ℕ) (point : List ℕ)
+pub prepared : (text : Sent) (sender : SenderState) (maybe : Option Step) (step : Step)
+    (found : Option Noted) (noted : Noted) (moment : ℕ) (point : List ℕ)
     (result : Result (Option EntryState) JournalFault)
+    → side_of_sender sender ≡ text.sender
     → IfSome maybe (AsksFor text) → maybe ≡ Some step
-    → option_map noted_state found ≡ noted_by step text.sender text.frame → found ≡ Some noted
+    → option_map noted_state found ≡ noted_by step sender text.frame → found ≡ Some noted
     → moment ≡ text.moment → point ≡ text.point
     → IfOk result (λ (entry : Option EntryState). IfSome entry (λ (e : EntryState).
     IsEntryOf e (line_at moment point (noted_state noted))))
     → IfOk result (IsEntryFor maybe)
-prepared text maybe step found noted moment point result asks step_is by found_is moment_is point_is
-    entry_is =
+prepared text sender maybe step found noted moment point result side asks step_is by found_is
+    moment_is point_is entry_is =
     subst (λ (m : Option Step). IfOk result (IsEntryFor m)) (sym step_is)
-    (for_some text step noted result
+    (for_some text sender step noted result side
     (subst (λ (m : Option Step). IfSome m (AsksFor text)) step_is asks)
     (subst (λ (f : Option Noted). option_map noted_state f
-    ≡ noted_by step text.sender text.frame) found_is by)
+    ≡ noted_by step sender text.frame) found_is by)
     (subst (λ m. IfOk result (λ (entry : Option EntryState). IfSome entry (λ (e : EntryState).
     IsEntryOf e (line_at m text.point (noted_state noted))))) moment_is
     (subst (λ p. IfOk result (λ (entry : Option EntryState). IfSome entry (λ (e : EntryState).
@@ -287,18 +291,18 @@ performs_makes old was (steps.Confirm point link call accepted) told new pass ch
     absurd (cc)
 performs_makes old was step told new pass change performs = performs.makes
 
-noted_message : (step : Step) (side : Side) (frame : List ℕ) (noted : NotedState)
-    → is_confirm step ≡ false → noted_by step side frame ≡ Some noted
-    → (is_change step ≡ true) × (kinds.message side 0 frame ≡ noted)
-noted_message (steps.Install point row) side frame noted is by = (refl, cc)
-noted_message (steps.Clear point criteria) side frame noted is by = (refl, cc)
-noted_message (steps.Start point connector begin) side frame noted is by = (refl, cc)
-noted_message (steps.Stop point number) side frame noted is by = (refl, cc)
-noted_message (steps.Audit point connector duration) side frame noted is by = (refl, cc)
-noted_message (steps.RemoteStart point connector id_tag profile) side frame noted is by =
+noted_message : (step : Step) (sender : SenderState) (frame : List ℕ) (noted : NotedState)
+    → is_confirm step ≡ false → noted_by step sender frame ≡ Some noted
+    → (is_change step ≡ true) × (kinds.message sender 0 frame ≡ noted)
+noted_message (steps.Install point row) sender frame noted is by = (refl, cc)
+noted_message (steps.Clear point criteria) sender frame noted is by = (refl, cc)
+noted_message (steps.Start point connector begin) sender frame noted is by = (refl, cc)
+noted_message (steps.Stop point number) sender frame noted is by = (refl, cc)
+noted_message (steps.Audit point connector duration) sender frame noted is by = (refl, cc)
+noted_message (steps.RemoteStart point connector id_tag profile) sender frame noted is by =
     (refl, cc)
-noted_message (steps.Boot point moment) side frame noted is by = (refl, cc)
-noted_message step side frame noted is by = absurd (cc)
+noted_message (steps.Boot point moment) sender frame noted is by = (refl, cc)
+noted_message step sender frame noted is by = absurd (cc)
 
 -- a message that asks for a change asks for it as a line of a journal does
 asks_by_step : (text : Sent) (id : List ℕ) (kind : ActionKind) (step : Step)
@@ -322,11 +326,11 @@ change_made : (earlier later : MachineState → Type 0)
 change_made earlier later entry told new number law notable drawn later_is =
     let it = notable.entry_is in
     let no_confirm = sym notable.confirms_is in
-    let noted = noted_message notable.step it.text.sender it.text.frame it.noted no_confirm it.noted_is in
+    let noted = noted_message notable.step it.sender it.text.frame it.noted no_confirm it.noted_is in
     let asks = asks_for_change it.text notable.step no_confirm noted.0 it.asks in
     let makes = performs_makes notable.old notable.was notable.step told new notable.pass noted.0 notable.performs in
     record {
-      line = line_at it.text.moment it.text.point (kinds.message it.text.sender 0 it.text.frame);
+      line = line_at it.text.moment it.text.point (kinds.message it.sender 0 it.text.frame);
       entry_is = subst (λ n. IsEntryOf entry (line_at it.text.moment it.text.point n)) (sym noted.1) it.entry_is;
       old = notable.old;
       new = new;
@@ -334,7 +338,7 @@ change_made earlier later entry told new number law notable drawn later_is =
       told = told;
       store = notable.store;
       makes = makes;
-      leads = law notable.old.present it.text notable.step (after told new) number asks
+      leads = law notable.old.present it.text it.sender notable.step (after told new) number it.side asks
           (made_step notable.old new notable.step told makes) drawn;
       was_before = notable.was_before;
       is_after = later_is;

@@ -8,7 +8,7 @@ use Rattle.site_core.specs.State.{MachineState}
 use Rattle.version_store.specs.Passes.{PassState}
 use Rattle.version_store.specs.Store.{StoreState, IsStore}
 use Rattle.journal.specs.Entry.{EntryState, IsEntryOf}
-use Rattle.journal.specs.Line.{NotedState}
+use Rattle.journal.specs.Line.{SenderState, NotedState, side_of_sender}
 use Rattle.journal.specs.NotedStep.{line_at, noted_by}
 use Rattle.texts.specs.declared.asked.Asked.TheVariants as asked
 use Rattle.texts.specs.Asked.{asked_of}
@@ -41,8 +41,10 @@ AsksFor text step = (id : List ℕ) × (kind : ActionKind) × (asked_of text ≡
 pub record IsEntryToNote (step : Step) (entry : EntryState) : Type 0 where
   pub text : Sent
   pub asks : AsksFor text step
+  pub sender : SenderState
+  pub side : side_of_sender sender ≡ text.sender
   pub noted : NotedState
-  pub noted_is : noted_by step text.sender text.frame ≡ Some noted
+  pub noted_is : noted_by step sender text.frame ≡ Some noted
   pub entry_is : IsEntryOf entry (line_at text.moment text.point noted)
 
 -- no entry, or the entry of the step

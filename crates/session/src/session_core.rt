@@ -1,14 +1,16 @@
 //! A session without its socket and store: it turns messages into requests, and outcomes into
 //! messages.
 
-ghost use Rattle.std.specs.Prelude.{◌≡◌, IfOk, IfErr, option_map, string_bytes};
-ghost use Rattle.session.specs.Session.{operators, points, side_of, answer_unit, with_link};
+ghost use Rattle.std.specs.Prelude.{◌≡◌, IfOk, IfErr, option_copied, option_map, string_bytes};
+ghost use Rattle.journal.specs.Line.{sender_state, side_of_sender};
+ghost use Rattle.session.specs.Session.{operators, points, sender_of, side_of, answer_unit, with_link};
 ghost use Rattle.messages.specs.ResponseText.{response_text};
 ghost use Rattle.session.specs.Todo.{IsTodo, answer_text};
 
 use crate::answering::response_of_outcome;
 use crate::outcome::Outcome;
 use crate::todo::{Owed, Todo};
+use journal::Sender;
 use messages::{FixedAnswer, Response, Side, push_response};
 use ocpp_scalars::{Instant, Refusal};
 use ocppj_frame::{MessageId, ReadingMemory};
@@ -33,43 +35,55 @@ pub struct SessionCore {
     alloc: Global,
     point: PointId,
     peer: Peer,
+    /// The name of an operator's key, if there are keys.
+    name: Option<String>,
 }
 
 impl Model for SessionCore {
+    ghost use Rattle.std.specs.Prelude.{option_map, string_bytes};
     ghost use Rattle.session.specs.Session.{SessionState};
 
     ghost Value = { SessionState };
 
-    ghost view = { λ core. record { point = core.point; peer = core.peer } };
+    ghost view = { λ core. record {
+      point = core.point;
+      peer = core.peer;
+      name = option_map string_bytes core.name;
+    } };
 }
 
 impl SessionCore {
-    /// Makes an operator's session for the point of this identity. Schedules are answered in this
-    /// unit, which is the site's.
-    pub fn operator(alloc: Global, id: &str, unit: Unit) -> Result<SessionCore, AllocError>
-        ensures { IfOk result (λ core. core ≡ operators id.now unit) }
+    /// Makes an operator's session for the point of this identity. The name is that of the
+    /// operator's key, if there are keys. Schedules are answered in this unit, which is the site's.
+    pub fn operator(
+        alloc: Global,
+        id: &str,
+        name: Option<&str>,
+        unit: Unit,
+    ) -> Result<SessionCore, AllocError>
+        ensures { IfOk result (λ core. core ≡ operators id.now (option_copied name.entry) unit) }
     {
-        let peer = Peer::Operator { unit };
-        SessionCore::new(alloc, id, peer)
+        let name = match name {
+            Some(name) => Some(String::from_str(alloc, name)?),
+            None => None,
+        };
+        Ok(SessionCore {
+            alloc,
+            point: PointId::copied(alloc, id)?,
+            peer: Peer::Operator { unit },
+            name,
+        })
     }
 
     /// Makes the session of the point of this identity, which has no link yet.
     pub fn point(alloc: Global, id: &str) -> Result<SessionCore, AllocError>
         ensures { IfOk result (λ core. core ≡ points id.now) }
     {
-        let peer = Peer::Point { link: None };
-        SessionCore::new(alloc, id, peer)
-    }
-
-    /// Makes the session of this peer, an operator or the point itself, for the point of this
-    /// identity.
-    fn new(alloc: Global, id: &str, peer: Peer) -> Result<SessionCore, AllocError>
-        ensures { IfOk result (λ core. core ≡ record { point = id.now; peer = peer }) }
-    {
         Ok(SessionCore {
             alloc,
             point: PointId::copied(alloc, id)?,
-            peer,
+            peer: Peer::Point { link: None },
+            name: None,
         })
     }
 
@@ -156,6 +170,20 @@ impl SessionCore {
         match self.peer {
             Peer::Operator { .. } => Side::Operator,
             Peer::Point { .. } => Side::Point,
+        }
+    }
+
+    /// Returns the sender of a session's messages, for the journal.
+    pub(crate) fn sender(&self) -> Sender<'_>
+        ensures sender { sender_state result ≡ sender_of self.now }
+        ensures side { side_of_sender (sender_state result) ≡ side_of self.now.peer }
+    {
+        match (&self.name, self.peer) {
+            (Some(name), Peer::Operator { .. }) => Sender::Operator {
+                name: Some(name.as_str()),
+            },
+            (None, Peer::Operator { .. }) => Sender::Operator { name: None },
+            (_, Peer::Point { .. }) => Sender::Point,
         }
     }
 

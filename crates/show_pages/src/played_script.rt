@@ -35,7 +35,7 @@ impl<'a> PlayedScript<'a> {
                 break;
             }
             match playing.follow_next()? {
-                Some(played) => calls.read_line(playing.machine(), &played)?,
+                Some(played) => calls.follow_line(playing.machine(), &played)?,
                 None => break,
             }
         }

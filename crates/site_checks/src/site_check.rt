@@ -41,7 +41,7 @@ impl SiteCheck {
         machine: &Machine,
         played: &PlayedLine<'_>,
     ) -> Result<(), AllocError> {
-        self.calls.read_line(machine, played)?;
+        self.calls.follow_line(machine, played)?;
         self.history.check_line(machine, played)?;
         match change_in(played) {
             Some(event) => self.check_fuse(machine, &event),
@@ -51,7 +51,7 @@ impl SiteCheck {
 
     /// Checks an event of a journal, given the state after it.
     pub fn check_event(&mut self, machine: &Machine, event: &Event<'_>) -> Result<(), AllocError> {
-        self.calls.read(machine, event)?;
+        self.calls.follow(machine, event)?;
         self.history.check_event(machine, event)?;
         self.check_fuse(machine, event)
     }

@@ -45,9 +45,9 @@ use std::marker::Model;
 use sweep_compiler::{AuditJob, Judged, Verdict};
 use transactions::{Began, Begin};
 
-/// The state that the central system keeps of a charge point: its profiles and transactions, the
-/// link to it, its unconfirmed calls, its audit, the starts that an operator requested, and what it
-/// is known to have.
+/// The state that the central system keeps of a charge point. It has the point's profiles and
+/// transactions, its link, its unconfirmed calls and its audit. It also has the starts that an
+/// operator requested, and what the point is known to have.
 #[derive(Drop)]
 pub(crate) struct ChargePoint {
     alloc: Global,
@@ -397,8 +397,8 @@ impl ChargePoint {
         }
     }
 
-    /// Copies the profile with which a charge point's transaction begins: that of the remote start
-    /// which the transaction ends, if both have the same idTag.
+    /// Copies the profile with which a charge point's transaction begins. It is that of the remote
+    /// start which the transaction ends, if both have the same idTag.
     fn profile_at_start(&self, connector: u32, begin: &Begin) -> Result<Option<Profile>, AllocError>
         ensures { IfOk result
             (λ profile. profile ≡ profile_at_start self.now connector begin.now) }
@@ -422,8 +422,9 @@ impl ChargePoint {
         }
     }
 
-    /// Returns the charge point's deliveries with that of the profile with which a transaction
-    /// begins at a connector: it came with the call of the remote start that the transaction ends.
+    /// Returns the charge point's deliveries, with that of the profile with which a transaction
+    /// begins at a connector. The profile came with the call of the remote start that the
+    /// transaction ends.
     fn with_started(
         &self,
         connector: u32,
@@ -615,7 +616,7 @@ impl ChargePoint {
         }
     }
 
-    /// Begins an audit of the charge point, in place of an earlier one: adds the
+    /// Begins an audit of the charge point, in place of an earlier one. Adds the
     /// GetCompositeSchedule call to its outbox, and keeps its present book to compare the reply
     /// with.
     fn begin_audit(
@@ -648,9 +649,9 @@ impl ChargePoint {
         }
     }
 
-    /// Checks whether the verdict on a charge point's reply to its audit's GetCompositeSchedule is
-    /// kept. The refusals are `UnknownRequest`, if the audit of this number isn't the present one
-    /// or has its verdict, and then `StrangerInput`.
+    /// Checks whether the verdict on the audit whose call has this number can be kept. The refusals
+    /// are `UnknownRequest`, if that audit isn't the present one or has its verdict, and then
+    /// `StrangerInput`.
     fn check_judged(&self, call: u64, judged: &Judged) -> Result<(), Refusal>
         ensures kept { OnOk result (judges call judged.now self.now ≡ Ok Reply.VerdictKept) }
         ensures refused { IfErr result (λ refusal. judges call judged.now self.now ≡ Err refusal) }
@@ -666,8 +667,8 @@ impl ChargePoint {
         Ok(())
     }
 
-    /// Decides whether the verdict on a charge point's reply to its audit's GetCompositeSchedule,
-    /// whose call has this number, is kept, or returns the refusal.
+    /// Decides whether to keep the verdict on the audit whose call has this number, or returns the
+    /// refusal. The verdict judges the point's reply to that GetCompositeSchedule.
     fn decide_judge(&self, call: u64, judged: &Judged) -> Result<Decision, Refusal>
         ensures { result ≡ decision_of (judges call judged.now self.now) }
     {
@@ -677,8 +678,8 @@ impl ChargePoint {
         }
     }
 
-    /// Keeps the verdict on a charge point's reply to its audit's GetCompositeSchedule, whose call
-    /// has this number, or returns the refusal.
+    /// Keeps the verdict on the audit whose call has this number, or returns the refusal. The
+    /// verdict judges the point's reply to that GetCompositeSchedule.
     fn judge(&mut self, point: &PointId, call: u64, judged: &Judged) -> Result<Reply, Refusal>
         ensures made { IsMadeAt (judges call judged.now self.old)
             (steps.Judge point.now call judged.now) self.old result self.new }
@@ -923,8 +924,8 @@ fn call_of(alloc: Global, row: &Row) -> Result<PreparedCall, AllocError>
     }
 }
 
-/// Makes the GetCompositeSchedule call that requests a charge point's composite schedule for an
-/// audit, which compares it with the book.
+/// Makes the GetCompositeSchedule call of an audit, which compares the charge point's schedule with
+/// its book.
 fn audit_call(
     alloc: Global,
     connector: u32,

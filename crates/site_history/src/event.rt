@@ -19,15 +19,24 @@ pub struct Event<'a> {
 /// The kind of an event.
 #[derive(Clone, Copy)]
 pub enum EventKind<'a> {
-    /// A message of this side changed something.
-    Message { sender: Side, frame: &'a str },
+    /// A message of this side changed something. The name is that of the operator's key, if the
+    /// journal has it.
+    Message {
+        sender: Side,
+        name: Option<&'a str>,
+        frame: &'a str,
+    },
     /// The point's reply confirmed the call in flight. In a script an audit's reply is judged with
     /// it.
-    Reply { frame: &'a str },
+    Reply {
+        frame: &'a str,
+    },
     /// The point's reply to its audit was judged, after that reply's own event.
     Verdict,
     /// The first waiting call went out.
-    Sent { call: &'a Call },
+    Sent {
+        call: &'a Call,
+    },
 }
 
 /// Returns the message in a line of a script, if it has one.
@@ -51,6 +60,7 @@ pub fn change_in<'a>(played: &'a PlayedLine<'_>) -> Option<Event<'a>> {
         | PointChange::Audit
         | PointChange::RemoteStart => EventKind::Message {
             sender: sent.sender(),
+            name: None,
             frame: sent.frame(),
         },
     };

@@ -14,5 +14,5 @@ pub use event::{Event, EventKind, call_after, change_in, message_in};
 pub use held_lines::{HeldLine, HeldLines};
 pub use point_calls::{PointCalls, RejectedCall, TracedCall, UnsentCall};
 pub use profile_states::{KnownState, ProfileStates};
-pub use row_changes::{RowChange, SiteRows};
+pub use row_changes::{RowChange, SiteRows, name_of};
 pub use site_calls::SiteCalls;

@@ -50,7 +50,7 @@ pub struct PointCalls {
     pub in_flight: Option<TracedCall>,
     /// The calls that never went out, in the order of their numbers.
     pub waiting: Vec<UnsentCall>,
-    /// The rejected calls that weren't done later, in the order of the replies.
+    /// The calls that the point rejected, in the order of the replies: of equal calls the last one.
     pub rejected: Vec<RejectedCall>,
 }
 
@@ -146,7 +146,7 @@ impl PointCalls {
     }
 
     /// Records that the point replied to the call in flight, at the line of this number in a site's
-    /// history. If it did the call, earlier rejections of an equal call are dropped.
+    /// history. Earlier rejections of an equal call are dropped.
     fn confirm(
         &mut self,
         alloc: Global,
@@ -157,15 +157,13 @@ impl PointCalls {
         let Some(call) = self.in_flight.take() else {
             return Ok(());
         };
-        match rejection_in(alloc, memory, call.action, reply)? {
-            Some(status) => self.rejected.push(RejectedCall { call, line, status })?,
-            None => {
-                // An operator sends a rejected call again: once it is done, nothing is left to
-                // report.
-                let done = call.what.as_str();
-                self.rejected
-                    .retain(|rejected| rejected.call.what.as_str() != done);
-            }
+        // An operator, or the next boot, sends a rejected call again: only the last reply counts.
+        // So the list doesn't grow with each boot.
+        let equal = call.what.as_str();
+        self.rejected
+            .retain(|rejected| rejected.call.what.as_str() != equal);
+        if let Some(status) = rejection_in(alloc, memory, call.action, reply)? {
+            self.rejected.push(RejectedCall { call, line, status })?;
         }
         Ok(())
     }

@@ -129,9 +129,9 @@ fn names_of(alloc: Global, rows: &[Row]) -> Result<Vec<PrevailingProfile>, Alloc
     Ok(names)
 }
 
-/// Returns the values that name a point's charging profile in a site's history: its id, purpose,
-/// stack level and connector.
-pub(crate) fn name_of(row: &Row) -> PrevailingProfile {
+/// Returns the values that name a charging profile of a point: its id, purpose, stack level and
+/// connector.
+pub fn name_of(row: &Row) -> PrevailingProfile {
     PrevailingProfile {
         id: row.profile.id,
         purpose: row.profile.purpose,

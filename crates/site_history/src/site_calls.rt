@@ -31,7 +31,7 @@ impl SiteCalls {
     }
 
     /// Reads an event, given the state after it.
-    pub fn read(&mut self, machine: &Machine, event: &Event<'_>) -> Result<(), AllocError> {
+    pub fn follow(&mut self, machine: &Machine, event: &Event<'_>) -> Result<(), AllocError> {
         let (Some(place), Some(outbox)) = (
             machine.site().place_of(event.point),
             machine.outbox_of(event.point),
@@ -45,16 +45,16 @@ impl SiteCalls {
     }
 
     /// Reads the events of a script's line, given the state after it.
-    pub fn read_line(
+    pub fn follow_line(
         &mut self,
         machine: &Machine,
         played: &PlayedLine<'_>,
     ) -> Result<(), AllocError> {
         if let Some(event) = change_in(played) {
-            self.read(machine, &event)?;
+            self.follow(machine, &event)?;
         }
         match call_after(played) {
-            Some(event) => self.read(machine, &event),
+            Some(event) => self.follow(machine, &event),
             None => Ok(()),
         }
     }

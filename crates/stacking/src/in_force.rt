@@ -9,9 +9,10 @@ use ocpp_scalars::Refusal;
 use std::alloc::Global;
 use std::marker::Model;
 
-/// The rates of the profiles of one purpose at one time, each with its stack level. The highest
-/// level that has a rate prevails (chapter 3.13). Reading it takes constant time, and a change
-/// finds its level by binary search.
+/// The rates of profiles at one instant, each with its level. The highest level that has a rate
+/// prevails (chapter 3.13). The sweep compiler's levels are ranks: a TxProfile's is above that of
+/// any TxDefaultProfile. Reading it takes constant time, and a change finds its level by binary
+/// search.
 #[derive(Drop)]
 pub struct InForce {
     /// The levels that have a rate, each with its rate, by rising level.
@@ -67,8 +68,7 @@ impl InForce {
     }
 }
 
-/// Gives a stack level a rate in the sweep compiler's list of the profiles' rates in force, which
-/// is sorted by level.
+/// Gives a level a rate in the sorted list of `InForce`, which the sweep of a schedule uses.
 fn set_rate(rates: &mut Vec<(u32, u32)>, level: u32, rate: u32) -> Result<(), Refusal>
     requires rising { AreRising rates.old.items }
     ensures set { OnOk result (IsSet rates.old.items level (Some rate) rates.new.items) }
@@ -87,8 +87,8 @@ fn set_rate(rates: &mut Vec<(u32, u32)>, level: u32, rate: u32) -> Result<(), Re
     }
 }
 
-/// Removes the rate of a stack level from the sweep compiler's list of the profiles' rates in
-/// force, if it has one.
+/// Removes the rate of a level from the sorted list of `InForce`, if it has one. The sweep of a
+/// schedule does this where a profile's limit ends.
 fn remove_rate(rates: &mut Vec<(u32, u32)>, level: u32)
     requires rising { AreRising rates.old.items }
     ensures set { IsSet rates.old.items level None rates.new.items }
@@ -100,8 +100,8 @@ fn remove_rate(rates: &mut Vec<(u32, u32)>, level: u32)
     }
 }
 
-/// Returns the index, in the sweep compiler's list of the profiles' rates in force, of the first
-/// stack level that isn't below this one.
+/// Returns the index, in the sorted list of `InForce`, of the first level that isn't below this
+/// one.
 fn place_of(rates: &[(u32, u32)], level: u32) -> usize
     requires rising { AreRising rates.now }
     ensures { IsPlaceOf rates.now level result }
@@ -113,8 +113,8 @@ fn place_of(rates: &[(u32, u32)], level: u32) -> usize
     rates.partition_point(|entry| entry.0 < level)
 }
 
-/// Returns a stack level's index in the sweep compiler's list of rates in force, if each level from
-/// the lowest up to it has one. This saves the search.
+/// Returns a level's index in the sorted list of `InForce`, if each level from the lowest up to it
+/// has a rate. This saves the search.
 fn likely_place(rates: &[(u32, u32)], level: u32) -> usize {
     match rates.first() {
         Some(lowest) => level.saturating_sub(lowest.0) as usize,
@@ -122,8 +122,7 @@ fn likely_place(rates: &[(u32, u32)], level: u32) -> usize {
     }
 }
 
-/// Whether the entry at an index of the sweep compiler's list of the profiles' rates in force has
-/// this stack level.
+/// Whether the entry at an index of the sorted list of `InForce` has this level.
 fn has_level_at(rates: &[(u32, u32)], level: u32, place: usize) -> bool
     ensures { result ≡ has_level_at rates.now level place }
 {

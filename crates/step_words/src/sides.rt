@@ -210,8 +210,8 @@ impl<C: Ledger, A: Ledger> Sides<C, A> {
             && self.is_one_at("CP2")
     }
 
-    /// Checks for the tests' steps whether the machine and the book have the same number of calls
-    /// and the same links for a charge point.
+    /// Returns whether the machine and the book in a test's `Sides` agree on a charge point: the
+    /// number of its calls, its link, and the link to send over.
     fn is_one_at(&self, point: &str) -> bool {
         self.machine.outbox_len(point) == self.book.outbox_len(point)
             && self.machine.link_of(point) == self.book.link_of(point)

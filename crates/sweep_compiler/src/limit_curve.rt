@@ -70,8 +70,8 @@ impl LimitCurve<'_> {
         }
     }
 
-    /// Returns the requested connector's limit at the instant of a composite schedule's sweep, with
-    /// its cause, and the connectors' shares if that is a sum.
+    /// Returns the requested connector's limit at the instant of the sweep, with its cause, for
+    /// `explain`. If the limit is a sum, the connectors' shares come with it.
     pub(crate) fn reason_here(&self, alloc: Global) -> Result<Reason, AllocError>
         requires ready { IsReadyCurve self.now }
         requires within { self.now.at ≤ self.now.last }

@@ -14,7 +14,7 @@ pub fn verdicts_are_computed()
     ensures { (audit : AuditRequest) (said : Said) (verdict : Verdict)
         → IsVerdict audit said verdict ↔ (verdict_of audit said ≡ verdict) }
 {
-    // This law rests on these: nothing runs.
+    // These calls make the laws available to the proof. They do nothing at run time.
     exact_schedules();
     said_schedules();
 }

@@ -302,7 +302,7 @@ fn call<C: Ledger, A: Ledger>(rt: &impl Abort, sides: &mut Sides<C, A>, line: &s
     }
 }
 
-/// In a test of folds: attaches a link of CP2 on the book, which adds one event to those that a
+/// Attaches a link of CP2 on the book, in a test of folds. This adds one event to those that a
 /// later step folds.
 fn attach<C: Ledger, A: Ledger>(rt: &impl Abort, sides: &mut Sides<C, A>) {
     let attach = step(rt, sides.alloc, "CP2 attach");
@@ -333,15 +333,15 @@ fn fold<C: Ledger, A: Ledger>(rt: &impl Abort, sides: &mut Sides<C, A>, before: 
     same(rt, sides.book.stored() as u64, 2, "after the take");
 }
 
-/// Checks that an install that folds the book's events is made, whichever allocation of it or of
-/// the Take after it is refused.
+/// Checks that an install is made even when it folds the book's events, whichever allocation of it
+/// or of the Take after it is refused.
 #[test]
 fn an_install_folds(rt: HostRuntime) {
     let story = Story::Fold("", "CP1 install periods=0:100 = Accepted");
     tell(&rt, rt.alloc(), story);
 }
 
-/// Checks that the start of a transaction that folds the book's events is made, whichever
+/// Checks that a transaction's start is made even when it folds the book's events, whichever
 /// allocation is refused.
 #[test]
 fn a_start_folds(rt: HostRuntime) {
@@ -352,7 +352,7 @@ fn a_start_folds(rt: HostRuntime) {
     );
 }
 
-/// Checks that an audit of a charge point that folds the book's events is made, whichever
+/// Checks that an audit of a charge point is made even when it folds the book's events, whichever
 /// allocation is refused.
 #[test]
 fn an_audit_folds(rt: HostRuntime) {
@@ -363,8 +363,8 @@ fn an_audit_folds(rt: HostRuntime) {
     );
 }
 
-/// Checks that a verdict on an audit that folds the book's events is kept, whichever allocation is
-/// refused.
+/// Checks that a verdict on an audit is kept even when it folds the book's events, whichever
+/// allocation is refused.
 #[test]
 fn a_verdict_folds(rt: HostRuntime) {
     let audit = "CP1 audit 1 60 = Audited 1";
@@ -437,7 +437,7 @@ fn a_run_goes_on(rt: HostRuntime) {
 
 // ---- steps that need no memory
 
-/// Steps that prepare those below, which add no event.
+/// The steps before those of `WITHOUT_AN_EVENT`.
 const BEFORE: &str = "\
 CP1 start ann 1 0 = Started 1
 CP1 attach = Attached 1
@@ -451,7 +451,7 @@ CP1 stop 2 = NoSuch
 CP1 send 1 = Nothing
 CP1 status = None 1000";
 
-/// Checks that a step of the central system that adds no event needs no memory. It has its reply
+/// Checks that a step of the central system without an event needs no memory. It has its reply
 /// while `tests/program.py` refuses all allocations from each one on. A Take needs some, and shows
 /// that it was refused.
 #[test]

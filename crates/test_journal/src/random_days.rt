@@ -4,7 +4,7 @@ ghost use Rattle.std.specs.Prelude.{◌≡◌};
 
 use crate::journal_texts::SITE;
 use crate::same::{holds, same_text};
-use journal::{Entry, Line, Noted, noted_by, number_drawn, restore};
+use journal::{Entry, Line, Noted, Sender, noted_by, number_drawn, restore};
 use messages::Side;
 use ocpp_scalars::Instant;
 use ocppj_frame::ReadingMemory;
@@ -102,7 +102,7 @@ impl<C: Ledger, A: Ledger> Desk<C, A> {
     /// Makes the step of a message on the book, in the test that restores random days. Appends it
     /// to the day's journal if it changed something.
     fn change(&mut self, rt: &impl Abort, text: &SentText<'_>, step: Step) {
-        let noted = noted_by(&step, text.sender(), text.frame()).expect(rt, "a change");
+        let noted = noted_by(&step, named(text.sender()), text.frame()).expect(rt, "a change");
         let Ok(reply) = self.book.make_step(&mut self.pass, step) else {
             return;
         };
@@ -399,5 +399,13 @@ fn day_at_random(rt: &impl Abort, alloc: Global, seed: u64) {
 fn days_are_restored_as_they_were(rt: HostRuntime) {
     for seed in 0..6u64 {
         day_at_random(&rt, rt.alloc(), seed);
+    }
+}
+
+/// Returns the sender of a message in the test that restores random days: the operator has a name.
+fn named(side: Side) -> Sender<'static> {
+    match side {
+        Side::Operator => Sender::Operator { name: Some("ann") },
+        Side::Point => Sender::Point,
     }
 }

@@ -141,7 +141,7 @@ fn serve<C: Ledger, A: Ledger, R: Abort + Wait + Clock>(
 ) -> (Option<Ended>, Pass<C, A>) {
     let core = match who {
         "point" => SessionCore::point(desk.alloc, "CP1"),
-        _ => SessionCore::operator(desk.alloc, "CP1", Unit::A),
+        _ => SessionCore::operator(desk.alloc, "CP1", None, Unit::A),
     };
     let core = core.expect(desk.rt, "error");
     match who {

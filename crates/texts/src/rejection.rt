@@ -1,18 +1,18 @@
-//! The reason for which a point doesn't accept a call.
+//! The reason why a point doesn't accept a call.
 
 use messages::ReplyStatus;
 use ocppj_frame::{Frame, ReadingMemory, read_frame};
 use std::alloc::{AllocError, Global};
 
-/// The most bytes that are kept of a reply with which a point rejects a call.
+/// The maximum number of bytes that are kept of a reply which rejects a call.
 pub const MAX_REJECTION_BYTES: usize = 200;
 
-/// The most bytes of a reply that is read for its status.
+/// The maximum number of bytes of a reply that is read for its status.
 // Reading a message takes up to 150 times its size.
 const LONGEST_STATUS_REPLY: usize = 4_096;
 
-/// Returns the reason for which a point doesn't accept a call, from its reply: the status, if it is
-/// one that OCPP has (chapter 7), or else the beginning of the reply.
+/// Returns the reason why a point doesn't accept a call, from its reply. It is the status if that
+/// is one of OCPP's (chapter 7), or else the beginning of the reply.
 pub fn rejection_in(alloc: Global, frame: &str) -> Result<String, AllocError> {
     if frame.len() > LONGEST_STATUS_REPLY {
         return beginning_of(alloc, frame);
@@ -27,8 +27,8 @@ pub fn rejection_in(alloc: Global, frame: &str) -> Result<String, AllocError> {
     }
 }
 
-/// Returns the beginning of a point's reply that rejects a call, the reason if no status was read,
-/// of at most `MAX_REJECTION_BYTES` bytes.
+/// Returns the beginning of a point's reply that rejects a call, of at most `MAX_REJECTION_BYTES`
+/// bytes. It is the reason if no status was read.
 fn beginning_of(alloc: Global, text: &str) -> Result<String, AllocError> {
     let mut beginning = String::new(alloc);
     for character in text.chars() {

@@ -152,7 +152,8 @@ impl ActiveTable {
     }
 }
 
-/// Returns the timestamp of the active transaction in a connector's slot, if it has one.
+/// Returns the start that a point's `ActiveTable` keeps beside a connector's slot: the timestamp of
+/// its active transaction, if it has one. Limits are computed from these starts.
 fn start_of(slot: &Option<Transaction>) -> Option<Instant>
     ensures { result ≡ start_of slot.now }
 {

@@ -106,7 +106,7 @@ pub fn hand_out(machine: &mut Machine, number: u64) -> Result<StepOutcome, Alloc
     ensures { IfOk result (λ outcome. handed_out machine.old number
         ≡ record { outcome = outcome; after = machine.new }) }
 {
-    // A law that the proof uses: nothing runs.
+    // This call makes the law available to the proof. It does nothing at run time.
     exact_schedules();
     // If it can't be compiled, the outcome of the Answer says why.
     let _ = make_step(machine, Step::Compile(number))?;
@@ -141,7 +141,7 @@ pub fn send_first(
     ensures { IfOk result (λ call. sent_first machine.old point.now
         ≡ record { call = call; after = machine.new }) }
 {
-    // A law that the proof uses: nothing runs.
+    // This call makes the law available to the proof. It does nothing at run time.
     skipped_sends_send_nothing();
     // Mostly nothing is to be sent, and then no step is made.
     match machine.link_to_send(point) {
@@ -192,7 +192,7 @@ pub fn confirm_call(
 pub fn judge_exactly(alloc: Global, job: AuditJob, said: Said) -> Result<Judged, AllocError>
     ensures { IfOk result (λ judged. judged ≡ judged_exactly job said) }
 {
-    // A law that the proof uses: nothing runs.
+    // This call makes the law available to the proof. It does nothing at run time.
     verdicts_are_computed();
     let judged = Judged::make(alloc, job, said);
     // A verdict that is short of memory is Unsettled only for that reason, so it isn't kept.

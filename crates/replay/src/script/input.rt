@@ -11,7 +11,7 @@ use std::io::Read;
 /// The most bytes of one read.
 const PIECE: usize = 16_384;
 
-/// The reason for which a whole input wasn't read.
+/// The reason why a whole input wasn't read.
 #[derive(Clone, Copy, PartialEq, Eq)]
 pub enum InputFault {
     /// A read failed or was interrupted.

@@ -19,7 +19,7 @@ const MAX_LINE_BYTES: usize = 1_048_576;
 // 128 bytes are more than the longest instant, word and identity before the frame.
 pub const LONGEST_FRAME: usize = MAX_LINE_BYTES - 128;
 
-/// The reason for which a line of a script can't be played, in the order of the checks.
+/// The reason why a line of a script can't be played. The variants are in the order of the checks.
 #[derive(Clone, Copy, PartialEq, Eq)]
 pub enum ScriptLineFault {
     /// The line has more than 1,048,576 bytes.

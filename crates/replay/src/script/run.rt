@@ -29,7 +29,7 @@ pub struct Summary {
     pub script_faults: u64,
 }
 
-/// The reason for which a replay stopped.
+/// The reason why a replay stopped.
 #[derive(Clone, Copy, Debug, PartialEq, Eq, thiserror::Error)]
 pub enum ReplayFault {
     /// The script can't be read. Nothing was written.

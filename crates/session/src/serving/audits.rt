@@ -88,8 +88,8 @@ pub(crate) fn audit_to_judge(performed: &Performed, audit: Option<OpenAudit>) ->
 ///
 /// A refused verdict is dropped, for lack of memory too: the audit then has none. The journal has
 /// a line for the reply, at the Confirm, and one for the verdict, if it is kept. If memory ran out
-/// for the reply, the latter has a reply that can't be read as a schedule, so that a restore comes
-/// to the same verdict. If the verdict can't be noted, the audit has none, and the session ends.
+/// for the reply, the latter has a reply that can't be read as a schedule. So a restore comes to
+/// the same verdict. If the verdict can't be noted, the audit has none, and the session ends.
 pub(crate) fn judge_reply<W: World>(
     context: &Context<'_, W>,
     sent: &SentText<'_>,
@@ -97,7 +97,7 @@ pub(crate) fn judge_reply<W: World>(
 ) -> Result<(), Ended>
     ensures { OnOk result (BringsVerdict sent.now audit) }
 {
-    // Laws: nothing runs.
+    // These calls make the laws available to the proof. They do nothing at run time.
     noted_steps_are_restored();
     equal_books_are_one();
     verdicts_are_computed();

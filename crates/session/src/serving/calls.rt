@@ -42,7 +42,7 @@ pub fn claim_link<W: World>(
     let Ok(point) = core.point_id().copy(context.alloc) else {
         return Err(Ended::OutOfMemory);
     };
-    // A law: nothing runs.
+    // This call makes the law available to the proof. It does nothing at run time.
     noted_steps_are_restored();
     let mut book = context.shared.lock(context.rt);
     let before = book.recorded();
@@ -117,7 +117,7 @@ fn next_call<W: World>(
     let Ok(point) = point.copy(context.alloc) else {
         return Err(Ended::OutOfMemory);
     };
-    // A law: nothing runs.
+    // This call makes the law available to the proof. It does nothing at run time.
     noted_steps_are_restored();
     let mut book = context.shared.lock(context.rt);
     let before = book.recorded();
@@ -155,7 +155,7 @@ pub(crate) fn lose<W: World>(context: &Context<'_, W>, core: SessionCore) {
     let Ok(entry) = prepare_link(context, core.point_id().as_str(), noted) else {
         return;
     };
-    // A law: nothing runs.
+    // This call makes the law available to the proof. It does nothing at run time.
     noted_steps_are_restored();
     let mut book = context.shared.lock(context.rt);
     let before = book.recorded();

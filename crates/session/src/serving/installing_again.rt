@@ -74,7 +74,7 @@ fn operator_of<W: World>(context: &Context<'_, W>, point: &str) -> Result<Sessio
     let book = context.shared.lock(context.rt);
     let unit = book.present().site().unit();
     drop(book);
-    SessionCore::operator(context.alloc, point, unit)
+    SessionCore::operator(context.alloc, point, None, unit)
 }
 
 /// Returns the ids of a point's profiles in the order in which they are installed again after a
@@ -156,7 +156,7 @@ fn install_one<W: World>(
     };
     let sent = SentText::new(moment, operator.side(), operator.point_id().as_str(), frame);
     let step = todo.take_step();
-    let Ok(entry) = prepare_message(context, &sent, &step) else {
+    let Ok(entry) = prepare_message(context, operator.sender(), &sent, &step) else {
         return;
     };
     if let Some(step) = step {

@@ -1,7 +1,7 @@
 //! The journal entries of a session's steps: of those that change something.
 
 ghost use Rattle.std.specs.Prelude.{◌≡◌, IfOk, IfSome};
-ghost use Rattle.journal.specs.Line.{noted_state};
+ghost use Rattle.journal.specs.Line.{noted_state, sender_state, side_of_sender};
 ghost use Rattle.journal.specs.MadeStep.{IsOfMadeStep};
 ghost use Rattle.session.specs.declared.outcome.Outcome.{Outcome};
 ghost use Rattle.session.specs.declared.outcome.Performed.{Performed};
@@ -11,7 +11,7 @@ ghost use Rattle.session.specs.Noting.{AsksFor, IsEntryAt, IsEntryFor, IsNotable
 use crate::context::Context;
 use crate::outcome::{Outcome, Performed};
 use journal::{
-    Entry, Journal, JournalFault, Noted, noted_by, noted_steps_are_restored, number_drawn,
+    Entry, Journal, JournalFault, Noted, Sender, noted_by, noted_steps_are_restored, number_drawn,
 };
 use ocpp_scalars::{Instant, Moments};
 use site_core::{Reply, Step};
@@ -19,20 +19,22 @@ use texts::SentText;
 use version_store::{Book, RecordedStates};
 use world::World;
 
-/// Makes the journal's entry for a session's message whose step may change something, or none. A
-/// request for a schedule or a status changes nothing.
+/// Makes the journal's entry for a message of this sender whose step may change something, or none.
+/// A request for a schedule or a status changes nothing.
 pub(crate) fn prepare_message<W: World>(
     context: &Context<'_, W>,
+    sender: Sender<'_>,
     sent: &SentText<'_>,
     step: &Option<Step>,
 ) -> Result<Option<Entry>, JournalFault>
-    requires { IfSome step.now (AsksFor sent.now) }
+    requires asks { IfSome step.now (AsksFor sent.now) }
+    requires side { side_of_sender (sender_state sender) ≡ sent.now.sender }
     ensures { IfOk result (IsEntryFor step.now) }
 {
     let Some(step) = step else {
         return Ok(None);
     };
-    let Some(noted) = noted_by(step, sent.sender(), sent.frame()) else {
+    let Some(noted) = noted_by(step, sender, sent.frame()) else {
         return Ok(None);
     };
     context.journal.prepare(sent.moment(), sent.point(), noted)
@@ -66,7 +68,7 @@ pub(crate) fn note_performed<W: World>(
     requires { IfSome entry
         (λ e. IsNotable e confirms performed.now (IsAt W.Name.is_recorded before) book.now) }
 {
-    // A law: nothing runs.
+    // This call makes the law available to the proof. It does nothing at run time.
     noted_steps_are_restored();
     let (Some(entry), Some(reply)) = (entry, reply_made(performed)) else {
         return;

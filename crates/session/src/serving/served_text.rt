@@ -120,7 +120,7 @@ pub fn answer_message<W: World, Q: Waiting>(
     let sent = SentText::new(moment, core.side(), core.point_id().as_str(), frame);
     let step = todo.take_step();
     let subject = subject_of(&todo, &step);
-    let entry = match prepare_message(context, &sent, &step) {
+    let entry = match prepare_message(context, core.sender(), &sent, &step) {
         Ok(entry) => entry,
         Err(fault) => return served_unmade(core, todo, fault),
     };

@@ -41,6 +41,7 @@ impl<S: Read + Write + Drop, K: MaskKeys + Drop> SessionSocket for WebSocket<S, 
         read_next(self)
     }
 
+    /// Never fails: a session doesn't poll this socket while it waits for a schedule.
     fn still_there(&self) -> Result<(), Ended> {
         Ok(())
     }
@@ -48,6 +49,8 @@ impl<S: Read + Write + Drop, K: MaskKeys + Drop> SessionSocket for WebSocket<S, 
 
 /// A socket that its session doesn't poll while it waits.
 impl<S, K> Waiting for WebSocket<S, K> {
+    /// Waits until the workers have room for a job. The session compiles it only if no worker is
+    /// left.
     fn send_job<R: Wait>(&mut self, rt: &R, jobs: Jobs<'_>, job: Job) -> Sending {
         match jobs.send(rt, job) {
             Ok(()) => Sending::Sent,
@@ -55,6 +58,7 @@ impl<S, K> Waiting for WebSocket<S, K> {
         }
     }
 
+    /// Waits for the answer to a schedule request, even if the client leaves before.
     fn until_answered<'s, R: Wait, C: Ledger, A: Ledger, N: ListName>(
         &mut self,
         rt: &R,

@@ -147,6 +147,8 @@ impl<S: Read + Write + Watched + Drop, K: MaskKeys + Drop, R: Wait + Clock> Sess
         self.next_in_order()
     }
 
+    /// Fails if the socket was polled while the session waited for a schedule, and its client was
+    /// gone.
     fn still_there(&self) -> Result<(), Ended> {
         match self.kept {
             Some(Err(ended)) => Err(ended),
@@ -157,6 +159,7 @@ impl<S: Read + Write + Watched + Drop, K: MaskKeys + Drop, R: Wait + Clock> Sess
 
 impl<S: Read + Write + Watched + Drop, K: MaskKeys + Drop, R: Wait + Clock> Waiting
     for WatchedSocket<'_, S, K, R> {
+    /// Sends a job if the workers have room now. The session compiles a job of little work itself.
     fn send_job<W: Wait>(&mut self, rt: &W, jobs: Jobs<'_>, job: Job) -> Sending {
         let work = short_work(&job);
         if let (Some(work), Some(most)) = (work, self.most_of_own) {
@@ -171,6 +174,8 @@ impl<S: Read + Write + Watched + Drop, K: MaskKeys + Drop, R: Wait + Clock> Wait
         }
     }
 
+    /// Waits for the answer to a schedule request, and polls the socket from time to time. Returns
+    /// none if the client is gone.
     fn until_answered<'b, W: Wait, C: Ledger, A: Ledger, N: ListName>(
         &mut self,
         _rt: &W,

@@ -17,8 +17,8 @@ returns-clause-served g c =
     (cc (c.as_str.ensures, c.point_id.ensures)) c.in_ok-outcome.ensures.outcome
     c.in-Ok-answer.ensures.text
 
-pub prepare_message-requires : goal.prepare_message-requires
-prepare_message-requires g c =
+pub prepare_message-requires-clause-asks : goal.prepare_message-requires-clause-asks
+prepare_message-requires-clause-asks g c =
     asks_taken c.args.core.now c.args.moment c.side.result c.as_str.result.now c.args.frame.now
     c.new-sent.result c.in-Ok.todo c.take_step-step.result c.in-Ok.ensures.todo
     c.take_step-step.ensures.step c.new-sent.ensures c.side.ensures
