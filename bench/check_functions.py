@@ -39,7 +39,9 @@ def command(folder, crate, clone, functions):
 
 
 def main():
-    clone, crate, *functions = sys.argv[1:]
+    if len(sys.argv) < 3:
+        sys.exit(__doc__)
+    clone, crate, *functions = os.path.abspath(sys.argv[1]), *sys.argv[2:]
     if records.sum_below(TOP, crate) != records.sum_below(clone, crate):
         print(f"check_functions: the clauses below {crate} aren't the same in {clone}", file=sys.stderr, flush=True)
     folder = os.path.join(TOP, "crates", crate)

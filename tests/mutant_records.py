@@ -172,6 +172,11 @@ def sum_of_sources(top, crate):
     return sum_of(os.path.join(top, "crates", crate), sources_of(top, crate))
 
 
+def changed_at(top, crate):
+    """When the newest of the files that the proof of a crate reads was written."""
+    return max(os.path.getmtime(path) for path, _ in sources_of(top, crate))
+
+
 def sum_below(top, crate):
     """The sum of what the libraries below a crate state."""
     stated = []
