@@ -7,6 +7,8 @@ use std::process::Abort;
 
 /// Lines, each with the text that is written again once it is read; `=` is the same text.
 const LINES: &str = r#"2025-01-01T00:00:05Z operator CP1 7 [2,"a","AuditPoint",{"connectorId":1}]|=
+2025-01-01T00:00:05Z operator:ann CP1 7 [2,"a","AuditPoint",{"connectorId":1}]|=
+2025-01-01T00:00:05Z operator:Zoë~"[] CP1 7 [2,"a","AuditPoint",{"connectorId":1}]|=
 2025-01-01T00:00:05Z point CP1 7 [2,"a","StartTransaction",{"idTag":"T 1"}]|=
 2025-01-01T00:00:05Z reply CP1 2 [3,"7",{}]|=
 2025-01-01T00:00:05Z verdict CP1 2 [3,"2",{}]|=
@@ -24,6 +26,8 @@ const NO_LINES: &str = "|not a line of a journal
 2025-01-01T00:00:05Z lost CP1|not a line of a journal
 2025-01-01T00:00:05Z  lost CP1 1|not a line of a journal
 2025-01-01T00:00:05Z lose CP1 1|not a line of a journal
+2025-01-01T00:00:05Z point:ann CP1 7 []|not a line of a journal
+2025-01-01T00:00:05Z operators CP1 7 []|not a line of a journal
 2025-01-01T00:00:05Z reply CP1 1|not a line of a journal
 2025-01-01T00:00:05Z sent CP1 1|not a line of a journal
 2025-01-01 lost CP1 1|its first word is no instant
