@@ -34,8 +34,8 @@ pub fn say_outcomes<R: Files<File = File> + Clock + Eprint + AllocGlobal>(
     let site = read_site_file(rt, path)?;
     match say_followed(rt, calling.wait, folder, site, visits) {
         Ok(status) => Ok(status),
-        // The calls are sent and answered by now: the fault changes the status only of who waits for
-        // the replies.
+        // The calls are sent and answered by now: the fault changes the status only of who waits
+        // for the points' replies.
         Err(fault) => {
             let _ = eprintln!(rt; "central: which calls wait isn't known: {fault}");
             Ok(calling.wait.map_or(0, |_seconds| NOT_DONE))

@@ -28,8 +28,8 @@ pub struct ClientRequest {
 }
 
 impl ClientRequest {
-    /// Returns the name of the key that let the client in, if there are keys. It is a word: a name
-    /// in a file of keys has no blank.
+    /// Returns the name of the key that let the client in, if there are keys. It is a word of the
+    /// journal: a name in a file of keys has no blank, line break or colon.
     pub fn key_name(&self) -> Option<&str> {
         match &self.user {
             Some(user) if self.has_key => Some(user.as_str()),

@@ -50,7 +50,8 @@ pub struct PointCalls {
     pub in_flight: Option<TracedCall>,
     /// The calls that never went out, in the order of their numbers.
     pub waiting: Vec<UnsentCall>,
-    /// The calls that the point rejected, in the order of the replies: of equal calls the last one.
+    /// The calls that the point rejected, in the order of the replies. Of equal calls only the last
+    /// reply counts.
     pub rejected: Vec<RejectedCall>,
 }
 
