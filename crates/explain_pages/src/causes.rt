@@ -84,7 +84,7 @@ fn push_field(
     let length = field.interval.end.saturating_sub(field.interval.start);
     push_length(&mut title, length);
     title.push_str(": ");
-    push_why(&mut title, reason, explained.unit);
+    push_why(&mut title, reason, explained.unit, explained.known);
     push_made_escaped(out, title.finish());
     out.push_str("</title></rect>\n");
 }

@@ -2,8 +2,7 @@
 
 use crate::clock::{ClockTime, needs_seconds, push_date, push_time};
 use crate::explained_request::ExplainedRequest;
-use crate::known_profile::KnownProfile;
-use crate::words::{push_known_why, push_length, push_limit};
+use crate::words::{push_length, push_limit, push_why};
 use crate::zone_clock::ZoneClock;
 use page_text::Page;
 use std::alloc::{AllocError, Global};
@@ -30,24 +29,21 @@ pub(crate) struct CellMaker<'a> {
     /// The zone to which times are local; UTC without one.
     zone: Option<ZoneClock<'a>>,
     with_seconds: bool,
-    known: &'a [KnownProfile<'a>],
     /// The day on which the interval before starts.
     day: Option<u64>,
 }
 
 impl<'a> CellMaker<'a> {
     /// Returns a formatter of the intervals of an explained schedule as table cells, with times
-    /// local to a zone or in UTC. The causes name what the point doesn't hold of these profiles.
+    /// local to a zone or in UTC.
     pub(crate) fn new(
         explained: &'a ExplainedRequest<'a>,
         zone: Option<ZoneClock<'a>>,
-        known: &'a [KnownProfile<'a>],
     ) -> CellMaker<'a> {
         CellMaker {
             explained,
             zone,
             with_seconds: needs_seconds(explained, zone),
-            known,
             day: None,
         }
     }
@@ -68,7 +64,12 @@ impl<'a> CellMaker<'a> {
         let mut limit = Page::new(alloc);
         push_limit(&mut limit, interval.reason.limit, self.explained.unit);
         let mut why = Page::new(alloc);
-        push_known_why(&mut why, &interval.reason, self.explained.unit, self.known);
+        push_why(
+            &mut why,
+            &interval.reason,
+            self.explained.unit,
+            self.explained.known,
+        );
         Ok(Cells {
             from: self.time(alloc, from, dates.0)?,
             to: self.time(alloc, to, dates.1)?,
@@ -97,9 +98,8 @@ pub(crate) fn all_cells(
     alloc: Global,
     explained: &ExplainedRequest<'_>,
     zone: Option<ZoneClock<'_>>,
-    known: &[KnownProfile<'_>],
 ) -> Result<Vec<Cells>, AllocError> {
-    let mut maker = CellMaker::new(explained, zone, known);
+    let mut maker = CellMaker::new(explained, zone);
     let mut all = Vec::new(alloc);
     for interval in explained.intervals {
         all.push(maker.cells(alloc, interval)?)?;

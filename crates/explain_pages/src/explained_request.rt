@@ -2,6 +2,7 @@
 
 ghost use Rattle.std.specs.Prelude.{◌≡◌, ◌+◌, ◌<◌, ◌^◌};
 
+use crate::known_profile::KnownProfile;
 use meaning::{Ask, Cause, PrevailingProfile, View, WhyNot};
 use profile::Unit;
 use sweep_compiler::Interval;
@@ -20,6 +21,8 @@ pub struct ExplainedRequest<'a> {
     pub intervals: &'a [Interval],
     /// The profiles that never set the limit in this time.
     pub not_counted: &'a [NotCounted],
+    /// What is known of the profiles at their point. A cause says that the point doesn't hold one.
+    pub known: &'a [KnownProfile<'a>],
 }
 
 /// A profile that never sets the limit, with the reason.

@@ -15,17 +15,13 @@ use sweep_compiler::Interval;
 /// `notCounted`. Limits have one decimal, and instants are strings (RFC 3339). An `end` after the
 /// last instant is null. The cause of a known profile has its `state` at the point, and `since`
 /// when.
-pub fn write_json(
-    alloc: Global,
-    explained: &ExplainedRequest<'_>,
-    known: &[KnownProfile<'_>],
-) -> Result<String, AllocError> {
+pub fn write_json(alloc: Global, explained: &ExplainedRequest<'_>) -> Result<String, AllocError> {
     let mut line = JsonPage::new(alloc);
     line.begin_object();
     push_asked(&mut line, explained);
     line.array("intervals");
     for interval in explained.intervals {
-        push_interval(&mut line, explained, interval, known);
+        push_interval(&mut line, explained, interval);
     }
     line.end_array();
     line.array("notCounted");
@@ -49,12 +45,8 @@ fn push_asked(line: &mut JsonPage, explained: &ExplainedRequest<'_>) {
 
 /// Appends an interval to the JSON of an explained schedule, with its limit, its cause and its
 /// shares.
-fn push_interval(
-    line: &mut JsonPage,
-    explained: &ExplainedRequest<'_>,
-    interval: &Interval,
-    known: &[KnownProfile<'_>],
-) {
+fn push_interval(line: &mut JsonPage, explained: &ExplainedRequest<'_>, interval: &Interval) {
+    let known = explained.known;
     line.begin_object();
     // A moment after the last instant becomes null.
     line.instant("start", Instant::try_new(explained.moment(interval.start)));

@@ -52,7 +52,7 @@ fn push_table(
     explained: &ExplainedRequest<'_>,
 ) -> Result<(), AllocError> {
     out.push_str(HEAD);
-    let mut maker = CellMaker::new(explained, None, &[]);
+    let mut maker = CellMaker::new(explained, None);
     for interval in explained.intervals.iter().take(MAX_INTERVALS) {
         let cells = maker.cells(alloc, interval)?;
         out.push_str("<tr><th scope=\"row\">");

@@ -84,7 +84,7 @@ fn push_description(
     push_made_escaped(out, heading(alloc, explained, None));
     out.push_str("</title>\n");
     out.push_str("<desc id=\"picture-description\">Times in UTC.");
-    let mut maker = CellMaker::new(explained, None, &[]);
+    let mut maker = CellMaker::new(explained, None);
     for interval in explained.intervals.iter().take(DESCRIBED) {
         let cells = maker.cells(alloc, interval)?;
         push_element(out, " ", cells.from.as_str(), " to ");

@@ -5,7 +5,6 @@ ghost use Rattle.std.specs.Prelude.{◌≤◌};
 use crate::cells::{Cells, all_cells};
 use crate::clock::{ClockTime, needs_seconds, push_date, push_time};
 use crate::explained_request::{ExplainedRequest, NotCounted};
-use crate::known_profile::KnownProfile;
 use crate::words::{push_length, push_profile, sentence};
 use crate::wrapping::{Margins, push_left, push_lines, push_made_lines, push_right, push_times};
 use crate::zone_clock::{ZoneClock, push_ahead};
@@ -26,11 +25,10 @@ pub fn write_table(
     explained: &ExplainedRequest<'_>,
     columns: Option<usize>,
     zone: Option<ZoneClock<'_>>,
-    known: &[KnownProfile<'_>],
 ) -> Result<String, AllocError> {
     let mut out = Page::new(alloc);
     push_heading(alloc, &mut out, explained, columns, zone);
-    let all = all_cells(alloc, explained, zone, known)?;
+    let all = all_cells(alloc, explained, zone)?;
     push_intervals(alloc, &mut out, explained, columns, all.as_slice());
     push_not_counted(alloc, &mut out, explained.not_counted, columns);
     out.finish()

@@ -150,19 +150,9 @@ pub(crate) fn push_short_cause(out: &mut Page, cause: Cause) {
     }
 }
 
-/// Appends the cause of a limit, with its shares if it is a sum.
-pub fn push_why(out: &mut Page, reason: &Reason, unit: Unit) {
-    push_known_why(out, reason, unit, &[]);
-}
-
-/// Appends the cause of a limit, with its shares if it is a sum, and after each of these profiles
-/// that its point doesn't hold the words about that.
-pub(crate) fn push_known_why(
-    out: &mut Page,
-    reason: &Reason,
-    unit: Unit,
-    known: &[KnownProfile<'_>],
-) {
+/// Appends the cause of a limit, with its shares if it is a sum. After one of these profiles that
+/// its point doesn't hold, says so, and since when.
+pub fn push_why(out: &mut Page, reason: &Reason, unit: Unit, known: &[KnownProfile<'_>]) {
     push_cause(out, reason.cause);
     push_known(out, known, reason.cause);
     if reason.cause != Cause::Sum {

@@ -238,6 +238,7 @@ fn print_explanation<R: Files + Print + Eprint + AllocGlobal>(
         view,
         intervals: explanation.intervals(),
         not_counted: rest.as_slice(),
+        known,
     };
     if let Some(picture) = presentation.picture {
         let drawn = match picture.form {
@@ -247,14 +248,13 @@ fn print_explanation<R: Files + Print + Eprint + AllocGlobal>(
         write_file(rt, picture.path, drawn.as_str())?;
     }
     let page = if presentation.explaining.json {
-        write_json(alloc, &explained, known)?
+        write_json(alloc, &explained)?
     } else {
         write_table(
             alloc,
             &explained,
             presentation.screen.columns(),
             presentation.zone_clock(),
-            known,
         )?
     };
     print_page(rt, page.as_str())

@@ -12,6 +12,8 @@ use std::alloc::{AllocError, Global};
 #[derive(Clone, Copy)]
 pub struct KnownState {
     profile: PrevailingProfile,
+    /// The moment of its install. A newer install begins its state anew.
+    installed: Instant,
     pub state: ProfileState,
     /// The moment of the event by which it came into this state.
     pub since: Instant,
@@ -48,9 +50,10 @@ impl<'a> ProfileStates<'a> {
         for row in rows {
             let state = machine.profile_state_of(event.point, row);
             states.push(match self.of(row) {
-                Some(known) if known.state == state => known,
+                Some(known) if known.state == state && known.installed == row.moment => known,
                 _ => KnownState {
                     profile: name_of(row),
+                    installed: row.moment,
                     state,
                     since: event.moment,
                     by_call: replied_call(machine, event),

@@ -75,6 +75,7 @@ pub fn connector_picture(
         view,
         intervals: explanation.intervals(),
         not_counted: rest.as_slice(),
+        known: &[],
     };
     Ok(Some(write_picture(alloc, &explained)?))
 }

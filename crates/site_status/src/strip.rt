@@ -162,7 +162,8 @@ fn push_item(page: &mut Page, shown: &Shown<'_>, interval: &Interval) {
     push_limit(page, interval.reason.limit, shown.unit);
     page.push_str("</b> ");
     let mut why = Page::new(page.allocator());
-    push_why(&mut why, &interval.reason, shown.unit);
+    // The page has a line of its own for each profile that the point isn't known to have.
+    push_why(&mut why, &interval.reason, shown.unit, &[]);
     push_made_escaped(page, why.finish());
     page.push_str("</li>\n");
 }

@@ -80,7 +80,7 @@ fn uncounted(
         not_counted: rest.as_slice(),
         ..explained
     };
-    write_json(alloc, &explained, &[]).expect(rt, rows)
+    write_json(alloc, &explained).expect(rt, rows)
 }
 
 /// Returns the names of the reasons in `explain`'s JSON, separated by blanks, to compare them in a
@@ -147,9 +147,9 @@ fn expect_everywhere(rt: &impl Abort, alloc: Global, reason: NotCountedReason) {
         ..explain(rt, point.view(), (1, 60), &intervals, &not_counted)
     };
     let text = sentence(reason);
-    let table = write_table(alloc, &explained, None, None, &[]).expect(rt, text);
+    let table = write_table(alloc, &explained, None, None).expect(rt, text);
     expect(rt, table.as_str(), text);
-    let json = write_json(alloc, &explained, &[]).expect(rt, text);
+    let json = write_json(alloc, &explained).expect(rt, text);
     expect(rt, json.as_str(), text);
     expect(rt, json.as_str(), r#"{"point":"\"\\<é&>","connector":1,"#);
     let page = write_page(alloc, &explained).expect(rt, text);

@@ -78,6 +78,7 @@ pub(crate) fn explain<'a>(
         view,
         intervals,
         not_counted,
+        known: &[],
     }
 }
 

@@ -104,7 +104,7 @@ fn tables_fit_the_terminal(rt: HostRuntime) {
         (Some(80), OF_80),
         (Some(200), OF_200),
     ] {
-        let table = write_table(alloc, &explained, columns, None, &[]).expect(&rt, "error");
+        let table = write_table(alloc, &explained, columns, None).expect(&rt, "error");
         same(&rt, table.as_str(), wanted);
     }
 }
