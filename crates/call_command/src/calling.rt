@@ -25,24 +25,39 @@ pub fn call_site<R: ClientRuntime + Files<File = File> + Input>(
     calling: Calling<'_>,
 ) -> Result<u8, ProgramFault> {
     check_url(rt.alloc(), calling)?;
-    let sending = send_options(rt, calling)?;
-    let mut undo = undo_in(rt, calling)?;
-    let mut given = undo_calls(rt.alloc(), &mut undo);
-    given.append(&mut given_calls(rt, calling)?)?;
-    let site = match calling.site {
-        Some(path) => Some(read_site_file(rt, path)?),
-        None => None,
-    };
-    let mut caller = Caller::new(rt, sending);
-    if !calling.gives_calls() {
-        send_lines(&mut caller, &mut Lines::new(rt.alloc(), rt.reader())?)?;
-        return Ok(caller.status());
+    let mut caller = Caller::new(rt, send_options(rt, calling)?);
+    if calling.gives_calls() {
+        let outcome = send_given(&mut caller, calling)?;
+        return Ok(caller.status().max(outcome));
     }
-    let calls = caller.passed(given)?;
-    let visits = visits_of(rt, calling, &mut caller, &undo, site, calls.as_slice())?;
-    send_calls(&mut caller, calls.as_slice(), visits.as_slice())?;
-    let outcome = say_outcomes(rt, calling, visits.as_slice())?;
-    Ok(caller.status().max(outcome))
+    send_lines(&mut caller, &mut Lines::new(rt.alloc(), rt.reader())?)?;
+    Ok(caller.status())
+}
+
+/// Sends the calls of `call`'s options to their points. Returns the exit status by what came of
+/// them at the points, if the replies are awaited.
+fn send_given<R: ClientRuntime + Files<File = File>>(
+    caller: &mut Caller<'_, R>,
+    calling: Calling<'_>,
+) -> Result<u8, ProgramFault> {
+    let mut undo = undo_in(caller.rt, calling)?;
+    let site = site_in(caller.rt, calling)?;
+    let calls = calls_of(caller, calling, &mut undo)?;
+    let visits = visits_of(caller, calling, &undo, site, calls.as_slice())?;
+    send_calls(caller, calls.as_slice(), visits.as_slice())?;
+    say_outcomes(caller.rt, calling, visits.as_slice())
+}
+
+/// Returns the calls of `call`'s options, those of an undo first. Leaves out faulty ones, and prints
+/// why.
+fn calls_of<R: Files<File = File> + Print + Eprint + AllocGlobal>(
+    caller: &mut Caller<'_, R>,
+    calling: Calling<'_>,
+    undo: &mut Option<Undo>,
+) -> Result<Vec<GivenCall>, ProgramFault> {
+    let mut given = undo_calls(caller.rt.alloc(), undo);
+    given.append(&mut given_calls(caller.rt, calling)?)?;
+    Ok(caller.passed(given)?)
 }
 
 /// Returns the options of `call` for sending messages. Reads the login from its file.
@@ -58,25 +73,36 @@ fn send_options<'a, R: Files<File = File> + Eprint + AllocGlobal>(
     })
 }
 
+/// Returns the site of `call`'s site file, if one is named.
+fn site_in<R: Files<File = File> + Eprint + AllocGlobal>(
+    rt: &R,
+    calling: Calling<'_>,
+) -> Result<Option<Site>, ProgramFault> {
+    match calling.site {
+        Some(path) => Ok(Some(read_site_file(rt, path)?)),
+        None => Ok(None),
+    }
+}
+
 /// Returns which calls of `call` go to which points: that of the undone line or of the URL, or all.
 /// Leaves out calls that are held back, and prints why.
 fn visits_of<R: Files<File = File> + Clock + Print + Eprint + AllocGlobal>(
-    rt: &R,
-    calling: Calling<'_>,
     caller: &mut Caller<'_, R>,
+    calling: Calling<'_>,
     undo: &Option<Undo>,
     site: Option<Site>,
     calls: &[GivenCall],
 ) -> Result<Vec<Visit>, ProgramFault> {
+    let alloc = caller.rt.alloc();
     let mut visits = match undo {
-        Some(undo) => undo_visit(rt.alloc(), calling.url, undo, calls.len())?,
-        None => plain_visits(rt.alloc(), calling, &site, calls.len())?,
+        Some(undo) => undo_visit(alloc, calling.url, undo, calls.len())?,
+        None => plain_visits(alloc, calling, &site, calls.len())?,
     };
     if let Some(undo) = undo {
         hold_undo(caller, undo, calls, &mut visits)?;
     }
     if let (Some(folder), Some(site)) = (calling.folder, site) {
-        check_visits(rt, caller, folder, site, calls, &mut visits)?;
+        check_visits(caller, folder, site, calls, &mut visits)?;
     }
     Ok(visits)
 }
@@ -96,6 +122,11 @@ fn check_url(alloc: Global, calling: Calling<'_>) -> Result<(), ProgramFault> {
     if calling.wait.is_some() && calling.folder.is_none() {
         return Err(ProgramFault::WaitWithoutData);
     }
+    check_point_of_url(alloc, calling)
+}
+
+/// Refuses a URL of `call` that isn't an operator's, or that of one point if the calls go to all.
+fn check_point_of_url(alloc: Global, calling: Calling<'_>) -> Result<(), ProgramFault> {
     // An undo has its point from the line, so its URL may lack the identity.
     let lacks_point = calling.all || calling.undo.is_some() && is_without_point(calling.url);
     if !lacks_point {

@@ -16,25 +16,29 @@ pub fn given_calls<R: Files<File = File> + Eprint + AllocGlobal>(
     rt: &R,
     calling: Calling<'_>,
 ) -> Result<Vec<GivenCall>, ProgramFault> {
-    let alloc = rt.alloc();
     let starting = match calling.remote_start {
         Some(starting) => Some((connector_of(starting)?, starting)),
         None => None,
     };
-    let mut calls = Vec::new(alloc);
+    let mut calls = Vec::new(rt.alloc());
     if let Some(path) = calling.set_profile {
         calls.push(set_profile_of(rt, path)?)?;
     }
     if let Some(payload) = calling.clear {
-        let frame = clear_call(alloc, payload)?;
-        let payload = String::from_str(alloc, payload)?;
-        calls.push(GivenCall::with_json("clear", payload, frame))?;
+        calls.push(clear_of(rt.alloc(), payload)?)?;
     }
     if let Some((connector, starting)) = starting {
         calls.push(remote_start_of(rt, connector, starting)?)?;
     }
-    push_questions(alloc, calling, &mut calls)?;
+    push_questions(rt.alloc(), calling, &mut calls)?;
     Ok(calls)
+}
+
+/// Returns the ClearChargingProfile that an operator sends by `call`, with this payload.
+fn clear_of(alloc: Global, payload: &str) -> Result<GivenCall, AllocError> {
+    let frame = clear_call(alloc, payload)?;
+    let payload = String::from_str(alloc, payload)?;
+    Ok(GivenCall::with_json("clear", payload, frame))
 }
 
 /// Returns the SetChargingProfile that an operator sends by `call`, with the payload of a file.

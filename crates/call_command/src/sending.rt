@@ -114,17 +114,18 @@ fn connected<R: ClientRuntime>(
     point: Option<&str>,
 ) -> Result<OperatorClient<TcpStream, RandomKeys<R>>, ClientFault> {
     let alloc = caller.rt.alloc();
-    let sending = &caller.sending;
-    let address = match point {
-        Some(point) => Address::of_operator(
-            alloc,
-            url_of_point(alloc, sending.url, point)?.as_str(),
-        )?,
-        None => Address::of_operator(alloc, sending.url)?,
-    };
-    let address = address.logged_in(alloc, &sending.login)?;
+    let mut address = address_of(alloc, caller.sending.url, point)?;
+    address.log_in(alloc, &caller.sending.login)?;
     let socket = connect(caller.rt, alloc, address)?;
     Ok(OperatorClient::new(alloc, socket))
+}
+
+/// Returns the address of the operator's URL, or of the one that `call` makes of it for this point.
+fn address_of(alloc: Global, url: &str, point: Option<&str>) -> Result<Address, ClientFault> {
+    match point {
+        Some(point) => Address::of_operator(alloc, url_of_point(alloc, url, point)?.as_str()),
+        None => Address::of_operator(alloc, url),
+    }
 }
 
 /// Sends an operator's message and prints its answer, or prints the message in a dry run of `call`.

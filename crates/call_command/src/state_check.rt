@@ -16,23 +16,33 @@ use std::rt::{Clock, Files};
 /// journal of a folder and the calls before. Prints the findings. Notes which number the next call
 /// to each point has.
 pub fn check_visits<R: Files<File = File> + Clock + Print + Eprint + AllocGlobal>(
-    rt: &R,
     caller: &mut Caller<'_, R>,
     folder: &str,
     site: Site,
     calls: &[GivenCall],
     visits: &mut Vec<Visit>,
 ) -> Result<(), ProgramFault> {
-    let alloc = rt.alloc();
     if visits
         .iter()
         .any(|visit| site.place_of(visit.id.as_str()).is_none())
     {
         return Err(ProgramFault::NoSuchPoint);
     }
-    let machine = state_of_journal(rt, folder, site, &mut NoReader)?;
+    let machine = state_of_journal(caller.rt, folder, site, &mut NoReader)?;
     note_next_calls(&machine, visits);
-    let Some(script) = script_of_calls(alloc, now(rt)?, calls, visits.as_slice())? else {
+    check_from(caller, machine, calls, visits)
+}
+
+/// Keeps in the visits of `call` only the calls that their points would accept in this state of the
+/// site, and after the calls before. Prints the findings.
+fn check_from<R: Clock + Print + Eprint + AllocGlobal>(
+    caller: &mut Caller<'_, R>,
+    machine: Machine,
+    calls: &[GivenCall],
+    visits: &mut Vec<Visit>,
+) -> Result<(), ProgramFault> {
+    let alloc = caller.rt.alloc();
+    let Some(script) = script_of_calls(alloc, now(caller.rt)?, calls, visits.as_slice())? else {
         return Err(ProgramFault::Replay(ReplayFault::ScriptTooLong));
     };
     let mut played = PlayedCalls::begin(alloc, machine, script.as_slice())?;
@@ -41,8 +51,7 @@ pub fn check_visits<R: Files<File = File> + Clock + Print + Eprint + AllocGlobal
         let passed = passed_calls(caller, &mut played, &mut shared, calls, &*visit)?;
         visit.calls = passed;
     }
-    caller.say_shared(&shared)?;
-    Ok(())
+    Ok(caller.say_shared(&shared)?)
 }
 
 /// Notes which number the next call to each visited point has in this state, so that `call` knows

@@ -2,7 +2,7 @@
 
 use base64::engine::general_purpose::STANDARD;
 use client_lines::ClientFault;
-use http::{HeaderName, HeaderValue, Request, StatusCode};
+use http::{HeaderName, HeaderValue, Request, StatusCode, Uri};
 use std::alloc::{Alloc, Global};
 use std::net::{Net, TcpStream};
 use std::random::RandomSource;
@@ -42,32 +42,42 @@ impl Address {
         Ok(address)
     }
 
-    /// Returns the same address, with the name and the key that were read, if any were.
-    pub fn logged_in(self, alloc: Global, login: &Option<String>) -> Result<Address, ClientFault> {
-        match login {
-            // The file's last line feed isn't part of the key.
-            Some(login) => self.with_login(alloc, login.as_str().trim_end()),
-            None => Ok(self),
-        }
-    }
-
-    /// Returns the same address of the central system with a client's credentials: a name, a colon
-    /// and a password (HTTP Basic, RFC 7617).
-    fn with_login(self, alloc: Global, login: &str) -> Result<Address, ClientFault> {
-        let Address { mut request, .. } = self;
-        let coded = STANDARD.encode(alloc, login.as_bytes())?;
-        let credentials = format!(in alloc; "Basic {coded}")?;
-        let Ok(value) = HeaderValue::from_str(alloc, credentials.as_str()) else {
-            return Err(ClientFault::OutOfMemory);
+    /// Adds the name and the key that were read to the request, if any were.
+    pub fn log_in(&mut self, alloc: Global, login: &Option<String>) -> Result<(), ClientFault> {
+        let Some(login) = login else {
+            return Ok(());
         };
-        let name = HeaderName::from_static("authorization");
-        match request.headers_mut().insert(name, value) {
-            Ok(_) => Ok(Address {
-                request,
-                has_login: true,
-            }),
-            Err(_) => Err(ClientFault::OutOfMemory),
-        }
+        // The file's last line feed isn't part of the key.
+        let credentials = credentials_of(alloc, login.as_str().trim_end())?;
+        add_header(&mut self.request, "authorization", credentials)?;
+        self.has_login = true;
+        Ok(())
+    }
+}
+
+/// Returns the credentials of a client for the central system: a name, a colon and a password (HTTP
+/// Basic, RFC 7617).
+fn credentials_of(alloc: Global, login: &str) -> Result<HeaderValue, ClientFault> {
+    let coded = STANDARD.encode(alloc, login.as_bytes())?;
+    let text = format!(in alloc; "Basic {coded}")?;
+    match HeaderValue::from_str(alloc, text.as_str()) {
+        Ok(value) => Ok(value),
+        Err(_) => Err(ClientFault::OutOfMemory),
+    }
+}
+
+/// Adds a header to the request of a client's handshake.
+fn add_header(
+    request: &mut Request<()>,
+    name: &'static str,
+    value: HeaderValue,
+) -> Result<(), ClientFault> {
+    match request
+        .headers_mut()
+        .insert(HeaderName::from_static(name), value)
+    {
+        Ok(_) => Ok(()),
+        Err(_) => Err(ClientFault::OutOfMemory),
     }
 }
 
@@ -86,17 +96,9 @@ pub fn connect<R: Net<Stream = TcpStream> + RandomSource + Copy + Drop>(
     alloc: Global,
     address: Address,
 ) -> Result<ClientSocket<R>, ClientFault> {
-    let Address { request, has_login } = address;
-    let Some(host) = request.uri().host() else {
-        return Err(ClientFault::Url);
-    };
-    let port = request.uri().port_u16().unwrap_or(DEFAULT_PORT);
-    let Ok(stream) = TcpStream::connect(rt, (host, port)) else {
-        return Err(ClientFault::Connection);
-    };
-    // Messages leave at once. If this option can't be set, they only leave later.
-    let _ = stream.set_nodelay(true);
-    match client(alloc, *rt, request, stream) {
+    let has_login = address.has_login;
+    let stream = stream_to(rt, address.request.uri())?;
+    match client(alloc, *rt, address.request, stream) {
         Ok((socket, _)) => Ok(socket),
         Err(HandshakeError::Failure(Error::Http(response))) => Err(refusal_of(
             response.status(),
@@ -104,6 +106,20 @@ pub fn connect<R: Net<Stream = TcpStream> + RandomSource + Copy + Drop>(
         )),
         Err(_) => Err(ClientFault::Handshake),
     }
+}
+
+/// Opens a client's TCP connection to the host and the port of a URL.
+fn stream_to<R: Net<Stream = TcpStream>>(rt: &R, uri: &Uri) -> Result<TcpStream, ClientFault> {
+    let Some(host) = uri.host() else {
+        return Err(ClientFault::Url);
+    };
+    let port = uri.port_u16().unwrap_or(DEFAULT_PORT);
+    let Ok(stream) = TcpStream::connect(rt, (host, port)) else {
+        return Err(ClientFault::Connection);
+    };
+    // Messages leave at once. If this option can't be set, they only leave later.
+    let _ = stream.set_nodelay(true);
+    Ok(stream)
 }
 
 /// Returns why the central system refused a client with or without a login, by the HTTP status of
@@ -117,22 +133,24 @@ fn refusal_of(status: StatusCode, has_login: bool) -> ClientFault {
     }
 }
 
+/// Builds the request of a WebSocket handshake at a URL, without a subprotocol.
+fn plain_request(alloc: Global, url: &str) -> Result<Request<()>, ClientFault> {
+    match request_of(alloc, url) {
+        Ok(request) => Ok(request),
+        Err(Error::OutOfMemory) => Err(ClientFault::OutOfMemory),
+        Err(_) => Err(ClientFault::Url),
+    }
+}
+
 /// Builds the request of the WebSocket handshake with the central system at a URL, which offers
 /// OCPP 1.6.
 fn request_to(alloc: Global, url: &str) -> Result<Request<()>, ClientFault> {
-    let mut request = match request_of(alloc, url) {
-        Ok(request) => request,
-        Err(Error::OutOfMemory) => return Err(ClientFault::OutOfMemory),
-        Err(_) => return Err(ClientFault::Url),
-    };
+    let mut request = plain_request(alloc, url)?;
     // This program has no TLS, so it refuses `wss`.
     if request.uri().scheme_str() != Some("ws") {
         return Err(ClientFault::Url);
     }
-    let name = HeaderName::from_static("sec-websocket-protocol");
     let value = HeaderValue::from_static("ocpp1.6");
-    match request.headers_mut().insert(name, value) {
-        Ok(_) => Ok(request),
-        Err(_) => Err(ClientFault::OutOfMemory),
-    }
+    add_header(&mut request, "sec-websocket-protocol", value)?;
+    Ok(request)
 }

@@ -72,17 +72,29 @@ impl<S: Read + Write + OpenStream + Drop, K: MaskKeys + Drop> OperatorClient<S, 
         send(self.alloc, &mut self.socket, text)?;
         // There is no timeout: while the connection lasts, an answer always comes.
         for _message in rt.forever() {
-            let Received::Text(answer) = receive(&mut self.socket)? else {
-                continue;
-            };
-            lines.write(answer.as_str())?;
-            match verdict_of(&mut self.memory, answer.as_str(), &id)? {
-                Some(AnswerVerdict::Accepted) => return Ok(CallEnd::Accepted),
-                Some(AnswerVerdict::Refused) => return Ok(CallEnd::Refused(answer)),
-                None => {}
+            if let Some(end) = self.take_message(lines, &id)? {
+                return Ok(end);
             }
         }
         unreachable!()
+    }
+
+    /// Writes the next message from the central system, and returns the outcome of the operator's
+    /// CALL of this id if the message is its answer.
+    fn take_message<W: Write>(
+        &mut self,
+        lines: &mut AnswerLines<'_, W>,
+        call: &MessageId,
+    ) -> Result<Option<CallEnd>, ClientFault> {
+        let Received::Text(answer) = receive(&mut self.socket)? else {
+            return Ok(None);
+        };
+        lines.write(answer.as_str())?;
+        match verdict_of(&mut self.memory, answer.as_str(), call)? {
+            Some(AnswerVerdict::Accepted) => Ok(Some(CallEnd::Accepted)),
+            Some(AnswerVerdict::Refused) => Ok(Some(CallEnd::Refused(answer))),
+            None => Ok(None),
+        }
     }
 
     /// Closes the connection.

@@ -28,7 +28,7 @@ impl<S: Read + Write + OpenStream + Drop, K: MaskKeys + Drop, W: Write> Terminal
     /// comes before the next line. A line that isn't valid or whose step makes no call is written
     /// as `! NUMBER NAME`. Returns how many of these there were.
     pub fn play<R: Wait + Clock, I: Read + Drop, M: Moments>(
-        mut self,
+        &mut self,
         rt: &R,
         lines: &mut Lines<I>,
         clock: &M,

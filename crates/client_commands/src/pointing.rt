@@ -17,20 +17,12 @@ pub fn run_point<R: ClientRuntime + Files<File = File> + Input>(
     rt: &R,
     pointing: Pointing<'_>,
 ) -> Result<u8, ProgramFault> {
-    let alloc = rt.alloc();
-    let base = pointing.url.trim_end_matches('/');
-    // The last segment of the URL is the point's identity (OCPP-J 1.6, 3.1.1).
-    let url = format!(in alloc; "{base}/{}", pointing.id)?;
-    let address = Address::of_url(alloc, url.as_str())?;
-    let login = read_login(rt, pointing.login)?;
-    let address = address.logged_in(alloc, &login)?;
-    let site = read_site_file(rt, pointing.site)?;
-    let point = point_of_site(alloc, &site, pointing.id)?;
-    let socket = connect(rt, alloc, address)?;
-    let mut lines = Lines::new(alloc, rt.reader())?;
-    let terminal = TerminalPoint {
-        alloc,
-        socket,
+    let address = address_of(rt, pointing)?;
+    let point = simulated_point(rt, pointing)?;
+    let mut lines = Lines::new(rt.alloc(), rt.reader())?;
+    let mut terminal = TerminalPoint {
+        alloc: rt.alloc(),
+        socket: connect(rt, rt.alloc(), address)?,
         point,
         writer: &mut io::writer(rt),
     };
@@ -38,6 +30,29 @@ pub fn run_point<R: ClientRuntime + Files<File = File> + Input>(
         0 => Ok(0),
         _ => Ok(2),
     }
+}
+
+/// Returns the address at which the simulated charge point connects, with its name and key.
+fn address_of<R: Files<File = File> + AllocGlobal>(
+    rt: &R,
+    pointing: Pointing<'_>,
+) -> Result<Address, ProgramFault> {
+    let alloc = rt.alloc();
+    let base = pointing.url.trim_end_matches('/');
+    // The last segment of the URL is the point's identity (OCPP-J 1.6, 3.1.1).
+    let url = format!(in alloc; "{base}/{}", pointing.id)?;
+    let mut address = Address::of_url(alloc, url.as_str())?;
+    address.log_in(alloc, &read_login(rt, pointing.login)?)?;
+    Ok(address)
+}
+
+/// Makes the simulated charge point by the site file.
+fn simulated_point<R: Files<File = File> + AllocGlobal>(
+    rt: &R,
+    pointing: Pointing<'_>,
+) -> Result<SimPoint, ProgramFault> {
+    let site = read_site_file(rt, pointing.site)?;
+    point_of_site(rt.alloc(), &site, pointing.id)
 }
 
 /// Makes the simulated charge point of `point`, with the ceilings of the site's point of this

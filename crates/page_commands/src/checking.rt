@@ -26,19 +26,53 @@ pub fn check_file<R: Files<File = File> + Clock + Input + Print + Eprint + Alloc
     rt: &R,
     checking: Checking<'_>,
 ) -> Result<u8, ProgramFault> {
-    let alloc = rt.alloc();
     let bytes = read_site_bytes(rt, checking.site)?;
-    let findings = check_site(alloc, bytes.as_slice())?;
+    let findings = check_site(rt.alloc(), bytes.as_slice())?;
+    let checked = CheckedSite {
+        bytes: bytes.as_slice(),
+        findings: findings.as_slice(),
+    };
+    print_findings(rt, &checking, checked)
+}
+
+/// A site file, and the findings of `check` in it.
+#[derive(Clone, Copy)]
+struct CheckedSite<'a> {
+    bytes: &'a [u8],
+    findings: &'a [Finding],
+}
+
+impl CheckedSite<'_> {
+    /// Returns the site for `check`, if the site file can be read. Otherwise its findings say why
+    /// not.
+    fn site(&self, alloc: Global) -> Result<Option<Site>, AllocError> {
+        // Reading a file with such findings would fail.
+        if exit_status(self.findings) == 1 {
+            return Ok(None);
+        }
+        match read_site(alloc, self.bytes) {
+            Ok(site) => Ok(Some(site)),
+            Err(SiteFault::OutOfMemory) => Err(AllocError),
+            Err(_) => Ok(None),
+        }
+    }
+}
+
+/// Prints `check`'s findings in the site file, in the file of keys, and in the script or the
+/// journal. Returns the exit status by them.
+fn print_findings<R: Files<File = File> + Clock + Input + Print + Eprint + AllocGlobal>(
+    rt: &R,
+    checking: &Checking<'_>,
+    checked: CheckedSite<'_>,
+) -> Result<u8, ProgramFault> {
     // The faults of the site file are printed even if the script can't be read.
-    let page = site_page(alloc, checking.site, findings.as_slice())?;
-    print_page(rt, page.as_str())?;
-    let of_keys = check_keys(rt, checking.keys, bytes.as_slice(), findings.as_slice())?;
-    let of_files = joined_status(
-        exit_status(findings.as_slice()),
-        exit_status(of_keys.as_slice()),
-    );
-    let site = site_of(alloc, bytes.as_slice(), findings.as_slice())?;
-    let of_history = check_history(rt, &checking, site, bytes.as_slice())?;
+    print_page(
+        rt,
+        site_page(rt.alloc(), checking.site, checked.findings)?.as_str(),
+    )?;
+    let of_keys = check_keys(rt, checking.keys, checked)?;
+    let of_files = joined_status(exit_status(checked.findings), of_keys);
+    let of_history = check_history(rt, checking, checked)?;
     Ok(joined_status(of_files, of_history))
 }
 
@@ -47,18 +81,17 @@ pub fn check_file<R: Files<File = File> + Clock + Input + Print + Eprint + Alloc
 fn check_history<R: Files<File = File> + Clock + Input + Print + Eprint + AllocGlobal>(
     rt: &R,
     checking: &Checking<'_>,
-    site: Option<Site>,
-    site_bytes: &[u8],
+    checked: CheckedSite<'_>,
 ) -> Result<u8, ProgramFault> {
     // A trace is the output of the journal's script.
     if let (Source::Journal(folder), false) = (checking.source, checking.trace) {
-        return match site {
-            Some(site) => check_journal(rt, folder, site, site_bytes),
+        return match checked.site(rt.alloc())? {
+            Some(site) => check_journal(rt, folder, site, checked.bytes),
             None => Ok(0),
         };
     }
     let script = read_script_of(rt, checking.source)?;
-    match site {
+    match checked.site(rt.alloc())? {
         Some(site) => check_script(rt, script.as_slice(), site, checking.trace),
         None => Ok(0),
     }
@@ -100,18 +133,27 @@ fn check_journal<R: Files<File = File> + Clock + Print + Eprint + AllocGlobal>(
         noted_with: Some(Sha256::digest(site_bytes)),
     };
     let followed = follow_journal(rt, following, &mut reader)?;
-    let mut page = String::new(alloc);
-    let mut check = reader.check;
-    check.push_findings_at_end(&mut page, &followed.machine)?;
+    print_end(rt, &mut reader.check, &followed.machine)?;
+    Ok(reader.check.status())
+}
+
+/// Prints `check`'s findings in the state at the end of a journal, and the calls that are left
+/// there.
+fn print_end<R: Print + Eprint + AllocGlobal>(
+    rt: &R,
+    check: &mut SiteCheck,
+    machine: &Machine,
+) -> Result<(), ProgramFault> {
+    let mut page = String::new(rt.alloc());
+    check.push_findings_at_end(&mut page, machine)?;
     let ending = Ending {
-        machine: &followed.machine,
+        machine,
         points: check.points(),
         held: &[],
-        held_lines: &HeldLines::new(alloc),
+        held_lines: &HeldLines::new(rt.alloc()),
     };
-    page.push_str(ending_text(alloc, &ending)?.as_str())?;
-    print_page(rt, page.as_str())?;
-    Ok(check.status())
+    page.push_str(ending_text(rt.alloc(), &ending)?.as_str())?;
+    print_page(rt, page.as_str())
 }
 
 /// A check of a journal, which prints its findings as it goes.
@@ -139,37 +181,30 @@ impl<R: Print + Eprint + AllocGlobal> EventReader for JournalCheck<'_, R> {
     }
 }
 
-/// Prints `check`'s findings in the file of keys, if one is named, given the site of the site file.
-/// Returns the findings.
+/// Prints `check`'s findings in the file of keys, if one is named, given the site file. Returns the
+/// exit status by them.
 fn check_keys<R: Files<File = File> + Print + Eprint + AllocGlobal>(
     rt: &R,
     path: Option<&str>,
-    site: &[u8],
-    in_site: &[Finding],
-) -> Result<Vec<Finding>, ProgramFault> {
-    let alloc = rt.alloc();
+    checked: CheckedSite<'_>,
+) -> Result<u8, ProgramFault> {
     let Some(path) = path else {
-        return Ok(Vec::new(alloc));
+        return Ok(0);
     };
-    let bytes = read_key_bytes(rt, path)?;
-    let site = site_of(alloc, site, in_site)?;
-    let findings = find_in_keys(alloc, bytes.as_slice(), site.as_ref())?;
-    let mut page = String::new(alloc);
+    let findings = find_in_key_file(rt, path, checked)?;
+    let mut page = String::new(rt.alloc());
     push_findings(&mut page, path, findings.as_slice())?;
     print_page(rt, page.as_str())?;
-    Ok(findings)
+    Ok(exit_status(findings.as_slice()))
 }
 
-/// Returns the site of a site file for `check`, if it can be read. Otherwise these findings of
-/// `check` say why not.
-fn site_of(alloc: Global, bytes: &[u8], findings: &[Finding]) -> Result<Option<Site>, AllocError> {
-    // Reading a file with such findings would fail.
-    if exit_status(findings) == 1 {
-        return Ok(None);
-    }
-    match read_site(alloc, bytes) {
-        Ok(site) => Ok(Some(site)),
-        Err(SiteFault::OutOfMemory) => Err(AllocError),
-        Err(_) => Ok(None),
-    }
+/// Returns `check`'s findings in the file of keys at this path, given the site file.
+fn find_in_key_file<R: Files<File = File> + Eprint + AllocGlobal>(
+    rt: &R,
+    path: &str,
+    checked: CheckedSite<'_>,
+) -> Result<Vec<Finding>, ProgramFault> {
+    let bytes = read_key_bytes(rt, path)?;
+    let site = checked.site(rt.alloc())?;
+    Ok(find_in_keys(rt.alloc(), bytes.as_slice(), site.as_ref())?)
 }

@@ -25,7 +25,7 @@ use profile::Unit;
 use replay::play_quietly;
 use site_core::Machine;
 use site_rules::Site;
-use std::alloc::{AllocError, AllocGlobal};
+use std::alloc::{AllocError, AllocGlobal, Global};
 use std::fs::File;
 use std::rt::{Clock, Files};
 use sweep_compiler::{Turns, explain};
@@ -38,40 +38,87 @@ pub fn explain_file<R: Files<File = File> + Input + Print + Eprint + Clock + All
     screen: Screen,
     explaining: Explaining<'_>,
 ) -> Result<u8, ProgramFault> {
-    let picture = picture_of(&explaining)?;
-    let zone = zone_name(&explaining)?;
-    let start = start_of(rt, explaining.start)?;
-    let ask = ask_of(&explaining, start)?;
-    let end = script_end(rt, explaining.at)?;
-    let shifts = read_clock_shifts(rt, zone, &ask)?;
-    let (site, digest) = read_digested_site(rt, explaining.site)?;
-    check_connector(&site, explaining.point, ask.connector)?;
+    let options = options_of(rt, &explaining)?;
+    let shifts = read_clock_shifts(rt, options.zone, &options.ask)?;
     let presentation = Presentation {
         explaining: &explaining,
         screen,
-        unit: site.unit(),
-        picture,
-        zone,
+        options,
         shifts: shifts.as_slice(),
     };
+    explain_site(rt, presentation)
+}
+
+/// Returns the options of `explain`, read from their texts.
+fn options_of<'a, R: Clock + Eprint>(
+    rt: &R,
+    explaining: &Explaining<'a>,
+) -> Result<ExplainOptions<'a>, ProgramFault> {
+    let picture = picture_of(explaining)?;
+    let zone = zone_name(explaining)?;
+    let start = start_of(rt, explaining.start)?;
+    Ok(ExplainOptions {
+        picture,
+        zone,
+        ask: ask_of(explaining, start)?,
+        end: script_end(rt, explaining.at)?,
+    })
+}
+
+/// Explains the limits of a connector of a site, once the options of `explain` are read. Returns the
+/// exit status.
+fn explain_site<R: Files<File = File> + Input + Print + Eprint + Clock + AllocGlobal>(
+    rt: &R,
+    presentation: Presentation<'_>,
+) -> Result<u8, ProgramFault> {
+    let Presentation {
+        explaining,
+        options,
+        ..
+    } = presentation;
+    let (site, digest) = read_digested_site(rt, explaining.site)?;
+    check_connector(&site, explaining.point, options.ask.connector)?;
     let Source::Journal(folder) = explaining.source else {
-        return explain_script(rt, presentation, end, site, &ask);
+        return explain_script(rt, presentation, site);
     };
-    let mut reader = ExplainReader::new(rt.alloc(), site.len(), explaining.point, ask.start)?;
     let following = FollowRequest {
         site,
         folder,
-        end,
+        end: options.end,
         noted_with: Some(digest),
     };
+    explain_journal(rt, presentation, following)
+}
+
+/// Explains the limits of a connector after the journal of a folder, for `explain`. Returns the
+/// exit status.
+fn explain_journal<R: Files<File = File> + Print + Eprint + Clock + AllocGlobal>(
+    rt: &R,
+    presentation: Presentation<'_>,
+    following: FollowRequest<'_>,
+) -> Result<u8, ProgramFault> {
+    let point = presentation.explaining.point;
+    let start = presentation.options.ask.start;
+    let mut reader = ExplainReader::new(rt.alloc(), following.site.len(), point, start)?;
     let followed = follow_journal(rt, following, &mut reader)?;
-    let machine = &followed.machine;
-    note_later_changes(rt, explaining.point, start, reader.changes)?;
-    say_unconfirmed(rt, machine, &reader)?;
-    say_lost(rt, machine, &reader)?;
-    let known = known_profiles(rt.alloc(), machine, &reader)?;
-    print_explained(rt, presentation, machine, &ask, known.as_slice())?;
+    explain_followed(rt, presentation, &followed.machine, &reader)?;
     Ok(page_status(followed.is_as_wanted))
+}
+
+/// Prints `explain`'s notes, and then its table or JSON, by the state after a journal and what was
+/// read of the point.
+fn explain_followed<R: Files + Print + Eprint + AllocGlobal>(
+    rt: &R,
+    presentation: Presentation<'_>,
+    machine: &Machine,
+    reader: &ExplainReader<'_>,
+) -> Result<(), ProgramFault> {
+    let start = presentation.options.ask.start;
+    note_later_changes(rt, presentation.explaining.point, start, reader.changes)?;
+    say_unconfirmed(rt, machine, reader)?;
+    say_lost(rt, machine, reader)?;
+    let known = known_profiles(rt.alloc(), machine, reader)?;
+    print_explained(rt, presentation, machine, known.as_slice())
 }
 
 /// Explains the limits of a connector after the script of messages from standard input or a file,
@@ -79,15 +126,13 @@ pub fn explain_file<R: Files<File = File> + Input + Print + Eprint + Clock + All
 fn explain_script<R: Files<File = File> + Input + Print + Eprint + AllocGlobal>(
     rt: &R,
     presentation: Presentation<'_>,
-    end: ScriptEnd,
     site: Site,
-    ask: &Ask,
 ) -> Result<u8, ProgramFault> {
     let script = read_script_of(rt, presentation.explaining.source)?;
-    let last_line = end.last_line(script.as_slice());
+    let last_line = presentation.options.end.last_line(script.as_slice());
     let played = play_quietly(rt.alloc(), script.as_slice(), site, last_line)?;
     let is_whole = note_refused_lines(rt, &played);
-    print_explained(rt, presentation, played.machine(), ask, &[])?;
+    print_explained(rt, presentation, played.machine(), &[])?;
     Ok(page_status(is_whole))
 }
 
@@ -117,15 +162,22 @@ struct Picture<'a> {
     form: PictureForm,
 }
 
+/// The options of `explain`, read from their texts.
+#[derive(Clone, Copy)]
+struct ExplainOptions<'a> {
+    picture: Option<Picture<'a>>,
+    /// The zone of the times in the table.
+    zone: Option<&'a str>,
+    ask: Ask,
+    end: ScriptEnd,
+}
+
 /// How an explanation is presented.
 #[derive(Clone, Copy)]
 struct Presentation<'a> {
     explaining: &'a Explaining<'a>,
     screen: Screen,
-    unit: Unit,
-    picture: Option<Picture<'a>>,
-    /// The zone of the times in the table.
-    zone: Option<&'a str>,
+    options: ExplainOptions<'a>,
     /// How far the zone's clock is ahead of UTC.
     shifts: &'a [ClockShift],
 }
@@ -134,7 +186,7 @@ impl<'a> Presentation<'a> {
     /// Returns the clock of the time zone that the options of `explain` name, for the times of its
     /// table.
     fn zone_clock(&self) -> Option<ZoneClock<'a>> {
-        let name = self.zone?;
+        let name = self.options.zone?;
         Some(ZoneClock {
             name,
             shifts: self.shifts,
@@ -202,9 +254,9 @@ fn print_explained<R: Files + Print + Eprint + AllocGlobal>(
     rt: &R,
     presentation: Presentation<'_>,
     machine: &Machine,
-    ask: &Ask,
     known: &[KnownProfile<'_>],
 ) -> Result<(), ProgramFault> {
+    let ask = &presentation.options.ask;
     let Some(book) = machine.book_of(presentation.explaining.point) else {
         return Err(ProgramFault::NoSuchPoint);
     };
@@ -213,7 +265,8 @@ fn print_explained<R: Files + Print + Eprint + AllocGlobal>(
     if ask.connector > book.connectors() {
         return Err(ProgramFault::NoSuchConnector);
     }
-    print_explanation(rt, presentation, book, ask, known)
+    let unit = machine.site().unit();
+    print_explanation(rt, presentation, unit, book, ask, known)
 }
 
 /// Prints `explain`'s table or JSON for a request for a schedule by the point's book of installed
@@ -221,6 +274,7 @@ fn print_explained<R: Files + Print + Eprint + AllocGlobal>(
 fn print_explanation<R: Files + Print + Eprint + AllocGlobal>(
     rt: &R,
     presentation: Presentation<'_>,
+    unit: Unit,
     book: &PointBook,
     ask: &Ask,
     known: &[KnownProfile<'_>],
@@ -233,29 +287,45 @@ fn print_explanation<R: Files + Print + Eprint + AllocGlobal>(
     let rest = not_counted(alloc, &view, ask, explanation.intervals())?;
     let explained = ExplainedRequest {
         point: presentation.explaining.point,
-        unit: presentation.unit,
+        unit,
         ask: *ask,
         view,
         intervals: explanation.intervals(),
         not_counted: rest.as_slice(),
         known,
     };
-    if let Some(picture) = presentation.picture {
-        let drawn = match picture.form {
-            PictureForm::Svg => write_picture(alloc, &explained)?,
-            PictureForm::Html => write_page(alloc, &explained)?,
-        };
-        write_file(rt, picture.path, drawn.as_str())?;
+    if let Some(picture) = presentation.options.picture {
+        write_drawing(rt, picture, &explained)?;
     }
-    let page = if presentation.explaining.json {
-        write_json(alloc, &explained)?
-    } else {
-        write_table(
-            alloc,
-            &explained,
-            presentation.screen.columns(),
-            presentation.zone_clock(),
-        )?
+    print_page(rt, page_of(alloc, presentation, &explained)?.as_str())
+}
+
+/// Writes the picture that the options of `explain` request.
+fn write_drawing<R: Files + Eprint + AllocGlobal>(
+    rt: &R,
+    picture: Picture<'_>,
+    explained: &ExplainedRequest<'_>,
+) -> Result<(), ProgramFault> {
+    let drawn = match picture.form {
+        PictureForm::Svg => write_picture(rt.alloc(), explained)?,
+        PictureForm::Html => write_page(rt.alloc(), explained)?,
     };
-    print_page(rt, page.as_str())
+    write_file(rt, picture.path, drawn.as_str())
+}
+
+/// Returns `explain`'s table of an explained schedule, or its JSON.
+fn page_of(
+    alloc: Global,
+    presentation: Presentation<'_>,
+    explained: &ExplainedRequest<'_>,
+) -> Result<String, AllocError> {
+    if presentation.explaining.json {
+        return write_json(alloc, explained);
+    }
+    write_table(
+        alloc,
+        explained,
+        presentation.screen.columns(),
+        presentation.zone_clock(),
+    )
 }

@@ -24,13 +24,23 @@ pub fn show_file<R: Files<File = File> + Input + Print + Eprint + Clock + AllocG
     let Source::Journal(folder) = showing.source else {
         return show_script(rt, showing, end, site);
     };
-    let mut reader = SiteCalls::new(rt.alloc(), site.len())?;
     let following = FollowRequest {
         site,
         folder,
         end,
         noted_with: Some(digest),
     };
+    show_journal(rt, showing, following)
+}
+
+/// Prints `show`'s page with the state of each point after the journal of a folder. Returns the exit
+/// status.
+fn show_journal<R: Files<File = File> + Print + Eprint + Clock + AllocGlobal>(
+    rt: &R,
+    showing: Showing<'_>,
+    following: FollowRequest<'_>,
+) -> Result<u8, ProgramFault> {
+    let mut reader = SiteCalls::new(rt.alloc(), following.site.len())?;
     let followed = follow_journal(rt, following, &mut reader)?;
     let standing = Standing {
         machine: &followed.machine,

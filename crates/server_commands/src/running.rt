@@ -25,6 +25,7 @@ use std::sync::ledger::{Blank, Ledger};
 use std::sync::{Arc, Wait};
 use std::thread;
 use std::thread::Threads;
+use version_store::Pass;
 use world::Shareable;
 
 // The command line has its limits from another crate, so this proves that they are the server's.
@@ -39,15 +40,21 @@ struct Plan<'a> {
     /// The SHA-256 of the site file.
     digest: [u8; 32],
     opened: OpenJournal,
-    listener: TcpListener,
-    listen: &'a str,
     seats: u64,
+    clients: ClientPort<'a>,
     workers: u64,
     options: SeatOptions,
     /// The listener of the status port, if there is one.
     status: Option<TcpListener>,
     /// The address of the status port, if it answers only requests for this machine.
     status_address: Option<&'a str>,
+}
+
+/// The port to which the clients of a run connect.
+#[derive(Drop)]
+struct ClientPort<'a> {
+    listener: TcpListener,
+    address: &'a str,
 }
 
 /// Runs the site of a file with the journal of a folder, and resumes where the journal ends.
@@ -70,25 +77,27 @@ pub fn run_file<
 {
     let installs_again = installs_again(running.after_boot)?;
     let (site, digest) = read_digested_site(rt, running.site)?;
-    let keys = read_keys(rt, running.keys)?;
+    let options = SeatOptions {
+        call_timeout: running.call_timeout,
+        keys: read_keys(rt, running.keys)?,
+        address: String::from_str(rt.alloc(), running.listen)?,
+        installs_again,
+    };
     let opened = open_journal(rt, running.folder)?;
-    let listener = listen(rt, running.listen, keys.is_some(), ProgramFault::NoKeys)?;
-    let status = listen_for_status(rt, &running)?;
+    let is_open = options.keys.is_some();
+    let clients = ClientPort {
+        listener: listen(rt, running.listen, is_open, ProgramFault::NoKeys)?,
+        address: running.listen,
+    };
     let plan = Plan {
         site,
         digest,
         opened,
-        listener,
-        listen: running.listen,
         seats: running.seats,
+        clients,
         workers: running.workers,
-        options: SeatOptions {
-            call_timeout: running.call_timeout,
-            keys,
-            address: String::from_str(rt.alloc(), running.listen)?,
-            installs_again,
-        },
-        status,
+        options,
+        status: listen_for_status(rt, &running)?,
         status_address: if running.is_status_open {
             None
         } else {
@@ -200,9 +209,8 @@ fn run_counted<
         site,
         digest,
         opened,
-        listener,
-        listen,
         seats,
+        clients,
         workers,
         options,
         status,
@@ -221,18 +229,36 @@ fn run_counted<
     print_resumed(rt, &resumed)?;
     let journal = Arc::new(rt.alloc(), journal)?;
     begin_lines(rt, &journal)?;
-    let site = SeatContext::make(*rt, rt.alloc(), shared, Arc::try_clone(&journal)?, options)?;
-    let site = Arc::new(rt.alloc(), site)?;
+    let site = SeatContext::make(*rt, rt.alloc(), shared, journal, options)?;
     site.seats.resume_rejections(resumed.rejected);
+    let site = Arc::new(rt.alloc(), site)?;
     port.watch(&site)?;
-    if let Err(fault) = run_seats(&site, listener, seats, workers as usize) {
+    serve_restored(&site, clients, seats, workers)
+}
+
+/// Serves a restored site of `run` with these passes, one for each seat, until its journal breaks.
+fn serve_restored<
+    C: Ledger + Shareable,
+    A: Ledger + Shareable,
+    N: ListName + Shareable,
+    R: Print + Eprint + Clock + Threads + Wait + Copy + Shareable,
+>(
+    site: &Arc<SeatContext<C, A, R, JournalFile<R, N>, N>, Global>,
+    clients: ClientPort<'_>,
+    passes: Vec<Pass<C, A>>,
+    workers: u64,
+) -> Result<(), ProgramFault>
+    requires { 1 ≤ workers }
+{
+    let ClientPort { listener, address } = clients;
+    if let Err(fault) = run_seats(site, listener, passes, workers as usize) {
         return Err(stop_of(fault));
     }
-    if println!(rt; "listening {listen}").is_err() {
+    if println!(site.seats.rt; "listening {address}").is_err() {
         return Err(ProgramFault::Write);
     }
     // Without its journal no answer may leave, so the program ends, and its unit restarts it.
-    journal.until_broken();
+    site.journal.until_broken();
     Err(ProgramFault::Folder(FolderFault::Write))
 }
 

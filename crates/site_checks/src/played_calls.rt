@@ -44,30 +44,56 @@ impl<'a> PlayedCalls<'a> {
         point: &str,
         frame: &str,
     ) -> Result<Vec<Finding>, AllocError> {
-        let before = find_at_point(alloc, self.playing.machine(), point)?;
-        let fuse_before = fuse_at(self.playing.machine(), point);
-        if let Some(played) = self.playing.skim_next()? {
-            self.check.check_line(self.playing.machine(), &played)?;
-        }
-        let found = self.check.take_findings()?;
+        let before = PointFindings::of(alloc, self.playing.machine(), point)?;
+        let mut findings = self.find_in_line(alloc, frame)?;
         let machine = self.playing.machine();
-        let after = find_at_point(alloc, machine, point)?;
-        // `call` has reported these already, so they would be there twice.
-        let by_itself = check_sent(alloc, frame)?;
-        let mut findings = without(alloc, found, by_itself.findings.as_slice())?;
-        let fuse_after = fuse_at(machine, point);
-        let mut standing = without(alloc, after, before.as_slice())?;
-        // A remark on the ceilings has an instant that moves with each install. With the same fuse
-        // limit it is no news.
-        standing.retain(|finding| {
-            finding.severity != Severity::Remark || fuse_after != fuse_before
-        });
-        findings.append(&mut standing)?;
+        let after = PointFindings::of(alloc, machine, point)?;
+        let (fuse_before, fuse_after) = (before.fuse, after.fuse);
+        findings.append(&mut after.new_since(alloc, &before)?)?;
         let unit = machine.site().unit();
         if let Some(finding) = check_fuse(alloc, unit, point, fuse_before, fuse_after)? {
             findings.push(finding)?;
         }
         Ok(findings)
+    }
+
+    /// Plays the next call for `call`, and returns the findings in it that it doesn't have by
+    /// itself.
+    fn find_in_line(&mut self, alloc: Global, frame: &str) -> Result<Vec<Finding>, AllocError> {
+        if let Some(played) = self.playing.skim_next()? {
+            self.check.check_line(self.playing.machine(), &played)?;
+        }
+        let found = self.check.take_findings()?;
+        // `call` has reported these already, so they would be there twice.
+        let by_itself = check_sent(alloc, frame)?;
+        without(alloc, found, by_itself.findings.as_slice())
+    }
+}
+
+/// The findings in the profiles of a point, and its fuse limit.
+#[derive(Drop)]
+struct PointFindings {
+    findings: Vec<Finding>,
+    fuse: Option<u32>,
+}
+
+impl PointFindings {
+    /// Returns the findings of `call` in the profiles that a point has in this state.
+    fn of(alloc: Global, machine: &Machine, point: &str) -> Result<PointFindings, AllocError> {
+        Ok(PointFindings {
+            findings: find_at_point(alloc, machine, point)?,
+            fuse: fuse_at(machine, point),
+        })
+    }
+
+    /// Returns the findings of `call` in a point's profiles that weren't there before.
+    fn new_since(self, alloc: Global, before: &PointFindings) -> Result<Vec<Finding>, AllocError> {
+        let is_same_fuse = self.fuse == before.fuse;
+        let mut new = without(alloc, self.findings, before.findings.as_slice())?;
+        // A remark on the ceilings has an instant that moves with each install. With the same fuse
+        // limit it is no news.
+        new.retain(|finding| finding.severity != Severity::Remark || !is_same_fuse);
+        Ok(new)
     }
 }
 
