@@ -48,67 +48,24 @@ pub fn job_of<'a>(alloc: Global, words: &'a [String]) -> Result<Job<'a>, Error>
 fn job_named<'a>(name: &str, given: &ArgMatches<'a>) -> Option<Job<'a>>
     ensures { IfSome result (λ job. IsJob name.now (rows_of (found_of given.now)) job) }
 {
-    if name == "serve" {
-        let serving = serving_of(given)?;
-        return Some(Job::Serve(serving));
+    match name {
+        "serve" => serving_of(given).map(Job::Serve),
+        "run" => running_of(given).map(Job::Run),
+        "key" => key_making_of(given).map(Job::Key),
+        "call" => calling_of(given).map(Job::Call),
+        "point" => pointing_of(given).map(Job::Point),
+        "replay" => replaying_of(given).map(Job::Replay),
+        "explain" => explaining_of(given).map(Job::Explain),
+        "check" => checking_of(given).map(Job::Check),
+        "show" => showing_of(given).map(Job::Show),
+        "status" => Some(Job::Status {
+            url: text_of(given, "url")?,
+        }),
+        "journal" => Some(Job::Journal {
+            folder: text_of(given, "data")?,
+        }),
+        _ => None,
     }
-    if name == "run" {
-        let running = running_of(given)?;
-        return Some(Job::Run(running));
-    }
-    if name == "key" {
-        let making = key_making_of(given)?;
-        return Some(Job::Key(making));
-    }
-    if name == "call" {
-        let calling = calling_of(given)?;
-        return Some(Job::Call(calling));
-    }
-    if name == "point" {
-        let pointing = pointing_of(given)?;
-        return Some(Job::Point(pointing));
-    }
-    if name == "status" {
-        let url = text_of(given, "url")?;
-        return Some(Job::Status { url });
-    }
-    reader_named(name, given)
-}
-
-/// Returns the job of a subcommand of the command line that reads a script of messages or a
-/// journal, such as `replay` or `explain`.
-fn reader_named<'a>(name: &str, given: &ArgMatches<'a>) -> Option<Job<'a>>
-    ensures { IfSome result (λ job. IsJob name.now (rows_of (found_of given.now)) job) }
-{
-    if name == "replay" {
-        let replaying = replaying_of(given)?;
-        return Some(Job::Replay(replaying));
-    }
-    if name == "journal" {
-        let folder = text_of(given, "data")?;
-        return Some(Job::Journal { folder });
-    }
-    page_named(name, given)
-}
-
-/// Returns the job of `explain`, `check` or `show`, the subcommands of the command line that print
-/// a page.
-fn page_named<'a>(name: &str, given: &ArgMatches<'a>) -> Option<Job<'a>>
-    ensures { IfSome result (λ job. IsJob name.now (rows_of (found_of given.now)) job) }
-{
-    if name == "explain" {
-        let explaining = explaining_of(given)?;
-        return Some(Job::Explain(explaining));
-    }
-    if name == "check" {
-        let checking = checking_of(given)?;
-        return Some(Job::Check(checking));
-    }
-    if name == "show" {
-        let showing = showing_of(given)?;
-        return Some(Job::Show(showing));
-    }
-    None
 }
 
 /// Returns the job of `serve` with the options on the command line.

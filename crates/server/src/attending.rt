@@ -107,45 +107,57 @@ fn attend_next<R: Wait + Clock, W: World>(
     let received = answer_next(&*context, watched, core, pass, installs_again)?;
     let is_last = !watched.has_kept();
     let socket = watched.websocket();
-    let sent = match received {
-        Received::Message { event, sent } => {
-            attention.has_spoken = true;
-            attention.report_refused(watch, core, &event);
-            watch.hear(context, core, event);
-            sent
-        }
-        Received::Control { .. } => {
-            // A client that pings all the time would never let a read time out, and get no calls.
-            if seconds_since(rt, attention.looked) < TICK {
-                None
-            } else {
-                send_to_silent(rt, context, socket, core, attention)?
-            }
-        }
-        Received::Nothing => {
-            // Some noted lines have no message that leaves after them, as those of a point's reply.
-            // They are written here.
-            let _ = context.journal.write_out();
-            keep_alive(socket, attention)?;
-            send_to_silent(rt, context, socket, core, attention)?
-        }
-    };
-    if let Some(call) = sent {
+    if let Some(call) = sent_after(context, watch, socket, core, attention, received)? {
         attention.note_sent(rt, call.number);
         watch.send(call);
     }
     if let Some(call) = attention.overdue(rt, context, core) {
         // The machine has no clock, so only the loss of the link queues the call again.
         watch.give_up(core, call);
-        let _ = socket.close(None);
-        return Err(Ended::Broken);
+        return Err(broken(socket));
     }
     // A message that came while a schedule was awaited is served first.
     if is_last && socket.get_ref().is_in_the_way() {
-        let _ = socket.close(None);
-        return Err(Ended::Broken);
+        return Err(broken(socket));
     }
     Ok(())
+}
+
+/// Closes the WebSocket of a session's client, which ends the session.
+fn broken<R: Wait + Clock>(socket: &mut WebSocket<IncomingStream<'_, R>, NoMask>) -> Ended {
+    let _ = socket.close(None);
+    Ended::Broken
+}
+
+/// Does what follows what a session received from its client. Returns the call that was sent, if one
+/// was.
+fn sent_after<R: Wait + Clock, W: World>(
+    context: &Context<'_, W>,
+    watch: &SessionWatch<'_, R>,
+    socket: &mut WebSocket<IncomingStream<'_, R>, NoMask>,
+    core: &SessionCore,
+    attention: &mut ClientState,
+    received: Received,
+) -> Result<Option<SentCall>, Ended> {
+    let rt = &watch.seats.rt;
+    match received {
+        Received::Message { event, sent } => {
+            attention.has_spoken = true;
+            attention.report_refused(watch, core, &event);
+            watch.hear(context, core, event);
+            Ok(sent)
+        }
+        // A client that pings all the time would never let a read time out, and get no calls.
+        Received::Control { .. } if seconds_since(rt, attention.looked) < TICK => Ok(None),
+        Received::Control { .. } => send_to_silent(rt, context, socket, core, attention),
+        Received::Nothing => {
+            // Some noted lines have no message that leaves after them, as those of a point's reply.
+            // They are written here.
+            let _ = context.journal.write_out();
+            keep_alive(socket, attention)?;
+            send_to_silent(rt, context, socket, core, attention)
+        }
+    }
 }
 
 /// Sends a session's silent client one WebSocket ping, and ends the session after a longer silence.
@@ -155,8 +167,7 @@ fn keep_alive<R: Wait + Clock>(
 ) -> Result<(), Ended> {
     let silence = socket.get_ref().silence();
     if silence >= LONGEST_SILENCE {
-        let _ = socket.close(None);
-        return Err(Ended::Broken);
+        return Err(broken(socket));
     }
     if silence < SILENCE_BEFORE_PING {
         attention.is_pinged = false;

@@ -13,10 +13,10 @@ use server_ports::{
     Access, ClientRequest, HandshakeFailure, IncomingStream, SeatContext, SeatWorld, Seats,
     note_handshake_failure, note_operator, note_unknown, shake_hands,
 };
-use session::{Context, Peer, claim_link, release_link};
+use session::{Context, Peer, SessionCore, claim_link, release_link};
 use std::alloc::{AllocError, Global};
 use std::marker::Sync;
-use std::net::TcpStream;
+use std::net::{SocketAddr, TcpStream};
 use std::rt::Clock;
 use std::sync::Wait;
 use std::sync::ledger::Ledger;
@@ -90,30 +90,56 @@ fn run_incoming<R: Threads + Wait + Clock + Sync, W: World>(
     ensures { KeepsPass pass result }
 {
     let from = stream.peer_addr().ok();
-    let Some(stream) = IncomingStream::new(&seats.rt, seats.alloc, &seats.long_messages, stream)
-    else {
-        return pass;
-    };
-    let (mut socket, asked) = match shake_in_time(seats, stream) {
-        Ok(shaken) => shaken,
+    match shaken_socket(seats, stream, from) {
+        Some((socket, asked)) => run_shaken(seats, context, socket, &asked, from, pass),
+        None => pass,
+    }
+}
+
+/// Does the WebSocket handshake with a client of the server, and sets the limits of its session.
+/// Returns nothing if the handshake failed, which is noted.
+fn shaken_socket<R: Threads + Wait + Clock + Sync>(
+    seats: &Seats<R>,
+    stream: TcpStream,
+    from: Option<SocketAddr>,
+) -> Option<(SeatSocket<'_, R>, ClientRequest)> {
+    let stream = IncomingStream::new(&seats.rt, seats.alloc, &seats.long_messages, stream)?;
+    match shake_in_time(seats, stream) {
+        Ok((mut socket, asked)) => {
+            if !socket.get_mut().end_handshake() {
+                return None;
+            }
+            socket.set_config(limits());
+            Some((socket, asked))
+        }
         Err(unshaken) => {
             note_handshake_failure(seats, unshaken, from);
-            return pass;
+            None
         }
-    };
-    if !socket.get_mut().end_handshake() {
-        return pass;
     }
-    socket.set_config(limits());
-    match admit(context, &asked) {
+}
+
+/// Serves a client's session in a seat of the server after its handshake, if the site has its point.
+/// Returns the seat's pass.
+fn run_shaken<R: Wait + Clock, W: World>(
+    seats: &Seats<R>,
+    context: &Context<'_, W>,
+    socket: SeatSocket<'_, R>,
+    asked: &ClientRequest,
+    from: Option<SocketAddr>,
+    pass: Pass<W::Changes, W::Answers>,
+) -> Pass<W::Changes, W::Answers>
+    ensures { KeepsPass pass result }
+{
+    match admit(context, asked) {
         Ok(Some(admitted)) => {
             if let Peer::Operator { .. } = admitted.core.peer() {
-                note_operator(seats, &asked, from);
+                note_operator(seats, asked, from);
             }
             run_admitted(seats, context, socket, admitted, pass)
         }
         Ok(None) => {
-            note_unknown(seats, &asked, from);
+            note_unknown(seats, asked, from);
             close_at_once(socket);
             pass
         }
@@ -186,10 +212,7 @@ fn run_admitted<R: Wait + Clock, W: World>(
         let _ = socket.close(None);
         return pass;
     }
-    let link = match core.peer() {
-        Peer::Point { link } => link,
-        Peer::Operator { .. } => None,
-    };
+    let link = link_of(&core);
     if let Some(link) = link {
         seats.present.enter(&seats.rt, place, link, share);
     }
@@ -197,14 +220,31 @@ fn run_admitted<R: Wait + Clock, W: World>(
     watch.begin(&core);
     let ended = run_session(context, &watch, &mut socket, &core, &mut pass);
     watch.end(&core, ended);
-    // The buffers of its messages are freed before its place, so the places bound the memory.
-    let mut stream = socket.into_inner();
-    stream.end();
-    release_link(context, core);
-    // The lines of its last message as well, for which perhaps no message leaves.
-    let _ = context.journal.write_out();
+    end_session(context, socket, core);
     if let Some(link) = link {
         seats.present.leave(&seats.rt, place, link);
     }
     pass
+}
+
+/// Returns the link of a session's point on the server. An operator has none.
+fn link_of(core: &SessionCore) -> Option<u64> {
+    match core.peer() {
+        Peer::Point { link } => link,
+        Peer::Operator { .. } => None,
+    }
+}
+
+/// Ends a session on the server: frees its place for long messages, releases its link, and writes
+/// the journal's lines of its last message, for which perhaps no message leaves.
+fn end_session<R: Wait + Clock, W: World>(
+    context: &Context<'_, W>,
+    socket: SeatSocket<'_, R>,
+    core: SessionCore,
+) {
+    // The buffers of its messages are freed before its place, so the places bound the memory.
+    let mut stream = socket.into_inner();
+    stream.end();
+    release_link(context, core);
+    let _ = context.journal.write_out();
 }
