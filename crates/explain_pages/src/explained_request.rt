@@ -21,7 +21,8 @@ pub struct ExplainedRequest<'a> {
     pub intervals: &'a [Interval],
     /// The profiles that never set the limit in this time.
     pub not_counted: &'a [NotCounted],
-    /// What is known of the profiles at their point. A cause says that the point doesn't hold one.
+    /// The known states of the profiles at their point. A cause names one that the point doesn't
+    /// hold.
     pub known: &'a [KnownProfile<'a>],
 }
 

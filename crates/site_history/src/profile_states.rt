@@ -12,7 +12,7 @@ use std::alloc::{AllocError, Global};
 #[derive(Clone, Copy)]
 pub struct KnownState {
     profile: PrevailingProfile,
-    /// The moment of its install. A newer install begins its state anew.
+    /// The moment of its install. A newer install begins a new state.
     installed: Instant,
     pub state: ProfileState,
     /// The moment of the event by which it came into this state.
