@@ -49,7 +49,8 @@ impl Address {
         };
         // The file's last line feed isn't part of the key.
         let credentials = credentials_of(alloc, login.as_str().trim_end())?;
-        add_header(&mut self.request, "authorization", credentials)?;
+        let name = HeaderName::from_static("authorization");
+        add_header(&mut self.request, name, credentials)?;
         self.has_login = true;
         Ok(())
     }
@@ -69,13 +70,10 @@ fn credentials_of(alloc: Global, login: &str) -> Result<HeaderValue, ClientFault
 /// Adds a header to the request of a client's handshake.
 fn add_header(
     request: &mut Request<()>,
-    name: &'static str,
+    name: HeaderName,
     value: HeaderValue,
 ) -> Result<(), ClientFault> {
-    match request
-        .headers_mut()
-        .insert(HeaderName::from_static(name), value)
-    {
+    match request.headers_mut().insert(name, value) {
         Ok(_) => Ok(()),
         Err(_) => Err(ClientFault::OutOfMemory),
     }
@@ -150,7 +148,8 @@ fn request_to(alloc: Global, url: &str) -> Result<Request<()>, ClientFault> {
     if request.uri().scheme_str() != Some("ws") {
         return Err(ClientFault::Url);
     }
+    let name = HeaderName::from_static("sec-websocket-protocol");
     let value = HeaderValue::from_static("ocpp1.6");
-    add_header(&mut request, "sec-websocket-protocol", value)?;
+    add_header(&mut request, name, value)?;
     Ok(request)
 }
