@@ -33,7 +33,7 @@ pub fn run_point<R: ClientRuntime + Files<File = File> + Input>(
 }
 
 /// Returns the address at which the simulated charge point connects, with its name and key.
-fn address_of<R: Files<File = File> + AllocGlobal>(
+fn address_of<R: Files<File = File> + Eprint + AllocGlobal>(
     rt: &R,
     pointing: Pointing<'_>,
 ) -> Result<Address, ProgramFault> {
@@ -47,7 +47,7 @@ fn address_of<R: Files<File = File> + AllocGlobal>(
 }
 
 /// Makes the simulated charge point by the site file.
-fn simulated_point<R: Files<File = File> + AllocGlobal>(
+fn simulated_point<R: Files<File = File> + Eprint + AllocGlobal>(
     rt: &R,
     pointing: Pointing<'_>,
 ) -> Result<SimPoint, ProgramFault> {

@@ -49,24 +49,39 @@ pub fn answer_next<W: World, S: SessionSocket>(
 ) -> Result<Received, Ended>
     ensures { KeepsPass pass.old pass.new }
 {
-    let text = match socket.next()? {
-        Incoming::Text(text) => text,
-        Incoming::Binary => return Ok(Received::Message {
+    match socket.next()? {
+        Incoming::Text(text) => {
+            answer_text(context, socket, core, pass, text.as_str(), installs_again)
+        }
+        Incoming::Binary => Ok(Received::Message {
             event: SessionEvent::Other,
             sent: None,
         }),
-        Incoming::Control(bytes) => return Ok(Received::Control { bytes }),
-        Incoming::Nothing => return Ok(Received::Nothing),
-    };
+        Incoming::Control(bytes) => Ok(Received::Control { bytes }),
+        Incoming::Nothing => Ok(Received::Nothing),
+    }
+}
+
+/// Serves a text message of a session: makes its step, sends its answer, and then the point's next
+/// call.
+fn answer_text<W: World, S: SessionSocket>(
+    context: &Context<'_, W>,
+    socket: &mut S,
+    core: &SessionCore,
+    pass: &mut Pass<W::Changes, W::Answers>,
+    text: &str,
+    installs_again: bool,
+) -> Result<Received, Ended>
+    ensures { KeepsPass pass.old pass.new }
+{
     let Some(now) = context.clock.now() else {
         return Err(Ended::Broken);
     };
-    let frame = text.as_str();
     let Served {
         answer,
         event,
         seen,
-    } = answer_message(context, socket, core, pass, now, frame)?;
+    } = answer_message(context, socket, core, pass, now, text)?;
     if installs_again && matches!(event, SessionEvent::Boot) {
         install_again(context, core, pass);
         // These lines are kept before the answer leaves: a point that has it doesn't boot again.

@@ -2,7 +2,7 @@
 use Rattle.std.proofs.Common.{ℕ, List, sym, ap, subst, option_map, string_bytes}
 use Rattle.session.specs.Leaving.{IsAnswerOrCall}
 use Rattle.session.proofs.LeavingLemmas.{answer_leaves}
-use Rattle.session.proofs.serving.served_text.answer_next.Goals as goal
+use Rattle.session.proofs.serving.served_text.answer_text.Goals as goal
 
 pub clear_to_leave-requires : goal.clear_to_leave-requires
 clear_to_leave-requires g c =
