@@ -1,6 +1,7 @@
-//! Faults at each call in turn; the bytes that a crash leaves behind the acknowledged ones, and
+//! A log over a file in memory. Faults at each call in turn; the bytes that a crash leaves behind the acknowledged ones, and
 //! those with which a log opened afterwards goes on.
 
+use crate::same::same_text;
 use append_log::{FileAnswer, Log, LogFault, MemoryFile, whole_length};
 use std::alloc::{AllocError, Global};
 use std::process::Abort;
@@ -78,7 +79,7 @@ fn play(rt: &impl Abort, alloc: Global, texts: &[&str], row: &str) {
     let recovered = text_left(rt, alloc, &opened, 9);
     write!(&mut found, "|{left}|{recovered}").expect(rt, "error");
     let found = found.replace(alloc, "\n", "/").expect(rt, "error");
-    assert!(rt; found.as_str() == wanted, "{row}: {found}");
+    same_text(rt, found.as_str(), wanted, row);
 }
 
 /// Opens a test's append-only log in a file in memory with this text. The file's later calls have

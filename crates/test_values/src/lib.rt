@@ -1,9 +1,14 @@
-//! Tests of `ocpp_scalars` and `ocppj_frame`, for the cases that no replayed script shows. They
-//! have a crate of their own, since a crate with tests is proved twice.
+//! Tests of libraries that need few others, by their public names alone: `append_log`, `site_keys`
+//! and `ocppj_frame`, and callers of these. They are one crate, which is proved twice, as each crate
+//! with tests.
 #![tactic(auto)]
 
 #[cfg(test)]
+mod admissions;
+#[cfg(test)]
 mod callers;
+#[cfg(test)]
+mod faults_and_crashes;
 #[cfg(test)]
 mod frame_texts;
 #[cfg(test)]
