@@ -8,5 +8,5 @@ mod said;
 mod steps;
 
 pub use desk::Desk;
-pub use said::{Said, said_of, said_of_answer};
+pub use said::{Said, said_of};
 pub use steps::{judging, step_of};

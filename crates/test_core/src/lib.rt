@@ -1,7 +1,7 @@
 //! Tests of `site_core` and `version_store` from outside, by their public names only, of what no
-//! table of `play_steps` shows: failed allocations, the largest site, numbers at their end, and
-//! random histories of a point that forgets. They are in a crate of their own, since a crate that
-//! has tests is proved twice.
+//! table of `play_steps` shows: failed allocations, numbers at their end, calls that no session
+//! makes, and random histories of a point that forgets. They are in a crate of their own, since a
+//! crate that has tests is proved twice.
 #![tactic(auto)]
 
 #[cfg(test)]
@@ -10,8 +10,6 @@ mod book_calls;
 mod callers;
 #[cfg(test)]
 mod forgetting_point;
-#[cfg(test)]
-mod largest_site;
 #[cfg(test)]
 mod last_numbers;
 #[cfg(test)]

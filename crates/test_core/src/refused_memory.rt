@@ -115,7 +115,7 @@ fn play<C: Ledger, A: Ledger>(rt: &impl Abort, desk: &mut Desk<C, A>, links: u32
     holds(rt, desk.book.totals() == desk.pass.totals(), "totals");
 }
 
-/// Plays lines on a new book, after so many links of CP2, in a test of refused memory.
+/// Plays lines on a new book, after a number of links of CP2, in a test of refused memory.
 fn play_at<C: Ledger, A: Ledger>(
     rt: &impl Abort,
     alloc: Global,

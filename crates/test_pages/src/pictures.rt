@@ -1,7 +1,8 @@
-//! Pictures and pages of the largest sizes.
+//! Pictures and pages of the largest sizes, and of a point whose name has characters that a page
+//! escapes.
 
 use crate::samples::{expect, explain, interval, point_with, profile};
-use explain_pages::{write_page, write_picture};
+use explain_pages::{ExplainedRequest, write_page, write_picture};
 use meaning::Cause;
 use profile::Purpose;
 use std::alloc::Global;
@@ -37,7 +38,7 @@ fn a_hundred_profiles(rt: HostRuntime) {
 }
 
 /// Checks that `explain`'s HTML page of too many intervals says where its picture ends, and how
-/// many intervals its table leaves out.
+/// many intervals its table leaves out, and that it escapes the point's name.
 #[test]
 fn too_many_intervals(rt: HostRuntime) {
     let alloc = rt.alloc();
@@ -49,8 +50,13 @@ fn too_many_intervals(rt: HostRuntime) {
         intervals.push(next).ok().expect(&rt, "error");
     }
     let point = point_with(&rt, alloc, "", "none");
-    let explained = explain(&rt, point.view(), (1, 20_001), intervals.as_slice(), &[]);
+    let explained = ExplainedRequest {
+        point: "\"\\<é&>",
+        ..explain(&rt, point.view(), (1, 20_001), intervals.as_slice(), &[])
+    };
     let page = write_page(alloc, &explained).expect(&rt, "error");
-    let wanted = "the limit, drawn up to 2025-01-01 05:33:20 alone\n<p> Further intervals: 1.</p>";
+    let wanted = "<h1>&quot;\\&lt;é&amp;&gt;, connector 1</h1>
+the limit, drawn up to 2025-01-01 05:33:20 alone
+<p> Further intervals: 1.</p>";
     expect(&rt, page.as_str(), wanted);
 }

@@ -1,13 +1,9 @@
-//! The reasons why profiles have no part, against reasons found by hand, and the sentences for
-//! them.
+//! The reasons why profiles have no part, against reasons found by hand. The cases of `explain` have
+//! the sentences for them.
 
-use crate::samples::{expect, explain, interval, point_with, profile, same};
-use explain_pages::{
-    ExplainedRequest, NotCounted, NotCountedReason, is_named, not_counted, sentence, write_json,
-    write_page, write_table,
-};
-use meaning::{Cause, WhyNot};
-use profile::Purpose;
+use crate::samples::{explain, interval, point_with, same};
+use explain_pages::{ExplainedRequest, not_counted, write_json};
+use meaning::Cause;
 use std::alloc::Global;
 use std::process::Abort;
 
@@ -95,69 +91,4 @@ fn names_of(rt: &impl Abort, alloc: Global, json: &str) -> String {
         names.push_str(name).expect(rt, "error");
     }
     names
-}
-
-const REASONS: [NotCountedReason; 13] = [
-    NotCountedReason::NotPrevailing(WhyNot::OtherConnector),
-    NotCountedReason::NotPrevailing(WhyNot::NoTransaction),
-    NotCountedReason::NotPrevailing(WhyNot::Hidden),
-    NotCountedReason::NotPrevailing(WhyNot::NotYetValid),
-    NotCountedReason::NotPrevailing(WhyNot::NoLongerValid),
-    NotCountedReason::NotPrevailing(WhyNot::BeforeAnchor),
-    NotCountedReason::NotPrevailing(WhyNot::PastDuration),
-    NotCountedReason::NotPrevailing(WhyNot::BeforeFirstPeriod),
-    NotCountedReason::NotPrevailing(WhyNot::BelowHigherLevel),
-    NotCountedReason::NotPrevailing(WhyNot::BehindTxProfile),
-    NotCountedReason::NoLimit,
-    NotCountedReason::BehindOthers,
-    NotCountedReason::NoActiveConnector,
-];
-
-/// Checks that each reason why a profile never sets the limit has a sentence of its own, which is
-/// in `explain`'s table, JSON and page.
-#[test]
-fn each_reason_has_its_sentence(rt: HostRuntime) {
-    let mut seen = String::from_str(rt.alloc(), sentence(NotCountedReason::NotLeast)).expect(
-        &rt, "error",
-    );
-    for reason in REASONS {
-        let text = sentence(reason);
-        assert!(rt; text.ends_with("."), "{text}");
-        assert!(rt; !seen.as_str().contains(text), "{text}");
-        seen.push_str(text).expect(&rt, "error");
-        expect_everywhere(&rt, rt.alloc(), reason);
-    }
-}
-
-/// Checks that a reason's sentence is in `explain`'s table, JSON and page, for a point whose name
-/// has characters that JSON and pages escape.
-fn expect_everywhere(rt: &impl Abort, alloc: Global, reason: NotCountedReason) {
-    let never = profile(3, Purpose::TxProfile, 2);
-    let named = profile(2, Purpose::TxProfile, 2);
-    let intervals = [interval(alloc, (0, 60), 630, Cause::Profile(named))];
-    assert!(rt; !is_named(&intervals, never));
-    assert!(rt; is_named(&intervals, named));
-    let point = point_with(rt, alloc, "", "none");
-    let not_counted = [NotCounted {
-        profile: never,
-        reason,
-    }];
-    let explained = ExplainedRequest {
-        point: "\"\\<é&>",
-        ..explain(rt, point.view(), (1, 60), &intervals, &not_counted)
-    };
-    let text = sentence(reason);
-    let table = write_table(alloc, &explained, None, None, &[]).expect(rt, text);
-    expect(rt, table.as_str(), text);
-    let json = write_json(alloc, &explained, &[]).expect(rt, text);
-    expect(rt, json.as_str(), text);
-    expect(rt, json.as_str(), r#"{"point":"\"\\<é&>","connector":1,"#);
-    let page = write_page(alloc, &explained).expect(rt, text);
-    let words = text.replace(alloc, "'", "&#39;").expect(rt, text);
-    expect(rt, page.as_str(), words.as_str());
-    expect(
-        rt,
-        page.as_str(),
-        "<h1>&quot;\\&lt;é&amp;&gt;, connector 1</h1>",
-    );
 }

@@ -10,19 +10,17 @@ use site_status::{
 };
 use std::alloc::Global;
 use std::process::Abort;
+use test_books::instant_at;
 
 const SITE: &str =
     r#"{"unit":"A","points":[{"id":"CP1","ceiling":63.0,"connectors":[32.0]},{"id":"CP2","ceiling":16.0,"connectors":[16.0]}]}"#;
-
-/// 2025-01-01T00:00:00Z, in seconds since 1970.
-const MIDNIGHT: u64 = 1_735_689_600;
 
 /// A point's reply with characters that are special in JSON, in HTML and in a label.
 const REASON: &str = "no <room> & \"none\" \\ 'either'\n";
 
 /// Returns the instant a number of seconds after midnight, for tests of the status port.
 pub(crate) fn at(rt: &impl Abort, seconds: u64) -> Instant {
-    Instant::try_new(MIDNIGHT + (seconds & 0xffff)).expect(rt, "an instant")
+    instant_at(seconds).expect(rt, "an instant")
 }
 
 /// Returns a small site without profiles and transactions, for tests of the status port. Its first

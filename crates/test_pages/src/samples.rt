@@ -109,16 +109,16 @@ pub(crate) fn interval(
     }
 }
 
-/// Checks in tests of `explain` that its table, picture, page or JSON contains each line of a
-/// wanted text.
+/// Checks in tests of `explain` and of the status port that a picture or a page contains each line
+/// of a wanted text.
 pub(crate) fn expect(rt: &impl Abort, text: &str, wanted: &str) {
     for line in wanted.lines() {
         assert!(rt; text.contains(line), "{line}");
     }
 }
 
-/// Checks in tests of `explain` that its table, or the names of the reasons in its JSON, equals the
-/// wanted text.
+/// Checks in tests of `explain` and of the status port that a text, or the names of the reasons in
+/// JSON, equals the wanted text.
 pub(crate) fn same(rt: &impl Abort, found: &str, wanted: &str) {
     assert!(rt; found == wanted, "{found}, wanted {wanted}");
 }

@@ -1,7 +1,7 @@
-//! The texts of a small site, compared with texts written by hand.
+//! The texts of the status port of a small site, compared with texts written by hand.
 
 use crate::reports::{machine, news, report, waits};
-use crate::same::{holds, same_text};
+use crate::samples::{expect, same};
 use site_status::{Health, SiteReport, health_answer, metrics_text, site_page, state_json};
 use std::alloc::Global;
 use std::process::Abort;
@@ -53,60 +53,48 @@ const PARTS: &str = r#"<html lang="en">
  was refused: PropertyConstraintViolation UnknownConnector</p>
 <h2>CP2</h2>"#;
 
-/// Checks in a test that the status port's JSON of a small site is the text written by hand.
-fn state(rt: &impl Abort, alloc: Global, report: &SiteReport<'_>) {
-    let text = state_json(alloc, report).expect(rt, "error");
-    same_text(rt, text.as_str(), STATE, "the state");
-}
-
-/// Checks in a test that the status port's metrics of a small site have the lines written by hand.
-fn figures(rt: &impl Abort, alloc: Global, report: &SiteReport<'_>) {
-    let text = metrics_text(alloc, report).expect(rt, "error");
-    for sample in SAMPLES.lines() {
-        has_line(rt, text.as_str(), sample);
+/// Checks in a test that the status port's metrics have each of these lines.
+fn has_lines(rt: &impl Abort, text: &str, lines: &str) {
+    for wanted in lines.lines() {
+        assert!(rt; text.lines().any(|line| line == wanted), "{wanted}");
     }
-    let none = !text.as_str().contains("central_call_in_flight_seconds{");
-    holds(rt, none, "none is in flight");
 }
 
-/// Checks in a test of the status port's metrics that their text has this line.
-fn has_line(rt: &impl Abort, text: &str, wanted: &str) {
-    holds(rt, text.lines().any(|line| line == wanted), wanted);
-}
-
-/// Checks in a test that the status page of a small site, which people read, has the parts written
-/// by hand.
-fn page(rt: &impl Abort, alloc: Global, report: &SiteReport<'_>) {
+/// Checks in a test the status port's texts of a small site: its JSON is the text written by hand,
+/// and its metrics and its page, which people read, have the lines and parts written by hand.
+fn check_texts(rt: &impl Abort, alloc: Global, report: &SiteReport<'_>) {
+    let state = state_json(alloc, report).expect(rt, "error");
+    same(rt, state.as_str(), STATE);
+    let figures = metrics_text(alloc, report).expect(rt, "error");
+    has_lines(rt, figures.as_str(), SAMPLES);
+    let none = !figures.as_str().contains("central_call_in_flight_seconds{");
+    assert!(rt; none, "none is in flight");
     let page = site_page(alloc, report, 1).expect(rt, "error");
-    let page = page.expect(rt, "a page");
-    for part in PARTS.lines() {
-        holds(rt, page.as_str().contains(part), part);
-    }
+    expect(rt, page.expect(rt, "a page").as_str(), PARTS);
 }
 
 /// Checks the status port's JSON, metrics and page of a small site against texts written by hand.
 #[test]
-fn what_is_told_of_a_site(rt: HostRuntime) {
+fn texts_of_a_site(rt: HostRuntime) {
     let alloc = rt.alloc();
     let (machine, points) = (machine(&rt, alloc), news(&rt, alloc));
     let waits = waits(&rt);
-    let report = report(&rt, &machine, points.as_slice(), &waits);
-    state(&rt, alloc, &report);
-    figures(&rt, alloc, &report);
-    page(&rt, alloc, &report);
-}
-
-/// Checks in a test the body of the status port's answer to a client that asks for the health of a
-/// site.
-fn check_health_answer(rt: &impl Abort, alloc: Global, health: Health, body: &str) {
-    let answer = health_answer(alloc, health).expect(rt, "error");
-    same_text(rt, answer.body.as_str(), body, "its body");
+    check_texts(
+        &rt,
+        alloc,
+        &report(&rt, &machine, points.as_slice(), &waits),
+    );
 }
 
 /// Checks the words for a site's health that programs read from the status port. A client sees only
 /// two of them.
 #[test]
 fn words_of_health(rt: HostRuntime) {
-    check_health_answer(&rt, rt.alloc(), Health::Restoring, "restoring\n");
-    check_health_answer(&rt, rt.alloc(), Health::JournalBroken, "journal broken\n");
+    for (health, body) in [
+        (Health::Restoring, "restoring\n"),
+        (Health::JournalBroken, "journal broken\n"),
+    ] {
+        let answer = health_answer(rt.alloc(), health).expect(&rt, "error");
+        same(&rt, answer.body.as_str(), body);
+    }
 }
