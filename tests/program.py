@@ -568,7 +568,7 @@ def memory_problems(program, folder):
 AGAIN = (
     # Copies of a profile share its periods, and so take no memory for them. A book's call lends its step to the machine, and so
     # copies no more of it than the machine keeps.
-    ("test_core", "refused_memory::each_step_is_made_again", 1, 20, 400),
+    ("test_core", "refused_memory::each_step_is_made_again", 1, 12, 400),
     ("test_books", "callers::audits::an_audit_is_judged_again_where_memory_was_refused", 1, 2, 150),
     ("test_session", "sessions::a_points_session_is_refused_memory", 1, 15, 200),
     # A chunk of the arena that is refused is asked for at half its size, and so on: all of that is refused.
