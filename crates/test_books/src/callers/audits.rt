@@ -2,17 +2,27 @@
 //! `schedules-of-audits` and `replies-to-audits` have the verdicts.
 
 use crate::same::holds;
-use crate::scripted_books::play;
-use crate::{Words, instant_at};
+use crate::{Words, instant_at, row_of};
 use meaning::{CompositePeriod, Said, SaidPeriods};
+use point_book::PointBook;
 use profile::Unit;
 use std::alloc::Global;
 use std::process::Abort;
 use std::sync::Arc;
 use sweep_compiler::{AuditJob, Judged, Verdict};
 
-/// 16 A for half a minute from the start of the request, and then 8 A.
-const ROWS: &str = "point 630 1 320\nrow kind=Relative periods=0:160,30:80";
+/// Makes a point's book for a test of audits. Its Relative profile has 16 A for half a minute from
+/// the start of an audit's request, and then 8 A.
+fn relative(rt: &impl Abort, alloc: Global) -> Arc<PointBook> {
+    let ceilings = Vec::from_slice(alloc, &[320]).expect(rt, "error");
+    let mut book = PointBook::try_new(alloc, 630, ceilings).expect(rt, "error");
+    let row = row_of(alloc, "kind=Relative periods=0:160,30:80").expect(rt, "error");
+    assert!(rt; row.connector <= book.connectors());
+    match book.install(row) {
+        Ok(()) => Arc::new(alloc, book).expect(rt, "error"),
+        Err((refusal, _)) => panic!(rt; "error: {refusal}"),
+    }
+}
 
 /// Returns the schedule that a test's charge point reports in an audit, from words such as `0 160`:
 /// the start and the limit of each period.
@@ -38,7 +48,7 @@ fn schedule(rt: &impl Abort, alloc: Global, words: &str) -> Said {
 #[test]
 fn an_audit_is_judged_again_where_memory_was_refused(rt: HostRuntime) {
     let alloc = rt.alloc();
-    let book = Arc::new(alloc, play(&rt, alloc, ROWS)).expect(&rt, "error");
+    let book = relative(&rt, alloc);
     assert!(rt; book.connectors() >= 1);
     let job = AuditJob::new(book, 1, 60, Unit::A);
     let again = job.share().expect(&rt, "error");
