@@ -13,15 +13,19 @@ const CLOSE: u8 = 0x88;
 /// Appends a client's frame to the bytes that it sends in a test of sessions.
 fn push_frame(rt: &impl Abort, bytes: &mut Vec<u8>, first: u8, payload: &str) {
     let length = payload.len();
-    let (high, low) = ((length / 256) as u8, (length % 256) as u8);
-    let pieces: [&[u8]; 3] = if length < 126 {
-        [&[first, 0x80 | low], &[0; 4], payload.as_bytes()]
+    let (high, low) = ((length / 256 % 256) as u8, (length % 256) as u8);
+    let short = [first, 0x80 | low];
+    let long = [first, 0xfe, high, low];
+    let head = if length < 126 {
+        short.as_slice()
     } else {
-        [&[first, 0xfe, high, low], &[0; 4], payload.as_bytes()]
+        long.as_slice()
     };
-    for piece in pieces {
-        bytes.extend_from_slice(piece).expect(rt, "error");
-    }
+    bytes.extend_from_slice(head).expect(rt, "error");
+    bytes.extend_from_slice(&[0; 4]).expect(rt, "error");
+    bytes
+        .extend_from_slice(payload.as_bytes())
+        .expect(rt, "error");
 }
 
 /// Returns the bytes of a client in a test of sessions, which sends the messages of these names.

@@ -91,7 +91,7 @@ const POINT: &str = r#"[2,"0","Heartbeat",{}]
 fn sent_by_central(rt: &impl Abort, alloc: Global, texts: &str, closes: bool) -> Vec<u8> {
     let mut bytes = [0x82, 3, 1, 2, 3].to_vec(alloc).expect(rt, "error");
     for text in texts.lines() {
-        let head = [0x81, text.len() as u8];
+        let head = [0x81, (text.len() % 256) as u8];
         bytes.extend_from_slice(&head).expect(rt, "error");
         bytes.extend_from_slice(text.as_bytes()).expect(rt, "error");
     }
