@@ -556,11 +556,7 @@ def memory_problems(program, folder):
     yield from again_tests(program, library)
     for test, step in (
         ("stopping_wakes_all_who_wait", 1),
-        ("two_sessions_count_what_all_was", 7),
         ("a_later_request_overtakes_one_that_is_held_up", 1),
-        ("one_worker_answers_in_turn", 1),
-        ("workers_end_with_the_jobs", 1),
-        ("whoever_waits_at_the_end_is_answered", 1),
         ("a_request_that_is_given_up_is_not_begun", 1),
         ("eight_workers_answer_64_requests", 61),
     ):
@@ -570,32 +566,17 @@ def memory_problems(program, folder):
 # Tests of what is tried again: the crate, the test, how many allocations in a row are refused, in
 # how many runs at least, and up to which allocation of its first.
 AGAIN = (
-    # Copies of a profile share its periods, and so take no memory for them.
-    ("test_core", "refused_memory::a_run_goes_on", 1, 2, 150),
-    # A book's call lends its step to the machine, and so copies no more of it than the machine keeps. Each step is made on a
-    # machine, and then on a book.
-    ("test_core", "refused_memory::a_transaction", 1, 23, 300),
-    ("test_core", "refused_memory::a_held_request", 1, 22, 300),
-    ("test_core", "refused_memory::an_audit", 1, 8, 300),
-    ("test_core", "refused_memory::a_remote_start", 1, 5, 300),
-    ("test_books", "judged_audits::an_audit_is_judged_again_where_memory_was_refused", 1, 2, 150),
-    ("test_session", "sessions::an_operators_session_is_refused_memory", 1, 25, 200),
+    # Copies of a profile share its periods, and so take no memory for them. A book's call lends its step to the machine, and so
+    # copies no more of it than the machine keeps.
+    ("test_core", "refused_memory::each_step_is_made_again", 1, 12, 400),
+    ("test_books", "callers::audits::an_audit_is_judged_again_where_memory_was_refused", 1, 2, 150),
     ("test_session", "sessions::a_points_session_is_refused_memory", 1, 15, 200),
-    # From each allocation on all are refused: past its beginning the test makes none, until its last step.
-    ("test_core", "refused_memory::a_step_without_an_event_wants_none", 1_000_000, 1, 150),
-    # The same: one allocation just before a compiling, and those of the compiling.
-    ("test_core", "refused_memory::a_compiling_without_memory", 1_000_000, 2, 150),
     # A chunk of the arena that is refused is asked for at half its size, and so on: all of that is refused.
-    ("test_texts", "frame_texts::a_text_is_read_again_where_memory_was_refused", 20, 30, 150),
+    ("test_values", "frame_texts::a_text_is_read_again_where_memory_was_refused", 20, 30, 150),
 )
 
-# The last calls of these are made again, after a history that takes many allocations.
-FOLDED_AGAIN = (
-    ("refused_memory::an_install_folds", 10),
-    ("refused_memory::a_start_folds", 10),
-    ("refused_memory::an_audit_folds", 3),
-    ("refused_memory::a_verdict_folds", 3),
-)
+# The last calls of this one are made again, after a history that takes many allocations.
+FOLDED_AGAIN = ("refused_memory::an_install_folds", 10)
 
 
 def again_tests(program, library):
@@ -603,10 +584,10 @@ def again_tests(program, library):
     for crate, test, in_a_row, least, last in AGAIN:
         words = [built_tests(program, crate), test]
         yield again_problems(library, words, in_a_row, least, range(1, last + 1))
-    for test, least in FOLDED_AGAIN:
-        words = [built_tests(program, "test_core"), test]
-        last = allocations(library, words)
-        yield again_problems(library, words, 1, least, range(last - 40, last + 6))
+    test, least = FOLDED_AGAIN
+    words = [built_tests(program, "test_core"), test]
+    last = allocations(library, words)
+    yield again_problems(library, words, 1, least, range(last - 40, last + 6))
 
 
 NIGHT = os.path.join("examples", "night-profile")

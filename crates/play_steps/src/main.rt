@@ -1,4 +1,4 @@
-//! Plays tables of steps in words on a machine and on a book, and prints the outcome of each line.
+//! Plays tables of steps in words on a book, and prints the outcome of each line.
 //! A table begins with its title, `# ..`, and its site file. The words of a step are those of
 //! `step_words`; `src/player.rt` has those of the other lines.
 #![tactic(auto)]
@@ -15,11 +15,11 @@ use std::alloc::AllocGlobal;
 use std::io;
 use std::marker::Brand;
 use std::sync::ledger::{Blank, Ledger};
-use step_words::Sides;
+use step_words::Desk;
 use sweep_compiler::AuditJob;
 
-/// Plays the tests' tables of steps on the standard input, each on a new machine and book of the
-/// central system. Prints each line with its outcome.
+/// Plays the tests' tables of steps on the standard input, each on a new book of the central system.
+/// Prints each line with its outcome.
 fn main(rt: HostRuntime) -> io::Result<()> {
     let text = io::read_to_string(rt.alloc(), rt.reader())?;
     let mut job = None;
@@ -55,8 +55,8 @@ struct Table<'a> {
     job: Option<AuditJob>,
 }
 
-/// Plays a table of a test's steps on a new machine and a new book, and prints each line with its
-/// outcome. Returns the kept request of an audit.
+/// Plays a table of a test's steps on a new book, and prints each line with its outcome. Returns the
+/// kept request of an audit.
 fn play_at<C: Ledger, A: Ledger, R: Print + AllocGlobal>(
     rt: &R,
     changes: Blank,
@@ -66,9 +66,9 @@ fn play_at<C: Ledger, A: Ledger, R: Print + AllocGlobal>(
     requires changes { (changes.name ≡ C.name) × (changes.parts ≡ C.parts) × (changes.parts ≡ 1) }
     requires answers { (answers.name ≡ A.name) × (answers.parts ≡ A.parts) × (answers.parts ≡ 1) }
 {
-    let sides: Sides<C, A> = Sides::new(rt.alloc(), changes, answers, table.site)?;
+    let desk: Desk<C, A> = Desk::new(rt.alloc(), changes, answers, table.site)?;
     let mut player = Player {
-        sides,
+        desk,
         job: table.job,
     };
     for line in table.lines.lines() {

@@ -16,18 +16,16 @@ use meaning::Composite;
 use profile::Row;
 use site_core::Machine;
 use std::sync::ledger::Ledger;
-use step_words::{Said, Sides, judging, step_of};
+use step_words::{Desk, Said, judging, step_of};
 use sweep_compiler::AuditJob;
 use test_books::{MIDNIGHT, Words};
 
 const UNREAD: Said = ("unread words", None);
 
-const DIFFERENT: Said = ("the sides differ", None);
-
-/// The sides of a table, and the request of the audit that was read last.
+/// The book of a table with its session, and the request of the audit that was read last.
 #[derive(Drop)]
 pub(crate) struct Player<C: Ledger, A: Ledger> {
-    pub(crate) sides: Sides<C, A>,
+    pub(crate) desk: Desk<C, A>,
     pub(crate) job: Option<AuditJob>,
 }
 
@@ -35,14 +33,14 @@ impl<C: Ledger, A: Ledger> Player<C, A> {
     /// Returns the composite schedule that the book answered last, to print its periods with a line
     /// of the tests' tables of steps.
     pub(crate) fn answered(&self) -> Option<&Composite> {
-        match &self.sides.answered {
+        match &self.desk.answered {
             Some(answer) => answer.answer().as_ref().ok(),
             None => None,
         }
     }
 
-    /// Plays a line of the tests' tables of steps on the machine and the book. Returns its outcome,
-    /// which is empty for an empty line.
+    /// Plays a line of the tests' tables of steps on the book. Returns its outcome, which is empty
+    /// for an empty line.
     pub(crate) fn said(&mut self, line: &str) -> Said {
         let mut words = Words::of(line);
         let point = words.word();
@@ -59,17 +57,16 @@ impl<C: Ledger, A: Ledger> Player<C, A> {
         }
     }
 
-    /// Makes the step of a line of the tests' tables on the machine and the book, and returns its
-    /// outcome.
+    /// Makes the step of a line of the tests' tables on the book, and returns its outcome.
     fn made(&mut self, line: &str) -> Said {
-        match step_of(self.sides.alloc, line) {
-            Ok(step) => self.sides.make(step),
+        match step_of(self.desk.alloc, line) {
+            Ok(step) => self.desk.said(step),
             Err(_) => UNREAD,
         }
     }
 
-    /// Makes the step of a line of the tests' tables a number of times on the machine and the book,
-    /// and returns the last outcome.
+    /// Makes the step of a line of the tests' tables a number of times on the book, and returns the
+    /// last outcome.
     fn repeated(&mut self, times: &str, line: &str) -> Said {
         let mut said = UNREAD;
         for _ in 0..times.parse::<u32>().unwrap_or(0) {
@@ -82,32 +79,21 @@ impl<C: Ledger, A: Ledger> Player<C, A> {
     /// tests' tables says. Returns the outcome.
     fn brought(&mut self, mut words: Words<'_>) -> Said {
         let own = words.long().unwrap_or(0);
-        self.sides.bring_both(own, words.long().unwrap_or(0))
+        self.desk.bring(own, words.long().unwrap_or(0))
     }
 
-    /// Reads the request of a point's audit from the machine and the book, for a line `CP1 job 1`
-    /// of the tests' tables. Keeps that request.
+    /// Reads the request of a point's audit from the book, for a line `CP1 job 1` of the tests'
+    /// tables. Keeps that request, and returns its seconds as the outcome.
     fn read_job(&mut self, point: &str, mut words: Words<'_>) -> Said {
         let call = words.long().unwrap_or(0);
-        let of_machine = self.sides.machine.audit_job(point, call);
-        match (of_machine, self.sides.book.audit_job(point, call)) {
-            (Ok(job), Ok(other)) => self.keep_job(job, other),
-            _ => DIFFERENT,
+        match self.desk.book.audit_job(point, call) {
+            Ok(Some(job)) => {
+                let seconds = u64::from(job.duration());
+                self.job = Some(job);
+                ("job", Some(seconds))
+            }
+            _ => ("none", None),
         }
-    }
-
-    /// Keeps the request of a point's audit if the machine and the book have the same, for a line
-    /// of the tests' tables. Returns the request's seconds as the outcome.
-    fn keep_job(&mut self, job: Option<AuditJob>, other: Option<AuditJob>) -> Said {
-        if !is_one_job(&job, &other) {
-            return DIFFERENT;
-        }
-        let Some(job) = job else {
-            return ("none", None);
-        };
-        let seconds = u64::from(job.duration());
-        self.job = Some(job);
-        ("job", Some(seconds))
     }
 
     /// Makes the verdict on a point's reply to the audit whose request is kept, for a line
@@ -116,8 +102,8 @@ impl<C: Ledger, A: Ledger> Player<C, A> {
         let Some(job) = &self.job else {
             return ("no job", None);
         };
-        match judging(self.sides.alloc, job, line) {
-            Ok(step) => self.sides.make(step),
+        match judging(self.desk.alloc, job, line) {
+            Ok(step) => self.desk.said(step),
             Err(_) => UNREAD,
         }
     }
@@ -125,7 +111,7 @@ impl<C: Ledger, A: Ledger> Player<C, A> {
     /// Returns the number that a line of the tests' tables asks for, such as `- version` or
     /// `CP1 rows`. Returns `None` for a step.
     fn told(&self, point: &str, name: &str, words: Words<'_>) -> Option<Said> {
-        let book = &self.sides.book;
+        let book = &self.desk.book;
         match name {
             "version" => number(book.version()),
             "requests" => number(book.open_requests() as u64),
@@ -139,7 +125,7 @@ impl<C: Ledger, A: Ledger> Player<C, A> {
     /// Returns the answer to a line of the tests' tables about a charge point, such as `CP1 link`,
     /// or `None` for any other line.
     fn told_of_point(&self, point: &str, name: &str, mut words: Words<'_>) -> Option<Said> {
-        let machine = &self.sides.machine;
+        let machine = self.desk.book.present();
         match name {
             "link" => Some(link_said(machine.link_to_send(point))),
             "starts" => number(machine.waiting_of(point).len() as u64),
@@ -150,16 +136,6 @@ impl<C: Ledger, A: Ledger> Player<C, A> {
             }
             name => told_of_row(rows_of(machine, point).get(words.number()? as usize)?, name),
         }
-    }
-}
-
-/// Checks for a line of the tests' tables whether the machine and the book have the same request of
-/// an audit, or both none.
-fn is_one_job(job: &Option<AuditJob>, other: &Option<AuditJob>) -> bool {
-    match (job, other) {
-        (Some(job), Some(other)) => job.same(other),
-        (None, None) => true,
-        _ => false,
     }
 }
 
@@ -178,8 +154,8 @@ fn link_said(link: Option<u64>) -> Said {
     }
 }
 
-/// Returns the charging profiles installed at a point in the machine, each with its connector, for
-/// lines of the tests' tables that ask about them.
+/// Returns the charging profiles installed at a point, each with its connector, for lines of the
+/// tests' tables that ask about them.
 fn rows_of<'a>(machine: &'a Machine, point: &str) -> &'a [Row] {
     match machine.book_of(point) {
         Some(book) => book.view().rows,

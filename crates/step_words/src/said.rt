@@ -38,8 +38,8 @@ pub fn said_of(reply: &Reply) -> Said {
     }
 }
 
-/// Returns the outcome of an answer.
-pub fn said_of_answer(answer: &Result<Composite, Refusal>) -> Said {
+/// Returns the outcome of an answer to a request for a schedule, in the tests' tables.
+pub(crate) fn said_of_answer(answer: &Result<Composite, Refusal>) -> Said {
     match answer {
         Ok(schedule) => {
             let first = schedule.periods().first();

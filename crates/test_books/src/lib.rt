@@ -1,4 +1,4 @@
-//! Tests of the crates of a point's book, from `transactions` to `sweep_compiler`, by their public
+//! Tests of the crates of a point's book, from `profile` to `sweep_compiler`, by their public
 //! names only, of what neither a clause nor a case of the program shows. They are in a crate of
 //! their own, since a crate that has tests is proved twice. It also exports to other test crates
 //! the values that are made from words.
@@ -13,8 +13,6 @@ pub use row_words::{
 mod books_at_random;
 #[cfg(test)]
 mod callers;
-#[cfg(test)]
-mod judged_audits;
 #[cfg(test)]
 mod largest_books;
 #[cfg(test)]

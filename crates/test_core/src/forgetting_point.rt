@@ -1,6 +1,7 @@
 //! Random histories of a charge point that may forget all at a boot, reject calls, get calls again
-//! and lose replies. It accepts only what it obeyed, so at each moment it has the lasting profiles
-//! that are held, if it has said that it booted.
+//! and lose replies. It accepts only what it obeyed, so at each moment it has the profiles that are
+//! held, if it has said that it booted. If it never booted or rejected a call, and none waits for
+//! it, it has exactly the profiles of the central system.
 
 use crate::obeying_point::{Keys, RandomNumbers, obey};
 use crate::played::{opening, step};
@@ -23,6 +24,9 @@ struct ForgettingPoint {
     answered: Option<(u64, bool)>,
     /// Whether it has booted and not said so.
     is_untold: bool,
+    /// Whether it neither booted nor rejected a call in this history.
+    is_obeying: bool,
+    in_step: u32,
     held: u32,
     unsure: u32,
     rejected: u32,
@@ -36,6 +40,8 @@ impl ForgettingPoint {
             rows: Vec::new(alloc),
             answered: None,
             is_untold: false,
+            is_obeying: true,
+            in_step: 0,
             held: 0,
             unsure: 0,
             rejected: 0,
@@ -47,6 +53,7 @@ impl ForgettingPoint {
         self.rows.clear();
         self.answered = None;
         self.is_untold = false;
+        self.is_obeying = true;
     }
 
     /// Sometimes the charge point of a random history boots, and forgets all its profiles.
@@ -55,6 +62,7 @@ impl ForgettingPoint {
             self.rows.clear();
             self.answered = None;
             self.is_untold = true;
+            self.is_obeying = false;
         }
     }
 
@@ -63,10 +71,7 @@ impl ForgettingPoint {
         let link = machine.link_of("CP1").unwrap_or(0);
         match self.random.below(16) {
             0..=2 => self.install(alloc),
-            3 => {
-                let id = self.random.below(4);
-                format!(in alloc; "CP1 clear id={id}")
-            }
+            3 => self.clear(alloc),
             4..=8 => format!(in alloc; "CP1 send {link}"),
             9..=12 => self.reply(alloc, link),
             13 => format!(in alloc; "CP1 lost {link}"),
@@ -75,13 +80,31 @@ impl ForgettingPoint {
         }
     }
 
-    /// Returns the words of the step that installs a random lasting profile at the charge point.
+    /// Returns the words of the step that installs a random profile at the charge point, of a
+    /// purpose that outlasts transactions.
     fn install(&mut self, alloc: Global) -> Written {
         let (id, level) = (self.random.below(4), self.random.below(2));
         let (connector, limit) = (self.random.below(3), self.random.below(100));
+        let purpose = match self.random.below(3) {
+            0 => "ChargePointMaxProfile",
+            _ => "TxDefaultProfile",
+        };
         format!(in alloc;
-            "CP1 install id={id} connector={connector} level={level} periods=0:{limit}"
+            "CP1 install id={id} connector={connector} purpose={purpose} level={level} periods=0:{limit}"
         )
+    }
+
+    /// Returns the words of the step that clears by one random criterion at the charge point, or all
+    /// its profiles.
+    fn clear(&mut self, alloc: Global) -> Written {
+        let number = self.random.below(3);
+        match self.random.below(8) {
+            0 => format!(in alloc; "CP1 clear"),
+            1 => format!(in alloc; "CP1 clear connector={number}"),
+            2 => format!(in alloc; "CP1 clear level={number}"),
+            3 => format!(in alloc; "CP1 clear purpose=ChargePointMaxProfile"),
+            _ => format!(in alloc; "CP1 clear id={number}"),
+        }
     }
 
     /// Returns the words of the step that records the charge point's reply to its last call. Before
@@ -110,7 +133,10 @@ impl ForgettingPoint {
     fn answer(&mut self, rt: &impl Abort, call: &Call) {
         match self.random.below(6) {
             0 => {}
-            1 => self.answered = Some((call.number, false)),
+            1 => {
+                self.answered = Some((call.number, false));
+                self.is_obeying = false;
+            }
             _ => {
                 obey(&mut self.rows, &call.body).expect(rt, "error");
                 self.answered = Some((call.number, true));
@@ -118,15 +144,15 @@ impl ForgettingPoint {
         }
     }
 
-    /// Checks a row of the central system for the charge point of a random history: a lasting one
-    /// that is held is one that it has.
+    /// Checks a row of the central system for the charge point of a random history: one that is held
+    /// is one that it has.
     fn check(&mut self, rt: &impl Abort, row: &Row, state: ProfileState) {
         let keys = Keys::of(row.connector, &row.profile);
         match state {
             ProfileState::Held => {
                 self.held = self.held.saturating_add(1);
                 let has = self.rows.iter().any(|own| *own == keys);
-                holds(rt, has || !keys.is_lasting(), "a held profile");
+                holds(rt, has, "a held profile");
             }
             ProfileState::Unsure => self.unsure = self.unsure.saturating_add(1),
             ProfileState::Rejected => self.rejected = self.rejected.saturating_add(1),
@@ -136,7 +162,8 @@ impl ForgettingPoint {
 }
 
 /// Checks what the central system knows of each of its rows for the charge point of a random
-/// history, unless a boot of the point isn't known yet.
+/// history, unless a boot of the point isn't known yet. A point that obeys has no others once no
+/// call waits.
 fn check_rows(rt: &impl Abort, machine: &Machine, point: &mut ForgettingPoint) {
     let Some(book) = machine.book_of("CP1") else {
         return;
@@ -144,8 +171,13 @@ fn check_rows(rt: &impl Abort, machine: &Machine, point: &mut ForgettingPoint) {
     if point.is_untold {
         return;
     }
-    for row in book.view().rows {
+    let rows = book.view().rows;
+    for row in rows {
         point.check(rt, row, machine.profile_state_of("CP1", row));
+    }
+    if point.is_obeying && machine.outbox_len("CP1") == 0 {
+        holds(rt, point.rows.len() == rows.len(), "in step");
+        point.in_step = point.in_step.saturating_add(1);
     }
 }
 
@@ -179,6 +211,7 @@ fn held_profiles_are_had_at_random(rt: HostRuntime) {
     for _ in 0..100_000u32 {
         random_history(&rt, rt.alloc(), &mut point);
     }
+    holds(&rt, point.in_step > 500, "in step");
     holds(&rt, point.held > 500, "held");
     holds(&rt, point.unsure > 200, "unsure");
     holds(&rt, point.rejected > 50, "rejected");

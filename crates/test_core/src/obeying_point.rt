@@ -1,8 +1,8 @@
-//! Random numbers, and a charge point that obeys its calls.
+//! Random numbers, and the profiles of a charge point that obeys its calls.
 
 use messages::CallBody;
-use profile::{Criteria, Profile, Purpose, Row};
-use std::alloc::{AllocError, Global};
+use profile::{Criteria, Profile, Purpose};
+use std::alloc::AllocError;
 
 /// A linear congruential generator.
 #[derive(Drop)]
@@ -31,18 +31,6 @@ pub(crate) struct Keys {
 }
 
 impl Keys {
-    /// Returns the keys of the TxDefaultProfile that the obeying charge point of a test has before
-    /// its first call.
-    pub(crate) fn of_before() -> Keys {
-        Keys {
-            id: 1,
-            connector: 0,
-            purpose: Purpose::TxDefaultProfile,
-            level: 0,
-            limit: 0,
-        }
-    }
-
     /// Returns the fields that identify a charging profile at a connector, and its first limit, for
     /// the obeying charge point of a test.
     pub(crate) fn of(connector: u32, profile: &Profile) -> Keys {
@@ -53,11 +41,6 @@ impl Keys {
             level: profile.stack_level,
             limit: profile.schedule.periods.limit_in_force(0).unwrap_or(0),
         }
-    }
-
-    /// Whether a profile of these keys outlasts transactions, for the obeying charge point of a test.
-    pub(crate) fn is_lasting(self) -> bool {
-        self.purpose != Purpose::TxProfile
     }
 
     /// Whether the obeying charge point of a test removes the profile of these keys when it clears
@@ -80,37 +63,15 @@ impl Keys {
 }
 
 /// Changes the profiles of a test's obeying charge point as a call of the central system says.
-/// TxProfiles aren't kept here, since they end with their transactions.
 pub(crate) fn obey(rows: &mut Vec<Keys>, body: &CallBody) -> Result<(), AllocError> {
     match body {
-        CallBody::Clear(criteria) => {
-            rows.retain(|keys| !keys.is_cleared(criteria));
-            Ok(())
-        }
+        CallBody::Clear(criteria) => rows.retain(|keys| !keys.is_cleared(criteria)),
         CallBody::Set { connector, profile } => {
             let new = Keys::of(*connector, profile);
             rows.retain(|keys| !keys.is_replaced(new));
-            push_lasting(rows, new)
+            rows.push(new)?;
         }
-        CallBody::Audit { .. } | CallBody::RemoteStart { .. } => Ok(()),
-    }
-}
-
-/// Returns the keys of the central system's profiles for a point that outlast transactions, to
-/// compare with those of a test's obeying point.
-pub(crate) fn lasting(alloc: Global, rows: &[Row]) -> Result<Vec<Keys>, AllocError> {
-    let mut kept = Vec::new(alloc);
-    for row in rows {
-        push_lasting(&mut kept, Keys::of(row.connector, &row.profile))?;
-    }
-    Ok(kept)
-}
-
-/// In a random test, appends a charging profile's keys to those of a point, unless it is a
-/// TxProfile, which ends with its transaction.
-fn push_lasting(rows: &mut Vec<Keys>, new: Keys) -> Result<(), AllocError> {
-    if new.is_lasting() {
-        rows.push(new)?;
+        CallBody::Audit { .. } | CallBody::RemoteStart { .. } => {}
     }
     Ok(())
 }

@@ -2,7 +2,6 @@
 //! = Attached 1`.
 
 use crate::same::same_said;
-use ocpp_scalars::Refusal;
 use site_core::{Machine, Step};
 use site_rules::{Site, read_site};
 use std::alloc::Global;
@@ -10,7 +9,7 @@ use std::process::Abort;
 use step_words::{Said, said_of, step_of};
 use test_books::Words;
 
-pub(crate) const SITE: &str =
+const SITE: &str =
     r#"{"unit":"A","points":[{"id":"CP1","ceiling":32.0,"connectors":[16.0,16.0]},{"id":"CP2","ceiling":32.0,"connectors":[16.0]}]}"#;
 
 /// Reads the site of `SITE` for a test of the central system's machine: two charge points.
@@ -46,21 +45,11 @@ pub(crate) fn comes_to(machine: &mut Machine, step: &Step) -> Said {
     }
 }
 
-/// Returns the outcome of a step that prepares a test of the central system, or ends the test if
-/// memory was refused to the step.
-pub(crate) fn with_memory(rt: &impl Abort, said: Said) -> Said {
-    if said.0 == Refusal::OutOfMemory.name() {
-        rt.panic("error: OutOfMemory");
-    }
-    said
-}
-
 /// Makes the steps of a test's lines on a machine of the central system, and checks the outcome
 /// that each line expects.
 pub(crate) fn run(rt: &impl Abort, alloc: Global, machine: &mut Machine, lines: &str) {
     for line in lines.lines() {
         let (words, wanted) = parts_of(rt, line);
-        let said = with_memory(rt, comes_to(machine, &step(rt, alloc, words)));
-        same_said(rt, said, wanted, line);
+        same_said(rt, comes_to(machine, &step(rt, alloc, words)), wanted, line);
     }
 }

@@ -1,4 +1,4 @@
-//! A journal with lines of each kind, written by hand, and the states that they lead to.
+//! A journal with lines of each kind, written by hand, and changes of its lines.
 
 pub(crate) const SITE: &str =
     r#"{"unit":"A","points":[{"id":"CP1","ceiling":63.0,"connectors":[32.0,32.0]},{"id":"CP2","ceiling":32.0,"connectors":[32.0]}]}"#;
@@ -26,12 +26,6 @@ pub(crate) const JOURNAL: &str = r#"2025-01-01T00:00:00Z attached CP1 1
 2025-01-01T00:00:19Z attached CP2 3
 "#;
 
-/// The state of CP1 before the first line, after it, and so on. Each has the version of the store,
-/// the number of unconfirmed calls, the link or 0, and the link over which a call is to be sent or
-/// 0.
-pub(crate) const STATES: &str =
-    "0 1 0 0,0 1 1 1,0 1 1 0,0 0 1 0,1 1 1 1,1 1 1 0,1 0 1 0,1 1 1 1,1 1 1 0,1 0 1 0,1 0 1 0,2 0 1 0,2 1 1 1,2 1 1 0,2 1 0 0,2 1 2 2,2 1 2 0,2 0 2 0,3 1 2 2,4 1 2 2,4 1 2 2";
-
 /// Lines in place of one of the journal, each after the number of that one and before the output
 /// for the changed journal.
 pub(crate) const CHANGED: &str =
@@ -39,6 +33,15 @@ pub(crate) const CHANGED: &str =
 2|2025-01-01T00:00:00Z attached CP9 1|line 2: its step is refused: UnknownPoint
 3|2025-01-01T00:00:01Z sent CP1 1 1|line 3: its step draws 0, and 1 is written
 3|2025-01-01T00:00:01Z sent CP1 2 0|line 3: its step is refused: Superseded
+3|2025-01-01 sent CP1 1 0|line 3: its first word is no instant
+3|2025-01-01T00:00:01Z  sent CP1 1 0|line 3: not a line of a journal
+3|2025-01-01T00:00:01Z sent CP1 1|line 3: not a line of a journal
+3|2025-01-01T00:00:01Z sent CP1 1 |line 3: a number is missing or too high
+3|2025-01-01T00:00:01Z sent CP1 01 0|line 3: a number is missing or too high
+3|2025-01-01T00:00:01Z sent CP1 +1 0|line 3: a number is missing or too high
+3|2025-01-01T00:00:01Z sent CP1 1 1000000000001|line 3: a number is missing or too high
+3|2025-01-01T00:00:01Z sent CP1 1 1000000000000|line 3: its step draws 0, and 1000000000000 is written
+3|2025-01-01T01:00:01+01:00 sent CP1 1 1|line 3: its step draws 0, and 1 is written
 3|2025-01-01T00:00:01Z lost CP1 2|line 3: its step is refused: Superseded
 4|2025-01-01T00:00:02Z reply CP1 1 [3,"1",{"status":"Unknown"}]|line 4: its step is refused: NothingInFlight
 4|2025-01-01T00:00:02Z reply CP1 2 [3,"0",{"status":"Unknown"}]|line 4: its step is refused: Superseded

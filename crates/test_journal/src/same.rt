@@ -7,8 +7,3 @@ use std::process::Abort;
 pub(crate) fn same_text(rt: &impl Abort, found: &str, wanted: &str, case: &str) {
     assert!(rt; found == wanted, "{case}: {found}, wanted {wanted}");
 }
-
-/// Checks a fact in a test of the journal. A failure names the case.
-pub(crate) fn holds(rt: &impl Abort, fact: bool, case: &str) {
-    assert!(rt; fact, "{case}");
-}

@@ -2,14 +2,13 @@
 //! results are recorded, and the session goes on, so that its thread ends.
 
 use crate::gates::HoldingGate;
-use compile_pool::{Jobs, answer_unmade, short_work, wait_answer};
+use compile_pool::{Jobs, answer_unmade, wait_answer};
 use ocpp_scalars::Refusal;
 use site_core::PointId;
 use std::alloc::Global;
 use std::sync::Wait;
 use std::sync::ledger::Ledger;
-use sweep_compiler::{Turns, compile};
-use test_books::{Words, begin_of, instant_at, profile_of};
+use test_books::{Words, instant_at, profile_of};
 use version_store::{Job, Pass, Shared};
 
 /// The context of sessions.
@@ -44,13 +43,13 @@ impl<C: Ledger, A: Ledger> Desk<'_, '_, '_, C, A> {
     }
 
     /// Plays a line of a session once, in a test of the workers' pool. Returns the line with its
-    /// result if that isn't an expected one.
+    /// result if that isn't the expected one.
     fn play_once(&self, rt: &impl Wait, pass: &mut Pass<C, A>, text: &str, time: u32) -> String {
         let text = numbered(self.alloc, text, time).unwrap_or(String::new(self.alloc));
         let (command, wanted) = text.as_str().split_once(" = ").unwrap_or(("", ""));
         let found = self.done(rt, pass, command);
         let mut wrong = String::new(self.alloc);
-        if !is_one_of(found, wanted) {
+        if !is_wanted(found, wanted) {
             let _ = write!(&mut wrong, "{text}: {found:?}; ");
         }
         wrong
@@ -62,14 +61,9 @@ impl<C: Ledger, A: Ledger> Desk<'_, '_, '_, C, A> {
         let mut words = Words::of(command);
         match words.word() {
             "install" => self.install(rt, pass, words),
-            "start" => self.start(rt, pass, words),
             "ask" => self.ask(rt, pass, words),
             "leave" => self.leave(rt, pass, words),
             "answer" => self.answer(rt, pass, words),
-            "is-short" => self.is_short(rt, pass, words),
-            "turns" => self.turns(rt, pass, words),
-            "changes" => Ok(pass.totals().changes),
-            "answers" => Ok(pass.totals().answers),
             "kept" => Ok(self.shared.lock(rt).open_requests() as u64),
             "finish" => self.finish(rt),
             word => self.gate.done(word),
@@ -101,27 +95,6 @@ impl<C: Ledger, A: Ledger> Desk<'_, '_, '_, C, A> {
         let mut book = self.shared.lock(rt);
         match book.install(pass, point, connector, profile, moment) {
             Ok(()) => Ok(0),
-            Err((refusal, _)) => Err(refusal),
-        }
-    }
-
-    /// Starts a transaction at a point and a connector, in a test of the workers' pool, and returns
-    /// its number. All sessions share the book.
-    fn start(
-        &self,
-        rt: &impl Wait,
-        pass: &mut Pass<C, A>,
-        words: Words<'_>,
-    ) -> Result<u64, Refusal> {
-        let mut words = words;
-        let point = PointId::copied(self.alloc, words.word())?;
-        let connector = words.number().unwrap_or(u32::MAX);
-        let Ok(begin) = begin_of(self.alloc, "T1", 0, 0) else {
-            return Err(Refusal::OutOfMemory);
-        };
-        let mut book = self.shared.lock(rt);
-        match book.start(pass, point, connector, begin) {
-            Ok(number) => Ok(number),
             Err((refusal, _)) => Err(refusal),
         }
     }
@@ -186,33 +159,6 @@ impl<C: Ledger, A: Ledger> Desk<'_, '_, '_, C, A> {
             None => Err(Refusal::ResultTooLong),
         }
     }
-
-    /// Returns 1 if the job of a request for a composite schedule is short, otherwise 0, in a test
-    /// of the workers' pool.
-    fn is_short(
-        &self,
-        rt: &impl Wait,
-        pass: &mut Pass<C, A>,
-        words: Words<'_>,
-    ) -> Result<u64, Refusal> {
-        let job = self.job(rt, pass, words)?;
-        Ok(u64::from(short_work(&job).is_some()))
-    }
-
-    /// Compiles a request for a composite schedule, in a test of which jobs are short. Returns the
-    /// number of evaluations of the limit, which is its work.
-    fn turns(
-        &self,
-        rt: &impl Wait,
-        pass: &mut Pass<C, A>,
-        words: Words<'_>,
-    ) -> Result<u64, Refusal> {
-        let job = self.job(rt, pass, words)?;
-        let (_, book, ask) = job.into_parts();
-        let mut turns = Turns::new();
-        compile(self.alloc, &book, &ask, &mut turns)?;
-        Ok(turns.count())
-    }
 }
 
 /// Returns a line of a session with a number for each `#`, in a test of the workers' pool, or
@@ -222,17 +168,11 @@ fn numbered(alloc: Global, text: &str, number: u32) -> Option<String> {
     text.replace(alloc, "#", number.as_str()).ok()
 }
 
-/// Checks in a test of the workers' pool whether a command's result is one of those that its line
-/// expects, such as `320 or Stopped`.
-fn is_one_of(found: Result<u64, Refusal>, wanted: &str) -> bool {
-    for word in wanted.split(" or ") {
-        let is_so = match found {
-            Ok(number) => word.parse::<u64>().ok() == Some(number),
-            Err(refusal) => refusal.name() == word,
-        };
-        if is_so {
-            return true;
-        }
+/// Checks in a test of the workers' pool whether a command's result is the one that its line
+/// expects, a number or the name of a refusal.
+fn is_wanted(found: Result<u64, Refusal>, wanted: &str) -> bool {
+    match found {
+        Ok(number) => wanted.parse::<u64>().ok() == Some(number),
+        Err(refusal) => refusal.name() == wanted,
     }
-    false
 }

@@ -16,7 +16,6 @@ const PAUSE: u64 = 10_000;
 pub(crate) struct HoldingGate {
     /// The requests that are held up: a letter for each number from 1 on, `h` if it is.
     held: &'static str,
-    entered: AtomicU64,
     begun: AtomicU64,
     opened: AtomicU64,
     ran_out: AtomicU64,
@@ -28,7 +27,6 @@ impl HoldingGate {
     pub(crate) fn new(held: &'static str) -> HoldingGate {
         HoldingGate {
             held,
-            entered: AtomicU64::new(0),
             begun: AtomicU64::new(0),
             opened: AtomicU64::new(0),
             ran_out: AtomicU64::new(0),
@@ -53,18 +51,21 @@ impl HoldingGate {
         false
     }
 
+    /// Returns whether the workers that were held up in a test of their pool began again only when
+    /// the gate was opened.
+    pub(crate) fn held_on(&self) -> bool {
+        self.ran_out.load(Ordering::SeqCst) == 0
+    }
+
     /// Opens the gate before the workers or pauses, as a session's line says in a test of their
-    /// pool, or returns a count. It counts how often workers came and began, and whether a worker
-    /// went on before the gate was opened.
+    /// pool, or returns how many jobs were begun.
     pub(crate) fn done(&self, word: &str) -> Result<u64, Refusal> {
         match word {
             "open" => self.open(),
             "pause" => {
                 self.is_opened_within(PAUSE);
             }
-            "entered" => return Ok(self.entered.load(Ordering::SeqCst)),
             "begun" => return Ok(self.begun.load(Ordering::SeqCst)),
-            "ran-out" => return Ok(self.ran_out.load(Ordering::SeqCst)),
             _ => return Err(Refusal::UnknownRequest),
         }
         Ok(0)
@@ -73,7 +74,6 @@ impl HoldingGate {
 
 impl Gate for HoldingGate {
     fn enter(&self, number: u64) {
-        self.entered.fetch_add(1, Ordering::SeqCst);
         let letter = self.held.as_bytes().get(number.saturating_sub(1) as usize);
         if letter == Some(&b'h') && !self.is_opened_within(TURNS) {
             self.ran_out.store(1, Ordering::SeqCst);

@@ -26,13 +26,12 @@ pub(crate) struct Story {
     pub(crate) workers: usize,
     /// The requests that are held up, in the form of `HoldingGate`.
     pub(crate) held: &'static str,
-    /// The lines of the first session at the beginning; of two sessions that run beside it; of the
-    /// first one then, and after all workers have ended.
+    /// The lines of the first session at the beginning; of two sessions that run beside it; and of
+    /// the first one then.
     pub(crate) before: &'static str,
     pub(crate) one: &'static str,
     pub(crate) other: &'static str,
     pub(crate) beside: &'static str,
-    pub(crate) after: &'static str,
     /// The changes and the answers that all sessions count.
     pub(crate) totals: (u64, u64),
 }
@@ -64,18 +63,11 @@ pub(crate) fn play<
         rt,
         "no thread",
     );
-    let (jobs, _) = bounded(alloc, 1).expect(rt, "error");
-    let desk = Desk {
-        alloc,
-        shared: &shared,
-        jobs: Jobs::one(&jobs),
-        gate: &gate,
-    };
-    let first = desk.play(rt, first, story.after);
-    drop(desk);
     for played in [one, other, first] {
         keep(rt, &mut passes, played);
     }
+    let is_open = shared.lock(rt).open_requests() > 0;
+    assert!(rt; gate.held_on() && !is_open, "how it ended");
     let (changes, answers) = story.totals;
     let totals = Totals { changes, answers };
     assert!(rt;

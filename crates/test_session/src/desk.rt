@@ -1,9 +1,9 @@
-//! Serves sessions one after another on a shared book without workers, one for each line of a
-//! story.
+//! Serves sessions one after another on a shared book, one for each line of a story. No worker takes
+//! a job from the queue, which has room for one.
 
 ghost use Rattle.std.specs.Prelude.{◌≡◌};
 
-use crate::clients::{client_bytes, heard};
+use crate::clients::{client_bytes, push_heard};
 use crate::named_texts::SITE;
 use crate::streams::Stream;
 use crossbeam_channel::{Sender, bounded};
@@ -18,7 +18,7 @@ use std::process::Abort;
 use std::rt::Clock;
 use std::sync::ledger::{Blank, Ledger};
 use std::sync::{Mutex, Wait};
-use test_books::{Words, instant_at};
+use test_books::instant_at;
 use tungstenite::{NoMask, Role, WebSocket};
 use version_store::{Job, Pass, Shared};
 use world::Unrecorded;
@@ -42,15 +42,12 @@ pub(crate) struct Tale<'a> {
     pub(crate) enough: &'a str,
 }
 
-/// Plays the lines of a story in a test of sessions, such as `operator 5 450 install ask close`:
-/// the client that is served; the calls after which its stream fails; the bytes of the client after
-/// which it ends; and the messages that the client sends. A session that is `watched`, or compiles
-/// a `small` request itself, gets the messages after `|` once it polls its stream. In a story with
-/// `|` no worker takes a job from the queue; in any other story jobs come back. `other` is a job of
-/// another session. `timeless` is an operator's session without a clock. Returns for each session
-/// how it ended, and the messages that its client read; then the changes and answers of the book,
-/// the calls that wait, the requests that are kept, and the jobs in the queue. A story whose
-/// results are `enough` ends there.
+/// Plays the lines of a story in a test of sessions, such as `point heartbeat close`: the client
+/// that is served, and the messages that it sends. An operator's session that is `watched` gets the
+/// messages after `|` once it polls its stream. `other` is a job of another session. A `timeless`
+/// story has no clock. Returns for each session how it ended, and the messages that its client read;
+/// then the changes and answers of the book, the calls that wait, the requests that are kept, and
+/// the jobs in the queue. A story whose results are `enough` ends there.
 pub(crate) fn play<C: Ledger, A: Ledger, R: Abort + Wait + Clock>(
     rt: &R,
     alloc: Global,
@@ -61,37 +58,39 @@ pub(crate) fn play<C: Ledger, A: Ledger, R: Abort + Wait + Clock>(
     requires changes { (changes.name ≡ C.name) × (changes.parts ≡ C.parts) × (changes.parts ≡ 1) }
     requires answers { (answers.name ≡ A.name) × (answers.parts ≡ A.parts) × (answers.parts ≡ 1) }
 {
-    let Tale { story, enough } = *tale;
     let site = read_site(alloc, SITE.as_bytes()).expect(rt, "error");
     let made: Result<(Shared<C, A>, _), _> = Shared::make(alloc, changes, answers, site, 1);
     let (shared, mut passes) = made.expect(rt, "error");
-    let mut pass = passes.pop().expect(rt, "no pass");
-    let (jobs, queue) = bounded(alloc, 1).expect(rt, "error");
-    let queue = if story.contains(" | ") {
-        Some(queue)
-    } else {
-        drop(queue);
-        None
-    };
-    let moment = instant_at(10).expect(rt, "no instant");
-    let clock = Fixed(if story.contains("timeless") {
+    let (jobs, _queue) = bounded(alloc, 1).expect(rt, "error");
+    let is_timeless = tale.story.contains("timeless");
+    let clock = Fixed(if is_timeless {
         None
     } else {
-        Some(moment)
+        instant_at(10).ok()
     });
     let (journal, reading) = (NoJournal, Mutex::new(()));
     let desk: Desk<'_, C, A, R> = Context::unrecorded(
         rt, alloc, &shared, &jobs, &clock, &journal, &reading,
     );
-    let mut found = String::with_capacity(alloc, 1_000).expect(rt, "error");
-    for line in story.split("; ") {
-        pass = play_line(&desk, line, pass, &mut found);
-        put_book(&desk, &jobs, &pass, &mut found);
-        if found.as_str() == enough {
+    play_lines(&desk, &jobs, passes.pop().expect(rt, "no pass"), *tale)
+}
+
+/// Plays the lines of a story in a test of sessions, and returns the results.
+fn play_lines<C: Ledger, A: Ledger, R: Abort + Wait + Clock>(
+    desk: &Desk<'_, C, A, R>,
+    jobs: &Sender<Job>,
+    pass: Pass<C, A>,
+    tale: Tale<'_>,
+) -> String {
+    let mut pass = pass;
+    let mut found = String::with_capacity(desk.alloc, 1_000).expect(desk.rt, "error");
+    for line in tale.story.split("; ") {
+        pass = play_line(desk, line, pass, &mut found);
+        put_book(desk, jobs, &pass, &mut found);
+        if found.as_str() == tale.enough {
             break;
         }
     }
-    drop(queue);
     found
 }
 
@@ -103,55 +102,41 @@ fn play_line<C: Ledger, A: Ledger, R: Abort + Wait + Clock>(
     pass: Pass<C, A>,
     found: &mut String,
 ) -> Pass<C, A> {
-    let (rt, alloc, mut words) = (desk.rt, desk.alloc, Words::of(line));
-    let who = words.word();
+    let (who, texts) = line.split_once(' ').unwrap_or((line, ""));
     if who == "other" {
         return send_other(desk, pass);
     }
-    let calls = words.number().expect(rt, line) as usize;
-    let bytes = words.number().expect(rt, line) as usize;
-    let (first, later) = words
-        .rest()
-        .split_once(" | ")
-        .unwrap_or((words.rest(), "end"));
-    let first = client_bytes(rt, alloc, first);
-    let later = client_bytes(rt, alloc, later);
-    let mut output = Vec::with_capacity(alloc, 4_096).expect(rt, "error");
+    let (first, later) = texts.split_once(" | ").unwrap_or((texts, "end"));
+    let first = client_bytes(desk.rt, desk.alloc, first);
+    let later = client_bytes(desk.rt, desk.alloc, later);
+    let mut output = Vec::with_capacity(desk.alloc, 4_096).expect(desk.rt, "error");
     let stream = Stream {
-        first: first.as_slice().split_at(bytes.min(first.len())).0,
+        first: first.as_slice(),
         later: later.as_slice(),
-        waits: line.contains(" | "),
-        calls,
+        waits: who == "watched",
         output: &mut output,
     };
-    let socket = WebSocket::from_raw_socket(alloc, stream, NoMask, Role::Server, None);
-    let (ended, pass) = serve(desk, who, socket, pass);
-    let heard = heard(alloc, output.as_slice());
-    write!(found, "{}{heard}", name_of_end(ended)).expect(rt, "error");
+    let socket = WebSocket::from_raw_socket(desk.alloc, stream, NoMask, Role::Server, None);
+    let (ended, pass) = if who == "watched" {
+        watch(desk, socket, pass)
+    } else {
+        serve(desk, socket, pass)
+    };
+    found.push_str(name_of_end(ended)).expect(desk.rt, "error");
+    push_heard(desk.rt, found, output.as_slice());
     pass
 }
 
-/// Serves a session of a point or of an operator over a WebSocket in memory, in a test of sessions.
-/// Returns how the session ended, if it did.
+/// Serves a session of a point over a WebSocket in memory, in a test of sessions. Returns how the
+/// session ended.
 fn serve<C: Ledger, A: Ledger, R: Abort + Wait + Clock>(
     desk: &Desk<'_, C, A, R>,
-    who: &str,
     socket: WebSocket<Stream<'_>, NoMask>,
     pass: Pass<C, A>,
 ) -> (Option<Ended>, Pass<C, A>) {
-    let core = match who {
-        "point" => SessionCore::point(desk.alloc, "CP1"),
-        _ => SessionCore::operator(desk.alloc, "CP1", None, Unit::A),
-    };
-    let core = core.expect(desk.rt, "error");
-    match who {
-        "watched" => watch(desk, socket, None, &core, pass),
-        "small" => watch(desk, socket, Some(0), &core, pass),
-        _ => {
-            let (ended, pass) = serve_session(desk, socket, core, pass);
-            (Some(ended), pass)
-        }
-    }
+    let core = SessionCore::point(desk.alloc, "CP1").expect(desk.rt, "error");
+    let (ended, pass) = serve_session(desk, socket, core, pass);
+    (Some(ended), pass)
 }
 
 /// Serves an operator's session over a polled stream, in a test of sessions, until no message comes
@@ -159,14 +144,13 @@ fn serve<C: Ledger, A: Ledger, R: Abort + Wait + Clock>(
 fn watch<C: Ledger, A: Ledger, R: Abort + Wait + Clock>(
     desk: &Desk<'_, C, A, R>,
     socket: WebSocket<Stream<'_>, NoMask>,
-    most_of_own: Option<u64>,
-    core: &SessionCore,
     pass: Pass<C, A>,
 ) -> (Option<Ended>, Pass<C, A>) {
     let (rt, mut socket, mut pass) = (desk.rt, socket, pass);
-    let mut watched = WatchedSocket::new(rt, &mut socket, most_of_own);
+    let core = SessionCore::operator(desk.alloc, "CP1", None, Unit::A).expect(rt, "error");
+    let mut watched = WatchedSocket::new(rt, &mut socket, None);
     for _message in 0..20u32 {
-        match answer_next(&*desk, &mut watched, core, &mut pass, false) {
+        match answer_next(&*desk, &mut watched, &core, &mut pass, false) {
             Ok(Received::Nothing) => return (None, pass),
             Ok(_) => {}
             Err(ended) => return (Some(ended), pass),
@@ -207,14 +191,9 @@ fn put_book<C: Ledger, A: Ledger, R: Abort + Wait>(
     let (waiting, kept) = (book.outbox_len("CP1"), book.open_requests());
     drop(book);
     assert!(desk.rt; is_counted && !is_linked, "behind {found}");
-    let totals = pass.totals();
-    let (changes, answers) = (totals.changes, totals.answers);
-    write!(
-        found,
-        "/{changes} {answers} {waiting} {kept} {};",
-        jobs.len()
-    )
-    .expect(desk.rt, "error");
+    let (changes, answers) = (pass.totals().changes, pass.totals().answers);
+    let queued = jobs.len();
+    write!(found, "/{changes} {answers} {waiting} {kept} {queued};").expect(desk.rt, "error");
 }
 
 /// Returns the name of the way in which a session ended, or `open`, for the expected results in the
@@ -224,8 +203,7 @@ fn name_of_end(ended: Option<Ended>) -> &'static str {
         None => "open",
         Some(Ended::Closed) => "closed",
         Some(Ended::Broken) => "broken",
-        Some(Ended::Breach(_)) => "breach",
         Some(Ended::OutOfMemory) => "out-of-memory",
-        Some(Ended::Unsaved) => "unsaved",
+        Some(_) => "otherwise",
     }
 }

@@ -1,4 +1,4 @@
-//! A server's end of a stream in memory, which fails, ends, or is polled.
+//! A server's end of a stream in memory, which is polled.
 
 use std::io::{self, ErrorKind, Read, Write};
 use world::Watched;
@@ -11,21 +11,7 @@ pub(crate) struct Stream<'a> {
     pub(crate) later: &'a [u8],
     /// Whether the later bytes come only once the stream is polled.
     pub(crate) waits: bool,
-    /// The number of calls left before one fails, and each later one.
-    pub(crate) calls: usize,
     pub(crate) output: &'a mut Vec<u8>,
-}
-
-impl Stream<'_> {
-    /// Counts a read or write of a stream in memory, in a test of sessions, and fails if none is
-    /// left.
-    fn call(&mut self) -> io::Result<()> {
-        if self.calls == 0 {
-            return Err(io::Error::from(ErrorKind::BrokenPipe));
-        }
-        self.calls -= 1;
-        Ok(())
-    }
 }
 
 impl Watched for Stream<'_> {
@@ -37,7 +23,6 @@ impl Watched for Stream<'_> {
 
 impl Read for Stream<'_> {
     fn read(&mut self, buf: &mut [u8]) -> io::Result<usize> {
-        self.call()?;
         if !self.first.is_empty() {
             return self.first.read(buf);
         }
@@ -50,7 +35,6 @@ impl Read for Stream<'_> {
 
 impl Write for Stream<'_> {
     fn write(&mut self, buf: &[u8]) -> io::Result<usize> {
-        self.call()?;
         self.output.write(buf)
     }
 

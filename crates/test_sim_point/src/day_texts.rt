@@ -183,25 +183,3 @@ call | [2,"0","StartTransaction",{"connectorId":1,"idTag":"a\"b","meterStart":0,
 call | [2,"1","StartTransaction",{"connectorId":2,"idTag":"","meterStart":0,"timestamp":"2025-01-01T00:00:00Z"}]
 < [3,"1",{"idTagInfo":{"status":"Accepted"},"transactionId":2}] | -
 call | -"#;
-
-/// At most 200 profiles; one replaces another. The profile of a remote start is then dropped, and
-/// its transaction begins: the limit is by the default of level 0, since those of the higher levels
-/// begin later.
-pub(crate) const PROFILES: &str = r#"stop 1
-
-fill 1 100 1 | -
-fill 2 100 1 | -
-default 0 0 1 | [3,"x",{"status":"Rejected","reason":"TooManyProfiles"}]
-default 1 0 1 | [3,"x",{"status":"Accepted"}]
-< [2,"x","RemoteStartTransaction",{"connectorId":1,"idTag":"T1","chargingProfile":{"chargingProfileId":5,"stackLevel":0,"chargingProfilePurpose":"TxProfile","chargingProfileKind":"Relative","chargingSchedule":{"chargingRateUnit":"A","chargingSchedulePeriod":[{"startPeriod":0,"limit":6.0},{"startPeriod":30,"limit":8.0}]}}}] | [3,"x",{"status":"Accepted"}]
-call | [2,"0","StartTransaction",{"connectorId":1,"idTag":"T1","meterStart":0,"timestamp":"2025-01-01T00:00:00Z"}]
-< [3,"0",{"transactionId":3}] | -
-< [2,"x","GetCompositeSchedule",{"connectorId":1,"duration":60}] | [3,"x",{"status":"Accepted","connectorId":1,"scheduleStart":"2025-01-01T00:00:00Z","chargingSchedule":{"duration":60,"chargingRateUnit":"A","chargingSchedulePeriod":[{"startPeriod":0,"limit":1.0}]}}]
-call | [2,"1","StopTransaction",{"transactionId":3,"timestamp":"2025-01-01T00:00:00Z","meterStop":0}]"#;
-
-/// At most 4,096 periods in a schedule, of a second each.
-pub(crate) const PERIODS: &str = r#"
-
-fill 1 21 200 | -
-< [2,"x","GetCompositeSchedule",{"connectorId":1,"duration":4097}] | [3,"x",{"status":"Rejected","reason":"ResultTooLong"}]
-< [2,"x","GetCompositeSchedule",{"connectorId":1,"duration":4096}] | ..{"startPeriod":4094,"limit":1.0},{"startPeriod":4095,"limit":2.0}]}}]"#;

@@ -1,29 +1,26 @@
-//! Worked days of a simulated point, message by message, which no clause covers; and a check that memory
-//! suffices at the largest sizes. Below a point's steps and an empty line, a day has lines `WHAT | WANTED`.
-//! In place of an answer, `-` means none, and `..TEXT` one that ends in this text:
+//! Worked days of a simulated point, message by message. Below a point's steps and an empty line, a
+//! day has lines `WHAT | WANTED`, where `-` means no answer:
 //!
 //! ```text
 //! at SECONDS | -        the time is now this many seconds after midnight
 //! call | TEXT           the next call
 //! < TEXT | ANSWER       a message arrives, and is answered
-//! default CONNECTOR LEVEL PERIODS | ANSWER    a default of this many periods is installed
-//! fill CONNECTOR LEVELS PERIODS | -           this many are accepted, at the levels from 0 on
 //! ```
 use crate::day_texts::{
-    BEFORE_OTHER_STEPS, CALLS, EVERY_STEP, PERIODS, PROFILES, REJECTED_STARTS, REMOTE_START,
-    TRANSACTIONS, UNNUMBERED_STARTS, WITHOUT_PROFILES,
+    BEFORE_OTHER_STEPS, CALLS, EVERY_STEP, REJECTED_STARTS, REMOTE_START, TRANSACTIONS,
+    UNNUMBERED_STARTS, WITHOUT_PROFILES,
 };
-use crate::same::{holds, same_text};
+use crate::same::same_text;
 use ocpp_scalars::{IdTag, Instant};
 use profile::Unit;
-use sim_point::{SimPoint, SimStep};
+use sim_point_core::{SimPoint, SimStep};
 use std::alloc::Global;
 use std::process::Abort;
 
 /// 2025-01-01T00:00:00Z.
 const MIDNIGHT: u64 = 1_735_689_600;
 
-const DAYS: [&str; 10] = [
+const DAYS: [&str; 8] = [
     EVERY_STEP,
     TRANSACTIONS,
     CALLS,
@@ -32,8 +29,6 @@ const DAYS: [&str; 10] = [
     REJECTED_STARTS,
     UNNUMBERED_STARTS,
     WITHOUT_PROFILES,
-    PROFILES,
-    PERIODS,
 ];
 
 /// Returns the instant a number of seconds after midnight, on the day of a test of the simulated
@@ -92,79 +87,14 @@ pub(crate) fn point_with(rt: &impl Abort, alloc: Global, lines: &str) -> SimPoin
     SimPoint::try_new(alloc, Unit::A, 320, connectors, steps).expect(rt, "error")
 }
 
-/// Returns a test's SetChargingProfile of a TxDefaultProfile for the simulated point. Its periods
-/// of a second each begin where those of the level below may end, of 1 A and 2 A in turn.
-fn default_text(
-    rt: &impl Abort,
-    alloc: Global,
-    connector: u32,
-    level: u32,
-    periods: u32,
-) -> String {
-    let id = connector.saturating_mul(100).saturating_add(level);
-    let text = format!(in alloc;
-        r#"[2,"x","SetChargingProfile",{{"connectorId":{connector},"csChargingProfiles":{{"chargingProfileId":{id},"stackLevel":{level},"chargingProfilePurpose":"TxDefaultProfile","chargingProfileKind":"Relative","chargingSchedule":{{"chargingRateUnit":"A","chargingSchedulePeriod":["#
-    );
-    let mut text = text.expect(rt, "error");
-    let first = level.saturating_mul(200);
-    for begin in first..first.saturating_add(periods) {
-        let (comma, limit) = (
-            if begin == first { "" } else { "," },
-            1_u32.saturating_add(begin % 2),
-        );
-        write!(text, r#"{comma}{{"startPeriod":{begin},"limit":{limit}}}"#).expect(rt, "error");
-    }
-    text.push_str("]}}}]").expect(rt, "error");
-    text
-}
-
 /// A point and the current moment.
 #[derive(Drop)]
 struct Day {
-    alloc: Global,
     point: SimPoint,
     now: Instant,
 }
 
 impl Day {
-    /// In a test, returns the simulated point's answer to a message of the central system, if it
-    /// has one.
-    fn answered(&mut self, rt: &impl Abort, text: &str) -> Option<String> {
-        self.point.on_text(self.now, text).expect(rt, "error")
-    }
-
-    /// In a test, installs a TxDefaultProfile at the simulated point, by words such as `1 0 200`,
-    /// and returns the point's answer.
-    fn install_default(&mut self, rt: &impl Abort, words: &str) -> Option<String> {
-        let (connector, level, periods) = three(rt, words);
-        self.install(rt, connector, number(rt, level), periods)
-    }
-
-    /// In a test, returns the simulated point's answer to the SetChargingProfile of a
-    /// TxDefaultProfile at a connector and a stack level.
-    fn install(
-        &mut self,
-        rt: &impl Abort,
-        connector: &str,
-        level: u32,
-        periods: &str,
-    ) -> Option<String> {
-        let (connector, periods) = (number(rt, connector), number(rt, periods));
-        let text = default_text(rt, self.alloc, connector, level, periods);
-        self.answered(rt, text.as_str())
-    }
-
-    /// Installs a test's TxDefaultProfiles at a connector of the simulated point, one at each stack
-    /// level from 0 on. Checks that each is accepted.
-    fn fill(&mut self, rt: &impl Abort, words: &str) {
-        let (connector, levels, periods) = three(rt, words);
-        for level in 0..number(rt, levels) {
-            let answer = self.install(rt, connector, level, periods);
-            let answer = answer.as_deref().unwrap_or("-");
-            same_text(rt, answer, r#"[3,"x",{"status":"Accepted"}]"#, words);
-        }
-    }
-
     /// Plays the first half of a line of a test of the simulated point, and returns the point's
     /// call or answer, if any.
     fn found(&mut self, rt: &impl Abort, what: &str) -> Option<String> {
@@ -175,12 +105,7 @@ impl Day {
                 None
             }
             "call" => self.point.next_call(self.now).expect(rt, "error"),
-            "default" => self.install_default(rt, text),
-            "fill" => {
-                self.fill(rt, text);
-                None
-            }
-            _ => self.answered(rt, text),
+            _ => self.point.on_text(self.now, text).expect(rt, "error"),
         }
     }
 
@@ -190,10 +115,7 @@ impl Day {
         let (what, wanted) = line.split_once(" | ").expect(rt, line);
         let found = self.found(rt, what);
         let found = found.as_deref().unwrap_or("-");
-        match wanted.strip_prefix("..") {
-            Some(end) => holds(rt, found.ends_with(end), line),
-            None => same_text(rt, found, wanted, line),
-        }
+        same_text(rt, found, wanted, line);
     }
 }
 
@@ -201,7 +123,6 @@ impl Day {
 fn plays(rt: &impl Abort, alloc: Global, day: &str) {
     let (steps, lines) = day.split_once("\n\n").expect(rt, day);
     let mut played = Day {
-        alloc,
         point: point_with(rt, alloc, steps),
         now: instant_at(rt, 0),
     };

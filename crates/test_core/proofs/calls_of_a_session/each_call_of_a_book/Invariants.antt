@@ -1,8 +1,0 @@
--- The ledgers are those of the two blanks.
-use Rattle.test_core.proofs.calls_of_a_session.each_call_of_a_book.Given as goal
-
-abbrev pub ghosts-each_call-C-Ledger : goal.ghosts-each_call-C-Ledger
-ghosts-each_call-C-Ledger g a = record { name = a.changes.name; parts = a.changes.parts }
-
-abbrev pub ghosts-each_call-A-Ledger : goal.ghosts-each_call-A-Ledger
-ghosts-each_call-A-Ledger g a = record { name = a.answers.name; parts = a.answers.parts }

@@ -1,3 +1,0 @@
-//! Callers of libraries: the READMEs of their crates link to them.
-
-mod threads;

@@ -1,3 +1,0 @@
-//! Callers of libraries, which the READMEs of those crates link to.
-
-mod keys;

@@ -1,0 +1,5 @@
+//! Callers of libraries, one for each. The READMEs of their crates link to them.
+
+mod frames;
+mod keys;
+mod scalars;
