@@ -48,8 +48,8 @@ fn send_given<R: ClientRuntime + Files<File = File>>(
     say_outcomes(caller.rt, calling, visits.as_slice())
 }
 
-/// Returns the calls of `call`'s options, those of an undo first. Leaves out faulty ones, and prints
-/// why.
+/// Returns the calls of `call`'s options, those of an undo first. Leaves out faulty ones, and
+/// prints why.
 fn calls_of<R: Files<File = File> + Print + Eprint + AllocGlobal>(
     caller: &mut Caller<'_, R>,
     calling: Calling<'_>,

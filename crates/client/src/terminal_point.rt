@@ -47,8 +47,8 @@ impl<S: Read + Write + OpenStream + Drop, K: MaskKeys + Drop, W: Write> Terminal
         Ok(faults)
     }
 
-    /// Does what a line on standard input asks of the simulated charge point. Returns the name of its
-    /// fault, if it has one.
+    /// Does what a line on standard input asks of the simulated charge point. Returns the name of
+    /// its fault, if it has one.
     fn take_line<R: Wait + Clock, M: Moments>(
         &mut self,
         rt: &R,

@@ -79,8 +79,8 @@ fn boot_in(line: &[u8]) -> Option<(Instant, &str)> {
     Some((moment, point))
 }
 
-/// Records a point's boot from the file of boots, and appends its line for the journal. A point that
-/// the site doesn't have is left out.
+/// Records a point's boot from the file of boots, and appends its line for the journal. A point
+/// that the site doesn't have is left out.
 fn note_boot<C: Ledger, A: Ledger, N: ListName>(
     alloc: Global,
     book: &mut Book<C, A, N>,

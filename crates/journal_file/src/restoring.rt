@@ -90,8 +90,8 @@ pub fn restore_shared<
 
 /// Restores a site's book from its journal, each step with the number it drew, and takes the links
 /// from all points. A journal that is new, of an earlier format or of another site file gets a line
-/// that names this one. A torn last line is cut: nothing in it was answered. Returns the journal, and
-/// the lines to add to it.
+/// that names this one. A torn last line is cut: nothing in it was answered. Returns the journal,
+/// and the lines to add to it.
 fn restore_book<
     C: Ledger,
     A: Ledger,

@@ -44,8 +44,8 @@ pub struct FollowedJournal {
 }
 
 /// Follows the journal of a folder on a site, and lets a reader read its events. Counts lines as in
-/// its script. Prints the progress to standard error if reading takes long, and the notes if they are
-/// wanted: how many lines there are, and the moment of the last one.
+/// its script. Prints the progress to standard error if reading takes long, and the notes if they
+/// are wanted: how many lines there are, and the moment of the last one.
 pub fn follow_journal<R: Files<File = File> + Eprint + Clock + AllocGlobal, E: EventReader>(
     rt: &R,
     following: FollowRequest<'_>,

@@ -227,8 +227,8 @@ impl<'a, R: Print + Eprint + AllocGlobal> Caller<'a, R> {
         Ok(())
     }
 
-    /// Prints the faults in an operator's message to standard error, for `call`, each after the label
-    /// of its point and the name of the message.
+    /// Prints the faults in an operator's message to standard error, for `call`, each after the
+    /// label of its point and the name of the message.
     fn say_faults(&self, label: &str, name: &str, findings: &[Finding]) -> Result<(), ClientFault> {
         for finding in findings {
             if let Severity::Fault = finding.severity {

@@ -65,8 +65,8 @@ fn options_of<'a, R: Clock + Eprint>(
     })
 }
 
-/// Explains the limits of a connector of a site, once the options of `explain` are read. Returns the
-/// exit status.
+/// Explains the limits of a connector of a site, once the options of `explain` are read. Returns
+/// the exit status.
 fn explain_site<R: Files<File = File> + Input + Print + Eprint + Clock + AllocGlobal>(
     rt: &R,
     presentation: Presentation<'_>,

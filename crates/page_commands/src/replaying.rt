@@ -10,7 +10,8 @@ use std::io;
 use std::io::{BufWriter, Read, Write};
 use std::rt::Files;
 
-/// Plays the script of standard input or of a file, or the journal of a folder, on the site of a file.
+/// Plays the script of standard input or of a file, or the journal of a folder, on the site of a
+/// file.
 pub fn replay_file<R: Files<File = File> + Input + Print + Eprint + AllocGlobal>(
     rt: &R,
     replaying: Replaying<'_>,

@@ -33,8 +33,8 @@ pub fn show_file<R: Files<File = File> + Input + Print + Eprint + Clock + AllocG
     show_journal(rt, showing, following)
 }
 
-/// Prints `show`'s page with the state of each point after the journal of a folder. Returns the exit
-/// status.
+/// Prints `show`'s page with the state of each point after the journal of a folder. Returns the
+/// exit status.
 fn show_journal<R: Files<File = File> + Print + Eprint + Clock + AllocGlobal>(
     rt: &R,
     showing: Showing<'_>,

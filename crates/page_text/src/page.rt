@@ -12,8 +12,8 @@ use std::marker::Model;
 
 /// A text that is being written. After a failed allocation it takes nothing more, and `finish`
 /// returns the error.
-// A `?` behind each piece would say the same, but a page has hundreds, and each costs the prover what
-// it costs a reader: a way out, with all that has to be dropped there.
+// A `?` behind each piece would say the same, but a page has hundreds, and each costs the prover
+// what it costs a reader: a way out, with all that has to be dropped there.
 #[derive(Drop)]
 pub struct Page {
     text: String,
@@ -64,8 +64,8 @@ impl Page {
         }
     }
 
-    /// Appends a formatted piece. It is what `write!` calls, so `write!(page, "{name}")` has no result
-    /// to check.
+    /// Appends a formatted piece. It is what `write!` calls, so `write!(page, "{name}")` has no
+    /// result to check.
     pub fn write_fmt<D: fmt::Display + Drop>(&mut self, piece: D)
         ensures { IfSome (D.output piece) (λ bytes. TakesPiece self.old bytes self.new) }
     {

@@ -18,8 +18,8 @@ use std::sync::ledger::{Blank, Ledger};
 use step_words::Desk;
 use sweep_compiler::AuditJob;
 
-/// Plays the tests' tables of steps on the standard input, each on a new book of the central system.
-/// Prints each line with its outcome.
+/// Plays the tests' tables of steps on the standard input, each on a new book of the central
+/// system. Prints each line with its outcome.
 fn main(rt: HostRuntime) -> io::Result<()> {
     let text = io::read_to_string(rt.alloc(), rt.reader())?;
     let mut job = None;
@@ -55,8 +55,8 @@ struct Table<'a> {
     job: Option<AuditJob>,
 }
 
-/// Plays a table of a test's steps on a new book, and prints each line with its outcome. Returns the
-/// kept request of an audit.
+/// Plays a table of a test's steps on a new book, and prints each line with its outcome. Returns
+/// the kept request of an audit.
 fn play_at<C: Ledger, A: Ledger, R: Print + AllocGlobal>(
     rt: &R,
     changes: Blank,

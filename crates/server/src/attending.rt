@@ -129,8 +129,8 @@ fn broken<R: Wait + Clock>(socket: &mut WebSocket<IncomingStream<'_, R>, NoMask>
     Ended::Broken
 }
 
-/// Does what follows what a session received from its client. Returns the call that was sent, if one
-/// was.
+/// Does what follows what a session received from its client. Returns the call that was sent, if
+/// one was.
 fn sent_after<R: Wait + Clock, W: World>(
     context: &Context<'_, W>,
     watch: &SessionWatch<'_, R>,

@@ -119,8 +119,8 @@ fn shaken_socket<R: Threads + Wait + Clock + Sync>(
     }
 }
 
-/// Serves a client's session in a seat of the server after its handshake, if the site has its point.
-/// Returns the seat's pass.
+/// Serves a client's session in a seat of the server after its handshake, if the site has its
+/// point. Returns the seat's pass.
 fn run_shaken<R: Wait + Clock, W: World>(
     seats: &Seats<R>,
     context: &Context<'_, W>,

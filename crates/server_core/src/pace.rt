@@ -10,8 +10,8 @@ use std::time::Duration;
 const PAUSE_PER_CLIENT: u64 = 50;
 
 /// The number of fast clients: those that send faster than they are served. The more there are, the
-/// longer each of their sessions waits between two messages. So all of them together take a bounded part of the
-/// processor's time, and other sessions don't queue behind them for the book.
+/// longer each of their sessions waits between two messages. So all of them together take a bounded
+/// part of the processor's time, and other sessions don't queue behind them for the book.
 #[derive(Drop)]
 pub struct FastClients {
     count: AtomicU64,

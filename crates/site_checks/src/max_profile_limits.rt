@@ -58,8 +58,8 @@ impl MaxProfileLimits {
         Ok(raises)
     }
 
-    /// Returns a remark of `check` if the profile of an event's message raised the fuse limit of its
-    /// point by replacing another one.
+    /// Returns a remark of `check` if the profile of an event's message raised the fuse limit of
+    /// its point by replacing another one.
     fn raise_by(
         &mut self,
         alloc: Global,

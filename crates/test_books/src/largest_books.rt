@@ -1,5 +1,5 @@
-//! How many turns a request takes, and that memory suffices at the largest sizes. The lines are those
-//! of `scripted_books.rt`.
+//! How many turns a request takes, and that memory suffices at the largest sizes. The lines are
+//! those of `scripted_books.rt`.
 
 use crate::LONGEST_TAG;
 use crate::same::holds;

@@ -94,8 +94,8 @@ impl ForgettingPoint {
         )
     }
 
-    /// Returns the words of the step that clears by one random criterion at the charge point, or all
-    /// its profiles.
+    /// Returns the words of the step that clears by one random criterion at the charge point, or
+    /// all its profiles.
     fn clear(&mut self, alloc: Global) -> Written {
         let number = self.random.below(3);
         match self.random.below(8) {
@@ -144,8 +144,8 @@ impl ForgettingPoint {
         }
     }
 
-    /// Checks a row of the central system for the charge point of a random history: one that is held
-    /// is one that it has.
+    /// Checks a row of the central system for the charge point of a random history: one that is
+    /// held is one that it has.
     fn check(&mut self, rt: &impl Abort, row: &Row, state: ProfileState) {
         let keys = Keys::of(row.connector, &row.profile);
         match state {

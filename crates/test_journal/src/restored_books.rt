@@ -1,5 +1,5 @@
-//! Books that are restored from a journal written by hand, with lines of each kind, whole and changed
-//! in each line. `tests/sockets` has journals that are cut, and those of random histories.
+//! Books that are restored from a journal written by hand, with lines of each kind, whole and
+//! changed in each line. `tests/sockets` has journals that are cut, and those of random histories.
 
 ghost use Rattle.std.specs.Prelude.{◌≡◌};
 
@@ -31,9 +31,9 @@ fn said_of<C: Ledger, A: Ledger>(
     said.expect(rt, "error")
 }
 
-/// Returns the state of CP1 in a restored book, for tests of the journal. That is the version of the
-/// store, the number of unconfirmed calls, the link or 0, the link over which a call is to be sent or
-/// 0, the changes that the book and its pass count, and the outcome of the audit.
+/// Returns the state of CP1 in a restored book, for tests of the journal. That is the version of
+/// the store, the number of unconfirmed calls, the link or 0, the link over which a call is to be
+/// sent or 0, the changes that the book and its pass count, and the outcome of the audit.
 fn state_of<C: Ledger, A: Ledger>(
     rt: &impl Abort,
     alloc: Global,
@@ -108,8 +108,8 @@ fn expect_outcome(rt: &impl Abort, alloc: Global, journal: &str, wanted: &str) {
     same_text(rt, begins, wanted, journal);
 }
 
-/// Returns the journal written by hand, for the tests of restoring books. `line` replaces the line of
-/// one number, of which the journal's first line is 1.
+/// Returns the journal written by hand, for the tests of restoring books. `line` replaces the line
+/// of one number, of which the journal's first line is 1.
 fn journal_with(rt: &impl Abort, alloc: Global, number: usize, line: &str) -> String {
     let mut journal = String::new(alloc);
     for (index, own) in JOURNAL.lines().enumerate() {

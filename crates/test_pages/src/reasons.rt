@@ -1,5 +1,5 @@
-//! The reasons why profiles have no part, against reasons found by hand. The cases of `explain` have
-//! the sentences for them.
+//! The reasons why profiles have no part, against reasons found by hand. The cases of `explain`
+//! have the sentences for them.
 
 use crate::samples::{explain, interval, point_with, same};
 use explain_pages::{ExplainedRequest, not_counted, write_json};

@@ -44,8 +44,8 @@ pub(crate) fn news(rt: &impl Abort, alloc: Global) -> Vec<PointActivity> {
     points
 }
 
-/// Returns the observations of a small site's first point, for tests of the status port: it was sent
-/// call 0, rejected it, and sent a message that was refused.
+/// Returns the observations of a small site's first point, for tests of the status port: it was
+/// sent call 0, rejected it, and sent a message that was refused.
 fn first_news(rt: &impl Abort, alloc: Global) -> PointActivity {
     let mut news = PointActivity::new();
     news.see(Observation::Connected {

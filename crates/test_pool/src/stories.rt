@@ -1,7 +1,7 @@
 //! Stories of sessions and workers. The commands of lines: `install`, `ask`, `leave` (to ask and
-//! abandon), `answer` (its first limit in tenths), `finish`; the counts of kept requests and of jobs
-//! that workers began; `open` the gate, `pause`. After each story all workers end, and no request
-//! is kept.
+//! abandon), `answer` (its first limit in tenths), `finish`; the counts of kept requests and of
+//! jobs that workers began; `open` the gate, `pause`. After each story all workers end, and no
+//! request is kept.
 
 use crate::threads::{Story, play};
 use std::alloc::Global;

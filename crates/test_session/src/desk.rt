@@ -1,5 +1,5 @@
-//! Serves sessions one after another on a shared book, one for each line of a story. No worker takes
-//! a job from the queue, which has room for one.
+//! Serves sessions one after another on a shared book, one for each line of a story. No worker
+//! takes a job from the queue, which has room for one.
 
 ghost use Rattle.std.specs.Prelude.{◌≡◌};
 
@@ -45,9 +45,9 @@ pub(crate) struct Tale<'a> {
 /// Plays the lines of a story in a test of sessions, such as `point heartbeat close`: the client
 /// that is served, and the messages that it sends. An operator's session that is `watched` gets the
 /// messages after `|` once it polls its stream. `other` is a job of another session. A `timeless`
-/// story has no clock. Returns for each session how it ended, and the messages that its client read;
-/// then the changes and answers of the book, the calls that wait, the requests that are kept, and
-/// the jobs in the queue. A story whose results are `enough` ends there.
+/// story has no clock. Returns for each session how it ended, and the messages that its client
+/// read; then the changes and answers of the book, the calls that wait, the requests that are kept,
+/// and the jobs in the queue. A story whose results are `enough` ends there.
 pub(crate) fn play<C: Ledger, A: Ledger, R: Abort + Wait + Clock>(
     rt: &R,
     alloc: Global,

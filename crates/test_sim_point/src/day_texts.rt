@@ -1,9 +1,10 @@
 //! Worked days of a simulated point, as texts. Each begins with its steps, a line each, and an
 //! empty line. Then comes a line for each event.
 
-/// Every step, with the replies of a central system, good and bad. The second stop is of a start that the
-/// central system refused. The fourth is of a transaction that has ended, though the central system answered
-/// its stop with an error. The fifth is of a start whose reply has no whole number.
+/// Every step, with the replies of a central system, good and bad. The second stop is of a start
+/// that the central system refused. The fourth is of a transaction that has ended, though the
+/// central system answered its stop with an error. The fifth is of a start whose reply has no whole
+/// number.
 pub(crate) const EVERY_STEP: &str = r#"stop 1
 heartbeat
 start 0 x 1

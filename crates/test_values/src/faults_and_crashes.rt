@@ -1,5 +1,5 @@
-//! A log over a file in memory. Faults at each call in turn; the bytes that a crash leaves behind the acknowledged ones, and
-//! those with which a log opened afterwards goes on.
+//! A log over a file in memory. Faults at each call in turn; the bytes that a crash leaves behind
+//! the acknowledged ones, and those with which a log opened afterwards goes on.
 
 use crate::same::same_text;
 use append_log::{FileAnswer, Log, LogFault, MemoryFile, whole_length};

@@ -1,4 +1,5 @@
-//! A caller of `sweep_compiler` that judges a point's reply, also where memory is refused. The cases
+//! A caller of `sweep_compiler` that judges a point's reply, also where memory is refused. The
+//! cases
 //! `schedules-of-audits` and `replies-to-audits` have the verdicts.
 
 use crate::same::holds;
