@@ -6,7 +6,7 @@ use crate::explain_reader::ExplainReader;
 use crate::lost_profiles::{known_profiles, say_lost};
 use crate::picture_name::{PictureForm, picture_form};
 use crate::unconfirmed::say_unconfirmed;
-use crate::zone_file::{read_clock_shifts, zone_name};
+use crate::zone_file::{check_zone, read_clock_shifts};
 use command_io::{
     ProgramFault, Screen, note_refused_lines, note_unzoned, now, page_status, print_page,
     read_digested_site, read_script_of, script_end, write_file,
@@ -39,27 +39,26 @@ pub fn explain_file<R: Files<File = File> + Input + Print + Eprint + Clock + All
     explaining: Explaining<'_>,
 ) -> Result<u8, ProgramFault> {
     let options = options_of(rt, &explaining)?;
-    let shifts = read_clock_shifts(rt, options.zone, &options.ask)?;
+    let shifts = read_clock_shifts(rt, explaining.zone, &options.ask)?;
     let presentation = Presentation {
         explaining: &explaining,
         screen,
         options,
         shifts: shifts.as_slice(),
     };
-    explain_site(rt, presentation)
+    explain_site(rt, &presentation)
 }
 
 /// Returns the options of `explain`, read from their texts.
-fn options_of<'a, R: Clock + Eprint>(
+fn options_of<R: Clock + Eprint>(
     rt: &R,
-    explaining: &Explaining<'a>,
-) -> Result<ExplainOptions<'a>, ProgramFault> {
-    let picture = picture_of(explaining)?;
-    let zone = zone_name(explaining)?;
+    explaining: &Explaining<'_>,
+) -> Result<ExplainOptions, ProgramFault> {
+    let form = form_of_picture(explaining)?;
+    check_zone(explaining)?;
     let start = start_of(rt, explaining.start)?;
     Ok(ExplainOptions {
-        picture,
-        zone,
+        form,
         ask: ask_of(explaining, start)?,
         end: script_end(rt, explaining.at)?,
     })
@@ -69,22 +68,18 @@ fn options_of<'a, R: Clock + Eprint>(
 /// the exit status.
 fn explain_site<R: Files<File = File> + Input + Print + Eprint + Clock + AllocGlobal>(
     rt: &R,
-    presentation: Presentation<'_>,
+    presentation: &Presentation<'_>,
 ) -> Result<u8, ProgramFault> {
-    let Presentation {
-        explaining,
-        options,
-        ..
-    } = presentation;
+    let explaining = presentation.explaining;
     let (site, digest) = read_digested_site(rt, explaining.site)?;
-    check_connector(&site, explaining.point, options.ask.connector)?;
+    check_connector(&site, explaining.point, presentation.options.ask.connector)?;
     let Source::Journal(folder) = explaining.source else {
         return explain_script(rt, presentation, site);
     };
     let following = FollowRequest {
         site,
         folder,
-        end: options.end,
+        end: presentation.options.end,
         noted_with: Some(digest),
     };
     explain_journal(rt, presentation, following)
@@ -94,7 +89,7 @@ fn explain_site<R: Files<File = File> + Input + Print + Eprint + Clock + AllocGl
 /// exit status.
 fn explain_journal<R: Files<File = File> + Print + Eprint + Clock + AllocGlobal>(
     rt: &R,
-    presentation: Presentation<'_>,
+    presentation: &Presentation<'_>,
     following: FollowRequest<'_>,
 ) -> Result<u8, ProgramFault> {
     let point = presentation.explaining.point;
@@ -109,7 +104,7 @@ fn explain_journal<R: Files<File = File> + Print + Eprint + Clock + AllocGlobal>
 /// read of the point.
 fn explain_followed<R: Files + Print + Eprint + AllocGlobal>(
     rt: &R,
-    presentation: Presentation<'_>,
+    presentation: &Presentation<'_>,
     machine: &Machine,
     reader: &ExplainReader<'_>,
 ) -> Result<(), ProgramFault> {
@@ -125,7 +120,7 @@ fn explain_followed<R: Files + Print + Eprint + AllocGlobal>(
 /// for `explain`. Returns the exit status.
 fn explain_script<R: Files<File = File> + Input + Print + Eprint + AllocGlobal>(
     rt: &R,
-    presentation: Presentation<'_>,
+    presentation: &Presentation<'_>,
     site: Site,
 ) -> Result<u8, ProgramFault> {
     let script = read_script_of(rt, presentation.explaining.source)?;
@@ -155,19 +150,11 @@ fn note_later_changes<R: Eprint + AllocGlobal>(
     Ok(())
 }
 
-/// A requested picture.
-#[derive(Clone, Copy)]
-struct Picture<'a> {
-    path: &'a str,
-    form: PictureForm,
-}
-
 /// The options of `explain`, read from their texts.
 #[derive(Clone, Copy)]
-struct ExplainOptions<'a> {
-    picture: Option<Picture<'a>>,
-    /// The zone of the times in the table.
-    zone: Option<&'a str>,
+struct ExplainOptions {
+    /// The form of the picture, if one is requested.
+    form: Option<PictureForm>,
     ask: Ask,
     end: ScriptEnd,
 }
@@ -177,7 +164,7 @@ struct ExplainOptions<'a> {
 struct Presentation<'a> {
     explaining: &'a Explaining<'a>,
     screen: Screen,
-    options: ExplainOptions<'a>,
+    options: ExplainOptions,
     /// How far the zone's clock is ahead of UTC.
     shifts: &'a [ClockShift],
 }
@@ -186,7 +173,7 @@ impl<'a> Presentation<'a> {
     /// Returns the clock of the time zone that the options of `explain` name, for the times of its
     /// table.
     fn zone_clock(&self) -> Option<ZoneClock<'a>> {
-        let name = self.options.zone?;
+        let name = self.explaining.zone?;
         Some(ZoneClock {
             name,
             shifts: self.shifts,
@@ -194,13 +181,13 @@ impl<'a> Presentation<'a> {
     }
 }
 
-/// Returns the picture that the options of `explain` request, as SVG or HTML by its file's name.
-fn picture_of<'a>(explaining: &Explaining<'a>) -> Result<Option<Picture<'a>>, ProgramFault> {
-    let Some(path) = explaining.picture else {
-        return Ok(None);
-    };
-    let form = picture_form(path)?;
-    Ok(Some(Picture { path, form }))
+/// Returns the form of the picture that the options of `explain` request, SVG or HTML by its file's
+/// name.
+fn form_of_picture(explaining: &Explaining<'_>) -> Result<Option<PictureForm>, ProgramFault> {
+    match explaining.picture {
+        Some(path) => Ok(Some(picture_form(path)?)),
+        None => Ok(None),
+    }
 }
 
 /// Refuses for `explain` a charge point that the site lacks, and a connector that the point lacks.
@@ -252,7 +239,7 @@ fn ask_of(explaining: &Explaining<'_>, start: Instant) -> Result<Ask, ProgramFau
 /// with what is known of its profiles, and writes its picture.
 fn print_explained<R: Files + Print + Eprint + AllocGlobal>(
     rt: &R,
-    presentation: Presentation<'_>,
+    presentation: &Presentation<'_>,
     machine: &Machine,
     known: &[KnownProfile<'_>],
 ) -> Result<(), ProgramFault> {
@@ -273,7 +260,7 @@ fn print_explained<R: Files + Print + Eprint + AllocGlobal>(
 /// profiles, with what is known of them, and writes its picture.
 fn print_explanation<R: Files + Print + Eprint + AllocGlobal>(
     rt: &R,
-    presentation: Presentation<'_>,
+    presentation: &Presentation<'_>,
     unit: Unit,
     book: &PointBook,
     ask: &Ask,
@@ -294,8 +281,8 @@ fn print_explanation<R: Files + Print + Eprint + AllocGlobal>(
         not_counted: rest.as_slice(),
         known,
     };
-    if let Some(picture) = presentation.options.picture {
-        write_drawing(rt, picture, &explained)?;
+    if let (Some(path), Some(form)) = (presentation.explaining.picture, presentation.options.form) {
+        write_drawing(rt, path, form, &explained)?;
     }
     print_page(rt, page_of(alloc, presentation, &explained)?.as_str())
 }
@@ -303,20 +290,21 @@ fn print_explanation<R: Files + Print + Eprint + AllocGlobal>(
 /// Writes the picture that the options of `explain` request.
 fn write_drawing<R: Files + Eprint + AllocGlobal>(
     rt: &R,
-    picture: Picture<'_>,
+    path: &str,
+    form: PictureForm,
     explained: &ExplainedRequest<'_>,
 ) -> Result<(), ProgramFault> {
-    let drawn = match picture.form {
+    let drawn = match form {
         PictureForm::Svg => write_picture(rt.alloc(), explained)?,
         PictureForm::Html => write_page(rt.alloc(), explained)?,
     };
-    write_file(rt, picture.path, drawn.as_str())
+    write_file(rt, path, drawn.as_str())
 }
 
 /// Returns `explain`'s table of an explained schedule, or its JSON.
 fn page_of(
     alloc: Global,
-    presentation: Presentation<'_>,
+    presentation: &Presentation<'_>,
     explained: &ExplainedRequest<'_>,
 ) -> Result<String, AllocError> {
     if presentation.explaining.json {

@@ -19,10 +19,10 @@ const ZONES: &str = "/usr/share/zoneinfo/";
 /// The largest size of a zone's file, in bytes.
 const MAX_ZONE_BYTES: usize = 1_048_576;
 
-/// Returns the zone that the options request for the table.
-pub fn zone_name<'a>(explaining: &Explaining<'a>) -> Result<Option<&'a str>, ProgramFault> {
+/// Refuses a zone that can't be that of the table's times.
+pub fn check_zone(explaining: &Explaining<'_>) -> Result<(), ProgramFault> {
     let Some(name) = explaining.zone else {
-        return Ok(None);
+        return Ok(());
     };
     if explaining.json || explaining.picture.is_some() {
         return Err(ProgramFault::ZoneElsewhere);
@@ -31,7 +31,7 @@ pub fn zone_name<'a>(explaining: &Explaining<'a>) -> Result<Option<&'a str>, Pro
     if !is_zone_name(name) {
         return Err(ProgramFault::NoZone);
     }
-    Ok(Some(name))
+    Ok(())
 }
 
 /// Returns how far the clock of a zone is ahead of UTC in the time of a request; nothing if no zone

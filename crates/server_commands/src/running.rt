@@ -241,7 +241,7 @@ fn serve_restored<
     C: Ledger + Shareable,
     A: Ledger + Shareable,
     N: ListName + Shareable,
-    R: Print + Eprint + Clock + Threads + Wait + Copy + Shareable,
+    R: Print + Eprint + AllocGlobal + Clock + Threads + Wait + Copy + Shareable,
 >(
     site: &Arc<SeatContext<C, A, R, JournalFile<R, N>, N>, Global>,
     clients: ClientPort<'_>,

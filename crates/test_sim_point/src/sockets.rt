@@ -161,11 +161,10 @@ fn a_connection_without_a_close_is_broken(rt: HostRuntime) {
     let (alloc, now) = (rt.alloc(), Some(instant_at(&rt, 0)));
     let whole = sent_by_central(&rt, alloc, CENTRAL, false);
     let closing = sent_by_central(&rt, alloc, "", true);
-    let whole = (whole.as_slice(), 100);
     let mut output = Vec::new(alloc);
-    let broken = ended(&rt, alloc, whole, now, &mut output);
+    let broken = ended(&rt, alloc, (whole.as_slice(), 100), now, &mut output);
     holds(&rt, broken == Ended::Broken, "no close");
-    let broken = ended(&rt, alloc, whole, None, &mut output);
+    let broken = ended(&rt, alloc, (whole.as_slice(), 100), None, &mut output);
     holds(&rt, broken == Ended::Broken, "no clock");
     let closed = ended(&rt, alloc, (closing.as_slice(), 100), now, &mut output);
     holds(&rt, closed == Ended::Closed, "the other closes");
