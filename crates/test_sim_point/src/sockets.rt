@@ -158,14 +158,25 @@ fn a_day_at_a_socket(rt: HostRuntime) {
 /// be read, or the central system closes first.
 #[test]
 fn a_connection_without_a_close_is_broken(rt: HostRuntime) {
-    let (alloc, now) = (rt.alloc(), Some(instant_at(&rt, 0)));
+    let alloc = rt.alloc();
     let whole = sent_by_central(&rt, alloc, CENTRAL, false);
     let closing = sent_by_central(&rt, alloc, "", true);
+    let is_broken = end_with(&rt, alloc, whole.as_slice(), true) == Ended::Broken;
+    holds(&rt, is_broken, "no close");
+    let is_broken = end_with(&rt, alloc, whole.as_slice(), false) == Ended::Broken;
+    holds(&rt, is_broken, "no clock");
+    let is_closed = end_with(&rt, alloc, closing.as_slice(), true) == Ended::Closed;
+    holds(&rt, is_closed, "the other closes");
+}
+
+/// Returns how a simulated charge point ends that reads these bytes from its WebSocket, with a clock
+/// or without.
+fn end_with<R: Abort + Wait>(rt: &R, alloc: Global, input: &[u8], has_clock: bool) -> Ended {
+    let now = if has_clock {
+        Some(instant_at(rt, 0))
+    } else {
+        None
+    };
     let mut output = Vec::new(alloc);
-    let broken = ended(&rt, alloc, (whole.as_slice(), 100), now, &mut output);
-    holds(&rt, broken == Ended::Broken, "no close");
-    let broken = ended(&rt, alloc, (whole.as_slice(), 100), None, &mut output);
-    holds(&rt, broken == Ended::Broken, "no clock");
-    let closed = ended(&rt, alloc, (closing.as_slice(), 100), now, &mut output);
-    holds(&rt, closed == Ended::Closed, "the other closes");
+    ended(rt, alloc, (input, 100), now, &mut output)
 }
