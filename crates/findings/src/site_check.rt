@@ -3,7 +3,6 @@
 use crate::broken_json::first_break;
 use crate::finding::{Finding, Location};
 use crate::found::{ExpectedField, Glance, describe_value, field_message, message_of};
-use crate::json_fault::json_fault_text;
 use crate::site_fields::{SiteNames, site_names};
 use crate::site_json::{JsonVerdict, verdict_on};
 use crate::site_parts::{PartFault, glance_from, read_glance};
@@ -98,7 +97,7 @@ fn is_json(alloc: Global, text: &str, marked: &str) -> Result<bool, AllocError> 
 fn not_json(alloc: Global, text: &str) -> Result<Finding, AllocError> {
     let fault = first_break(alloc, text)?;
     let place = place_in_text(text, fault.offset);
-    let message = json_fault_text(alloc, &fault)?;
+    let message = format!(in alloc; "the JSON breaks where {fault}")?;
     Ok(Finding::fault(place, message))
 }
 

@@ -11,7 +11,7 @@ use crate::profile_check::check_sent_profile;
 use crate::remote_start_check::check_sent_start;
 use crate::report::Report;
 use crate::text_check::why_dropped;
-use findings::{Finding, break_of, json_fault_text, place_in_text};
+use findings::{Finding, break_of, place_in_text};
 use messages::{Action, ActionKind, CallFault, Side, read_fields};
 use ocpp_scalars::Refusal;
 use ocppj_frame::{Frame, FrameFault, Node, ReadingMemory, read_frame};
@@ -80,7 +80,7 @@ fn check_frame(alloc: Global, text: &str, frame: Frame<'_>) -> Result<SentCheck,
     }
 }
 
-/// Describes the break of a message that isn't JSON: the line, the column, and the token wanted.
+/// Describes the break of a message that isn't JSON: the line, the column, and the character there.
 pub fn json_break(alloc: Global, text: &str) -> Result<Option<String>, AllocError>
     ensures { IfOk result (λ message. IsSome message ↔ (tree_of_text text.now ≡ None)) }
 {
@@ -88,8 +88,7 @@ pub fn json_break(alloc: Global, text: &str) -> Result<Option<String>, AllocErro
         return Ok(None);
     };
     let place = place_in_text(text, fault.offset);
-    let found = json_fault_text(alloc, &fault)?;
-    Ok(Some(format!(in alloc; "{place}: {found}")?))
+    Ok(Some(format!(in alloc; "{place}: the JSON breaks where {fault}")?))
 }
 
 /// Returns the findings of `call` in a CALL that it is to send, whose action an operator doesn't

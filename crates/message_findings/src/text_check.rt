@@ -5,7 +5,7 @@ use crate::call_check::{LineCall, check_call};
 use crate::line_text::{LineMessage, Sender};
 use crate::report::Report;
 use crate::sentences::{call_sentence, line_sentence};
-use findings::{JsonFault, excerpt, first_break, json_fault_text};
+use findings::{excerpt, first_break};
 use messages::{ActionKind, CallFault, ReplyStatus};
 use ocpp_scalars::character_count;
 use ocppj_frame::{
@@ -185,27 +185,19 @@ pub(crate) fn why_dropped(
     match read_tree(memory, frame) {
         Ok(tree) => String::from_str(alloc, why_no_message(tree.root())),
         Err(FrameFault::OutOfMemory) => Err(AllocError),
-        Err(_) => broken_at(alloc, frame, before, &first_break(alloc, frame)?),
+        Err(_) => broken_at(alloc, frame, before),
     }
 }
 
-/// Describes, for `check` or `call`, the character at which a frame of OCPP-J stops being JSON,
-/// with its column in the line.
-fn broken_at(
-    alloc: Global,
-    frame: &str,
-    before: usize,
-    fault: &JsonFault,
-) -> Result<String, AllocError> {
-    let mut column = before.saturating_add(1);
-    for (offset, _) in frame.char_indices() {
-        if offset >= fault.offset {
-            break;
-        }
-        column = column.saturating_add(1);
-    }
-    let found = json_fault_text(alloc, fault)?;
-    format!(in alloc; "its JSON breaks at column {column}: {found}")
+/// Describes, for `check` or `call`, where a frame of OCPP-J stops being JSON, with the column in its
+/// line.
+fn broken_at(alloc: Global, frame: &str, before: usize) -> Result<String, AllocError> {
+    let fault = first_break(alloc, frame)?;
+    let good = frame.get(..fault.offset).unwrap_or(frame);
+    let column = before
+        .saturating_add(character_count(good))
+        .saturating_add(1);
+    format!(in alloc; "its JSON breaks at column {column}, where {fault}")
 }
 
 /// Returns, for `check` or `call`, the reason why a JSON text is no message of OCPP-J, such as a
