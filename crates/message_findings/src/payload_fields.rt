@@ -106,6 +106,8 @@ impl Walk {
                 let part = match (self.open.last().map(|open| open.part), next) {
                     (Some(PayloadPart::List(known)), _) | (_, PayloadPart::Object(known)) =>
                         PayloadPart::Object(known),
+                    // An object in place of a list has no known fields.
+                    (_, PayloadPart::List(_)) => PayloadPart::Object(&[]),
                     _ => PayloadPart::Other,
                 };
                 self.begin(part)
