@@ -78,11 +78,11 @@ FOUND = r'''
 {"unit":"kW","points":[]} => unit: "kW" is a string; expected "A" or "W" + points: 0 entries
 {"unit":"A","points":[{"id":"CP1","ceiling":1,"connectors":[1]},{"id":"CP2","ceiling":1,"connectors":[1]},{"id":"CP1","ceiling":1,"connectors":[1]}]} => points[2] (CP1): id: points[0] has it too
 {"unit":"A","points":[{"id":"CP1","ceiling":1,"connectors":[1]},7,{"id":"C P","connectors":null}]} => points[1]: 7 is a number + points[2] (C P): id: "C P" is a string + points[2] (C P): ceiling: it is absent + points[2] (C P): connectors: null counts as absent
-{"unit":"A","points":[{"id":"CP1","ceiling":63.0,"connectors":[32.0,]}]} => line 1, column 69: expected a value after the comma, found `]`: the comma before it is one too many
-{"unit":"A",// amperes => line 1, column 13: expected a name in double quotes after the comma, found `/`: JSON has no comments
-{"unit":"A","points":[{"id":"CP1","ceiling":63.0,"connectors":[32.0]}] => line 1, column 71: expected `,` or `}`, but the JSON ends
-{"unit":"A" "points":[]} => line 1, column 13: expected `,` or `}`, found `"`: a comma is missing before it
-{"unit":"A","points":[{"id":"CP1","ceiling":.5}]} => line 1, column 45: expected a value, found `.`
+{"unit":"A","points":[{"id":"CP1","ceiling":63.0,"connectors":[32.0,]}]} => line 1, column 69: the JSON breaks where ']' is found: the comma before it is one too many
+{"unit":"A",// amperes => line 1, column 13: the JSON breaks where '/' is found: JSON has no comments
+{"unit":"A","points":[{"id":"CP1","ceiling":63.0,"connectors":[32.0]}] => line 1, column 71: the JSON breaks where it ends too early
+{"unit":"A" "points":[]} => line 1, column 13: the JSON breaks where '"' is found: a comma is missing before it
+{"unit":"A","points":[{"id":"CP1","ceiling":.5}]} => line 1, column 45: the JSON breaks where '.' is found
 {"unit":"A","points":[{"id":"CP1","ceiling":1,"connectors":[1],"phases":3}],"name":"garage"} => column 64: warning: "phases" is no field that is looked at + column 77: warning: "name" is no field
 '''
 
@@ -139,8 +139,8 @@ def found_in_files():
         content, _, pieces = row.partition(" => ")
         yield content.encode(), [] if pieces == "-" else pieces.split(" + ")
     yield b'{"unit":"\xff"}', ["the file: it isn't UTF-8 from the byte at offset 9 on"]
-    yield b"\xef\xbb\xbf{}", ["U+FEFF: a byte order mark"]
-    yield b'{"unit":"A",\r\n "points":[}\r\n', ["line 2, column 12: expected a value or `]`"]
+    yield b"\xef\xbb\xbf{}", ["line 1, column 1: the JSON breaks where U+FEFF is found: a byte order mark"]
+    yield b'{"unit":"A",\r\n "points":[}\r\n', ["line 2, column 12: the JSON breaks where '}' is found"]
     many = [point(f"CP{number}") for number in range(1_001)]
     yield site_of(*many[:1_000]), []
     yield site_of(*many), ["points: 1001 entries; expected 1 to 1000"]

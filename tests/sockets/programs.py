@@ -96,7 +96,7 @@ def remote_starts_of_call(program):
         profile.write("}")
         profile.flush()
         given = operator(serving, "--remote-start", "1", "T1", profile.name)
-        why = b"remote-start: line 3, column 1: expected nothing after the value, found `}`\n"
+        why = b"remote-start: line 3, column 1: the JSON breaks where '}' is found: nothing may follow the value\n"
         expect("no JSON", given, (2, b"! remote-start NotACall\n", why))
         expect("the totals", serving.totals(), (2, 2))
     missing = b"central: /none: No such file or directory (os error 2)\ncentral: device: read\n"
@@ -143,7 +143,7 @@ def lines_of_call(program):
         b'[4,"e","TypeConstraintViolation","duration",{}]\n'
     )
     why = (
-        b"2: its JSON breaks at column 7: expected `,` or `]`, but the JSON ends\n"
+        b"2: its JSON breaks at column 7, where it ends too early\n"
         b"4: an operator sends CALLs, which begin with [2,\n"
         b'6: NotImplemented: "Reset" is no action of an operator that is known here\n'
         b"6: NotImplemented: the action isn't known here, or is one of the other side\n"

@@ -1,41 +1,39 @@
-//! Finds the break of a text that isn't JSON (RFC 8259): the first character that isn't allowed.
-//! The library reads the tokens; this module checks their nesting, and finds the break in a token.
+//! Finds the break of a text that isn't JSON (RFC 8259): the first token that isn't allowed.
 
 ghost use Rattle.std.specs.Prelude.{◌≡◌, ◌↔◌, IfOk, IsSome, None};
 ghost use Rattle.ocppj_frame.specs.Read.{tree_of_text};
 
-use crate::json_fault::{ExpectedToken, JsonFault};
-use crate::json_lexeme::{Break, begins_lexeme, is_blank, lexeme_end};
 use json::{Reader, Scratch, Token};
 use ocppj_frame::{FrameFault, ReadingMemory, read_tree};
 use std::alloc::{AllocError, Global};
+use std::{fmt, mem};
 
 /// The maximum nesting depth of lists and objects.
 // The limit of serde_json, which defines which texts are JSON here; the token reader has none.
 const MAX_DEPTH: usize = 127;
 
-/// The state of a walk through the tokens of a text.
-#[derive(Drop)]
-struct Walk {
-    /// The open objects (`true`) and lists.
-    open: Vec<bool>,
-    /// The token that has to come next.
-    wanted: ExpectedToken,
+/// The place at which a text stops being JSON.
+#[derive(Clone, Copy)]
+pub struct JsonBreak {
+    /// Its offset, in bytes.
+    pub offset: usize,
+    /// The character there, or none at the end of the text.
+    found: Option<char>,
+    /// The cure of a common mistake, if it looks like one.
+    hint: Option<&'static str>,
 }
 
-/// A token and its offsets.
-#[derive(Clone, Copy)]
-struct Lexeme<'a> {
-    token: Token<'a>,
-    /// Its offset, in bytes.
-    start: usize,
-    /// The offset of the comma after it, if there is one.
-    // The library skips a comma together with the value before it, and gives no token for it.
-    comma: Option<usize>,
+/// The state of a walk through the tokens of a text. The reader checks commas and colons.
+#[derive(Drop)]
+struct Nesting {
+    /// The open objects (`true`) and lists.
+    open: Vec<bool>,
+    /// Whether a value has to come: the outermost one, or that of a name.
+    wants_value: bool,
 }
 
 /// Returns the break of a text, or none if a tree can be read from it.
-pub fn break_of(alloc: Global, text: &str) -> Result<Option<JsonFault>, AllocError>
+pub fn break_of(alloc: Global, text: &str) -> Result<Option<JsonBreak>, AllocError>
     ensures { IfOk result (λ fault. IsSome fault ↔ (tree_of_text text.now ≡ None)) }
 {
     let mut memory = ReadingMemory::new(alloc);
@@ -47,224 +45,125 @@ pub fn break_of(alloc: Global, text: &str) -> Result<Option<JsonFault>, AllocErr
 }
 
 /// Returns the break of a text from which no tree can be read.
-pub fn first_break(alloc: Global, text: &str) -> Result<JsonFault, AllocError> {
-    let bytes = text.as_bytes();
+pub fn first_break(alloc: Global, text: &str) -> Result<JsonBreak, AllocError> {
     let mut scratch = Scratch::new(alloc);
     let mut reader = Reader::new(text, &mut scratch)?;
-    let mut walk = Walk {
+    let mut nesting = Nesting {
         open: Vec::new(alloc),
-        wanted: ExpectedToken::Value,
+        wants_value: true,
     };
     // Each token has at least one byte, so this range ends the loop without a proof of its own.
     for _ in 0..text.len() {
-        let Some(lexeme) = next_lexeme(bytes, &mut reader) else {
-            break;
-        };
-        if let Some(broken) = walk.take(bytes, lexeme)? {
-            return Ok(fault_at(text, broken));
+        let offset = reader.offset();
+        let is_whole = nesting.is_closed();
+        match reader.next() {
+            Some(token) if nesting.takes(token)? => {}
+            _ => return Ok(break_at(text, offset, is_whole)),
         }
     }
-    let end = Break {
-        offset: text.len(),
-        wanted: walk.wanted,
+    Ok(break_at(text, text.len(), nesting.is_closed()))
+}
+
+impl Nesting {
+    /// Returns whether the outermost value of a text has ended.
+    fn is_closed(&self) -> bool {
+        self.open.is_empty() && !self.wants_value
+    }
+
+    /// Takes the next token of a text. Returns whether the object or list around it allows it.
+    fn takes(&mut self, token: Token<'_>) -> Result<bool, AllocError> {
+        let wants_value = mem::replace(&mut self.wants_value, false);
+        let around = self.open.last().copied();
+        let may_be_value = wants_value || around == Some(false);
+        let may_be_name = !wants_value && around == Some(true);
+        match token {
+            Token::Bad => Ok(false),
+            Token::Key(_) => {
+                self.wants_value = true;
+                Ok(may_be_name)
+            }
+            Token::EndObject => {
+                let _ = self.open.pop();
+                Ok(may_be_name)
+            }
+            Token::EndArray => Ok(self.open.pop() == Some(false)),
+            Token::BeginObject | Token::BeginArray => {
+                self.open.push(matches!(token, Token::BeginObject))?;
+                Ok(may_be_value && self.open.len() <= MAX_DEPTH)
+            }
+            Token::String(_) | Token::Number(_) | Token::Bool(_) | Token::Null => Ok(may_be_value),
+        }
+    }
+}
+
+/// Makes the break of a text at the offset of a token. `is_whole` says whether a whole value comes
+/// before it.
+fn break_at(text: &str, offset: usize, is_whole: bool) -> JsonBreak {
+    let before = text.get(..offset).unwrap_or(text).trim_end();
+    // The reader passes a comma with the value before it, and gives no token for it.
+    let offset = if is_whole && before.ends_with(',') {
+        before.len().saturating_sub(1)
+    } else {
+        offset
     };
-    Ok(fault_at(text, end))
-}
-
-/// Reads the next token of a text that isn't JSON, with its offset and that of the comma after it.
-/// `check` and `call` report where such a text breaks.
-fn next_lexeme<'a>(bytes: &[u8], reader: &mut Reader<'a>) -> Option<Lexeme<'a>> {
-    let start = reader.offset();
-    let token = reader.next()?;
-    Some(Lexeme {
-        token,
-        start,
-        comma: comma_between(bytes, start, reader.offset()),
-    })
-}
-
-/// Returns the offset of the comma after a token of a text that isn't JSON, if only blanks separate
-/// it from `end`.
-fn comma_between(bytes: &[u8], start: usize, end: usize) -> Option<usize> {
-    let mut comma = None;
-    let mut offset = start;
-    for byte in bytes.get(start..end).unwrap_or(&[]) {
-        if *byte == b',' {
-            comma = Some(offset);
-        } else if !is_blank(*byte) {
-            comma = None;
-        }
-        offset = offset.saturating_add(1);
-    }
-    comma
-}
-
-/// Makes the fault of a text that isn't JSON from its break, with the character there.
-fn fault_at(text: &str, broken: Break) -> JsonFault {
-    let Break { offset, wanted } = broken;
-    let mut found = None;
-    for (at, character) in text.char_indices() {
-        if at >= offset {
-            found = Some(character);
-            break;
-        }
-    }
-    JsonFault {
+    let found = text.get(offset..).and_then(|rest| rest.chars().next());
+    let hint = match found {
+        Some(_) if is_whole => Some("nothing may follow the value"),
+        Some(found) => hint_of(before.chars().next_back(), found),
+        None => None,
+    };
+    JsonBreak {
         offset,
         found,
-        wanted,
+        hint,
     }
 }
 
-impl Walk {
-    /// Takes the next token of a text that isn't JSON. Returns the break, if the text breaks at
-    /// this token.
-    fn take(&mut self, bytes: &[u8], lexeme: Lexeme<'_>) -> Result<Option<Break>, AllocError> {
-        match lexeme.token {
-            Token::BeginObject if self.wants_value() => self.begin(lexeme.start, true),
-            Token::BeginArray if self.wants_value() => self.begin(lexeme.start, false),
-            Token::EndObject if self.may_end_object() => Ok(self.end(lexeme.comma)),
-            Token::EndArray if self.may_end_list() => Ok(self.end(lexeme.comma)),
-            Token::Key(_) if self.wants_name() => {
-                self.wanted = ExpectedToken::Value;
-                Ok(None)
+/// Returns the cure of a common mistake where a text stops being JSON: at the character `found`,
+/// with another before it.
+fn hint_of(before: Option<char>, found: char) -> Option<&'static str> {
+    match (before, found) {
+        (Some(','), ']' | '}') => Some("the comma before it is one too many"),
+        (_, '\'') => Some("JSON strings have double quotes"),
+        (_, '\u{201c}' | '\u{201d}' | '\u{201e}' | '\u{2018}' | '\u{2019}' | '\u{ab}' | '\u{bb}') =>
+            { Some("a typographic quote; JSON has the straight one") }
+        (_, '\u{feff}') => Some("a byte order mark; save the file without it"),
+        (_, '\u{a0}') => Some("a no-break space; JSON has only the ordinary space"),
+        (_, '#' | '/') => Some("JSON has no comments"),
+        (_, 'N' | 'T' | 'F') => Some("true, false and null are in lower case"),
+        (None | Some(',' | ':' | '[' | '{'), '"') => Some(
+            "the string there has no end, or isn't allowed as it is",
+        ),
+        (Some('"' | ']' | '}' | 'a'..='z' | '0'..='9'), '"' | '{' | '[' | '0'..='9') => Some(
+            "a comma is missing before it",
+        ),
+        _ => None,
+    }
+}
+
+/// Writes the character found at the break of a text that isn't JSON, and the cure.
+impl fmt::Display for JsonBreak {
+    fn fmt<W: fmt::Write>(&self, f: &mut fmt::Formatter<W>) -> fmt::Result {
+        match self.found {
+            None => f.write_str("it ends too early")?,
+            Some(found) if is_printable(found) => write!(f, "'{found}' is found")?,
+            Some(found) => {
+                let code = u32::from(found);
+                write!(f, "U+{code:04X} is found")?
             }
-            token if is_scalar(token) && self.wants_value() => Ok(self.end_value(lexeme.comma)),
-            _ => Ok(Some(self.break_in(bytes, lexeme.start))),
         }
-    }
-
-    /// Returns whether JSON allows a value next at this place of the text.
-    fn wants_value(&self) -> bool {
-        matches!(
-            self.wanted,
-            ExpectedToken::Value | ExpectedToken::NextValue | ExpectedToken::ValueOrEnd
-        )
-    }
-
-    /// Returns whether JSON allows a member's name next at this place of the text.
-    fn wants_name(&self) -> bool {
-        matches!(
-            self.wanted,
-            ExpectedToken::NameOrEnd | ExpectedToken::NextName
-        )
-    }
-
-    /// Returns whether JSON allows the end of an object next at this place of the text.
-    fn may_end_object(&self) -> bool {
-        matches!(
-            self.wanted,
-            ExpectedToken::NameOrEnd | ExpectedToken::CommaOrObjectEnd
-        )
-    }
-
-    /// Returns whether JSON allows the end of a list next at this place of the text.
-    fn may_end_list(&self) -> bool {
-        matches!(
-            self.wanted,
-            ExpectedToken::ValueOrEnd | ExpectedToken::CommaOrListEnd
-        )
-    }
-
-    /// Opens an object or a list of a text that isn't JSON. Returns a break if it is nested too
-    /// deeply.
-    fn begin(&mut self, start: usize, is_object: bool) -> Result<Option<Break>, AllocError> {
-        if self.open.len() >= MAX_DEPTH {
-            return Ok(Some(Break {
-                offset: start,
-                wanted: ExpectedToken::LessDepth,
-            }));
-        }
-        self.open.push(is_object)?;
-        self.wanted = if is_object {
-            ExpectedToken::NameOrEnd
-        } else {
-            ExpectedToken::ValueOrEnd
-        };
-        Ok(None)
-    }
-
-    /// Closes the innermost object or list of a text that isn't JSON. Returns a break if a comma
-    /// comes after it and isn't allowed there.
-    fn end(&mut self, comma: Option<usize>) -> Option<Break> {
-        let _ = self.open.pop();
-        self.end_value(comma)
-    }
-
-    /// Ends a value of a text that isn't JSON, after which a comma may have come. A comma is a
-    /// break after the outermost value.
-    fn end_value(&mut self, comma: Option<usize>) -> Option<Break> {
-        let wanted = self.wanted_behind_value();
-        let Some(offset) = comma else {
-            self.wanted = wanted;
-            return None;
-        };
-        self.wanted = match wanted {
-            ExpectedToken::CommaOrObjectEnd => ExpectedToken::NextName,
-            ExpectedToken::CommaOrListEnd => ExpectedToken::NextValue,
-            _ => return Some(Break { offset, wanted }),
-        };
-        None
-    }
-
-    /// Returns the token that JSON wants after a value, by the object or list around it.
-    fn wanted_behind_value(&self) -> ExpectedToken {
-        match self.open.last() {
-            Some(true) => ExpectedToken::CommaOrObjectEnd,
-            Some(false) => ExpectedToken::CommaOrListEnd,
-            None => ExpectedToken::Nothing,
-        }
-    }
-
-    /// Returns the break of a text that isn't JSON, at a token that isn't allowed: at its first
-    /// byte, in it, or after it.
-    // The library gives no cause with a bad token, only its offset, so its bytes are read again.
-    fn break_in(&self, bytes: &[u8], start: usize) -> Break {
-        if !self.may_begin(bytes.get(start)) {
-            return Break {
-                offset: start,
-                wanted: self.wanted,
-            };
-        }
-        match lexeme_end(bytes, start) {
-            Ok(end) => Break {
-                offset: behind_blanks(bytes, end),
-                wanted: if self.wants_name() {
-                    ExpectedToken::Colon
-                } else {
-                    self.wanted_behind_value()
-                },
-            },
-            Err(broken) => broken,
-        }
-    }
-
-    /// Returns whether JSON allows a token with this first byte at this place of the text.
-    fn may_begin(&self, first: Option<&u8>) -> bool {
-        match first {
-            Some(b'"') => self.wants_name() || self.wants_value(),
-            Some(first) => self.wants_value() && begins_lexeme(*first),
-            None => false,
+        match self.hint {
+            Some(hint) => write!(f, ": {hint}"),
+            None => Ok(()),
         }
     }
 }
 
-/// Returns whether a token of JSON is a value by itself, such as a string or a number.
-fn is_scalar(token: Token<'_>) -> bool {
-    matches!(
-        token,
-        Token::String(_) | Token::Number(_) | Token::Bool(_) | Token::Null
-    )
-}
-
-/// Returns the offset of the first byte from `start` on that isn't a blank between tokens of JSON.
-fn behind_blanks(bytes: &[u8], start: usize) -> usize {
-    let mut offset = start;
-    for byte in bytes.get(start..).unwrap_or(&[]) {
-        if !is_blank(*byte) {
-            break;
-        }
-        offset = offset.saturating_add(1);
+/// Returns whether a character is visible in print, for the message about a text that isn't JSON.
+// A no-break space looks like a space, and a byte order mark like nothing: their codes are printed.
+fn is_printable(character: char) -> bool {
+    match character {
+        '\u{0}'..='\u{20}' | '\u{7f}'..='\u{a0}' | '\u{2000}'..='\u{200f}' | '\u{feff}' => false,
+        _ => true,
     }
-    offset
 }

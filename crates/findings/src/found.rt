@@ -1,8 +1,8 @@
 //! Messages about a field: the value found there, and the value wanted.
 
-use crate::words::excerpt;
+use crate::words::Excerpt;
 use ocppj_frame::Node;
-use std::alloc::{AllocError, Global};
+use std::fmt;
 
 /// The description of a valid limit in messages.
 pub const LIMIT: &str = "a number from 0 to 100000000.0 with at most one decimal";
@@ -18,55 +18,66 @@ pub enum Glance<'a> {
     Object,
 }
 
-/// A field and the value wanted there.
+/// A known field of an object: the value found there and the value wanted.
 #[derive(Clone, Copy)]
-pub struct ExpectedField<'a> {
-    pub field: &'a str,
-    pub wanted: &'a str,
+pub struct KnownField<'a> {
+    pub name: &'static str,
+    pub wanted: &'static str,
+    /// The value, or none if the field is absent.
+    pub value: Option<Glance<'a>>,
     /// An unknown field of the same object that is probably meant to be this one.
     pub hint: Option<&'a str>,
 }
 
-/// Describes the fault of a field: the value found there, and the value wanted.
-pub fn field_message(
-    alloc: Global,
-    value: Option<Glance<'_>>,
-    expected: &ExpectedField<'_>,
-) -> Result<String, AllocError> {
-    let field = expected.field;
-    let wanted = expected.wanted;
-    let found = describe_value(alloc, value)?;
-    match expected.hint {
-        // A field that is present is spelled right, so no other one is meant to be it.
-        Some(hint) if value.is_none() => {
-            let hint = excerpt(alloc, hint)?;
-            format!(in alloc; "{field}: {found}; expected {wanted} (is \"{hint}\" meant to be it?)")
+impl<'a> KnownField<'a> {
+    /// Makes a field of a checked object, before any value is found.
+    pub fn new(name: &'static str, wanted: &'static str) -> KnownField<'a> {
+        KnownField {
+            name,
+            wanted,
+            value: None,
+            hint: None,
         }
-        _ => format!(in alloc; "{field}: {found}; expected {wanted}"),
     }
 }
 
-/// Joins the description of the value found and that of the value wanted.
-pub fn message_of(alloc: Global, found: &str, wanted: &str) -> Result<String, AllocError> {
-    format!(in alloc; "{found}; expected {wanted}")
+/// Describes the fault of a field: the value found there, and the value wanted.
+impl fmt::Display for KnownField<'_> {
+    fn fmt<W: fmt::Write>(&self, f: &mut fmt::Formatter<W>) -> fmt::Result {
+        let name = self.name;
+        let wanted = self.wanted;
+        let Some(value) = self.value else {
+            write!(f, "{name}: it is absent; expected {wanted}")?;
+            return match self.hint {
+                Some(hint) => {
+                    let hint = Excerpt(hint);
+                    write!(f, " (is \"{hint}\" meant to be it?)")
+                }
+                None => Ok(()),
+            };
+        };
+        // A field that is present is spelled right, so no other one is meant to be it.
+        write!(f, "{name}: {value}; expected {wanted}")
+    }
 }
 
-/// Describes the value at a place.
-pub fn describe_value(alloc: Global, value: Option<Glance<'_>>) -> Result<String, AllocError> {
-    match value {
-        None => String::from_str(alloc, "it is absent"),
-        Some(Glance::Text(text)) => {
-            let text = excerpt(alloc, text)?;
-            format!(in alloc; "\"{text}\" is a string")
+/// Describes the value found at a place of a checked text.
+impl fmt::Display for Glance<'_> {
+    fn fmt<W: fmt::Write>(&self, f: &mut fmt::Formatter<W>) -> fmt::Result {
+        match self {
+            Glance::Text(text) => {
+                let text = Excerpt(text);
+                write!(f, "\"{text}\" is a string")
+            }
+            Glance::Number(number) => {
+                let number = Excerpt(number);
+                write!(f, "{number} is a number")
+            }
+            Glance::Null => f.write_str("null counts as absent"),
+            Glance::Object => f.write_str("found an object"),
+            Glance::List => f.write_str("found a list"),
+            Glance::Bool => f.write_str("found true or false"),
         }
-        Some(Glance::Number(number)) => {
-            let number = excerpt(alloc, number)?;
-            format!(in alloc; "{number} is a number")
-        }
-        Some(Glance::Null) => String::from_str(alloc, "null counts as absent"),
-        Some(Glance::Object) => String::from_str(alloc, "found an object"),
-        Some(Glance::List) => String::from_str(alloc, "found a list"),
-        Some(Glance::Bool) => String::from_str(alloc, "found true or false"),
     }
 }
 

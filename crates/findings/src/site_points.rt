@@ -1,33 +1,35 @@
 //! Checks the points of a site file.
 
-ghost use Rattle.std.specs.Prelude.{◌<◌, OnOk, length};
-
 use crate::finding::{Finding, Location};
-use crate::found::{Glance, describe_value, message_of};
-use crate::site_fields::SiteNames;
-use crate::site_parts::{PartFault, glance_from, read_glance};
-use crate::site_point::{check_point, read_point};
+use crate::found::{Glance, KnownField, LIMIT};
+use crate::site_pass::SitePass;
+use crate::words::{Excerpt, tenths_text};
 use indexmap::IndexMap;
-use json::{Reader, Token};
-use site_rules::SiteFault;
+use json::{Invalid, Reader};
+use ocpp_scalars::read_tenths;
 use std::alloc::{AllocError, Global};
 
 /// The maximum number of findings in the points to keep: two for each point of the largest site.
-pub(crate) const MAX_FOUND: usize = 2_000;
+const MAX_FOUND: usize = 2_000;
 
-/// The value of `points`.
-#[derive(Drop)]
-pub(crate) enum PointsPart<'a> {
-    List(CheckedPoints),
-    Other(Glance<'a>),
-}
+/// The maximum number of points of a site.
+const MAX_POINTS: usize = 1_000;
 
-/// The points so far, and the findings in them.
+/// The maximum number of connectors of a point.
+const MAX_CONNECTORS: usize = 64;
+
+/// The maximum number of characters of a point's identity.
+const MAX_ID_CHARACTERS: usize = 48;
+
+/// The index of `connectors` among a point's fields.
+const CONNECTORS: usize = 2;
+
+/// The points of a site file so far, and the findings in them.
 #[derive(Drop)]
 pub(crate) struct CheckedPoints {
-    pub alloc: Global,
+    alloc: Global,
     /// The number of points.
-    pub count: usize,
+    count: usize,
     /// The index of the first point of each identity.
     places: IndexMap<String, usize>,
     findings: Vec<Finding>,
@@ -35,9 +37,20 @@ pub(crate) struct CheckedPoints {
     more: bool,
 }
 
+/// The connectors of a point.
+#[derive(Drop)]
+struct Connectors {
+    /// The number of connectors.
+    count: usize,
+    /// The sum of the valid ceilings, in tenths.
+    together: u64,
+    /// A message for each ceiling that isn't valid.
+    wrong: Vec<String>,
+}
+
 impl CheckedPoints {
     /// Begins before the first point of a site file, without findings.
-    fn new(alloc: Global) -> CheckedPoints {
+    pub(crate) fn new(alloc: Global) -> CheckedPoints {
         CheckedPoints {
             alloc,
             count: 0,
@@ -47,8 +60,141 @@ impl CheckedPoints {
         }
     }
 
+    /// Reads the list of points of a site file, which has begun, and checks each of them.
+    pub(crate) fn read<'a>(
+        &mut self,
+        pass: &mut SitePass<'a>,
+        reader: &mut Reader<'a>,
+    ) -> Result<(), Invalid> {
+        // Each point has at least one byte, so this range ends the loop without a proof of its own.
+        for index in 0..pass.text.len() {
+            if reader.take_end_array() {
+                break;
+            }
+            self.count = index.saturating_add(1);
+            if pass.begins(reader, b'{') {
+                self.read_point(pass, reader, index)?;
+            } else {
+                let value = pass.read_value(reader)?;
+                let outcome = self.add_other(index, value);
+                pass.note(outcome);
+            }
+        }
+        Ok(())
+    }
+
+    /// Adds a fault for an entry in the list of points of a site file that is no object.
+    fn add_other(&mut self, index: usize, value: Glance<'_>) -> Result<(), AllocError> {
+        let message = format!(in self.alloc;
+            "{value}; expected an object with id, ceiling and connectors"
+        )?;
+        self.add(Finding::fault(Location::Point { index, id: None }, message))
+    }
+
+    /// Reads a point of a site file, whose object has begun, and checks it.
+    fn read_point<'a>(
+        &mut self,
+        pass: &mut SitePass<'a>,
+        reader: &mut Reader<'a>,
+        index: usize,
+    ) -> Result<(), Invalid> {
+        let mut fields = [
+            KnownField::new(
+                "id",
+                "a string of 1 to 48 of the characters A-Z, a-z, 0-9, `.`, `_`, `-` and `~`",
+            ),
+            KnownField::new("ceiling", LIMIT),
+            KnownField::new(
+                "connectors",
+                "a list of 1 to 64 ceilings, of connectors 1, 2, .., such as [32.0,32.0]",
+            ),
+        ];
+        let mut connectors = Connectors::new(self.alloc);
+        for _ in 0..pass.text.len() {
+            let Some(place) = pass.next_field(reader, &mut fields)? else {
+                break;
+            };
+            let value = if place == CONNECTORS && pass.begins(reader, b'[') {
+                // Of duplicate fields the last one counts. The earlier messages are freed first.
+                connectors = Connectors::new(self.alloc);
+                connectors.read(pass, reader)?;
+                Glance::List
+            } else {
+                pass.read_value(reader)?
+            };
+            if let Some(field) = fields.get_mut(place) {
+                field.value = Some(value);
+            }
+        }
+        let outcome = self.check(index, fields, connectors);
+        pass.note(outcome);
+        Ok(())
+    }
+
+    /// Checks a point of a site file, and adds the findings in it.
+    fn check(
+        &mut self,
+        index: usize,
+        fields: [KnownField<'_>; 3],
+        list: Connectors,
+    ) -> Result<(), AllocError> {
+        // Only the number of the other points matters: their findings wouldn't be kept.
+        if self.more {
+            return Ok(());
+        }
+        let alloc = self.alloc;
+        let [id, ceiling, connectors] = fields;
+        let mut faults = Vec::new(alloc);
+        if let Some(fault) = self.id_fault(index, &id)? {
+            faults.push(fault)?;
+        }
+        let most = ceiling.value.and_then(ceiling_of);
+        if most.is_none() {
+            faults.push(format!(in alloc; "{ceiling}")?)?;
+        }
+        let mut together = 0;
+        if let Some(Glance::List) = connectors.value {
+            together = list.add_faults(alloc, &mut faults)?;
+        } else {
+            faults.push(format!(in alloc; "{connectors}")?)?;
+        }
+        for fault in faults {
+            self.add(Finding::fault(place_of(alloc, index, &id)?, fault))?;
+        }
+        match most {
+            Some(most) if together > most => {
+                let message = together_message(alloc, most, together)?;
+                self.add(Finding::remark(place_of(alloc, index, &id)?, message))
+            }
+            _ => Ok(()),
+        }
+    }
+
+    /// Describes the fault of the `id` of a point in a site file, if it isn't valid or is that of
+    /// an earlier point. Notes this point otherwise.
+    fn id_fault(
+        &mut self,
+        index: usize,
+        id: &KnownField<'_>,
+    ) -> Result<Option<String>, AllocError> {
+        let alloc = self.alloc;
+        match id.value {
+            Some(Glance::Text(text)) if is_point_id(text) => {
+                if let Some(earlier) = self.places.get(text) {
+                    let message = format!(in alloc;
+                        "id: points[{earlier}] has it too; each point has its own"
+                    )?;
+                    return Ok(Some(message));
+                }
+                self.places.insert(String::from_str(alloc, text)?, index)?;
+                Ok(None)
+            }
+            _ => Ok(Some(format!(in alloc; "{id}")?)),
+        }
+    }
+
     /// Adds a finding in the points of a site file, unless there are too many.
-    pub(crate) fn add(&mut self, finding: Finding) -> Result<(), AllocError> {
+    fn add(&mut self, finding: Finding) -> Result<(), AllocError> {
         if self.findings.len() >= MAX_FOUND {
             self.more = true;
             return Ok(());
@@ -57,25 +203,20 @@ impl CheckedPoints {
         Ok(())
     }
 
-    /// Returns for `central check` the index of an earlier point of this identity in a site file.
-    /// If there is none, notes this point.
-    pub(crate) fn earlier(&mut self, id: &str, index: usize) -> Result<Option<usize>, AllocError> {
-        if let Some(earlier) = self.places.get(id) {
-            return Ok(Some(*earlier));
-        }
-        self.places
-            .insert(String::from_str(self.alloc, id)?, index)?;
-        Ok(None)
-    }
-
-    /// Appends the findings in the points of a site file, and a warning if there are more.
+    /// Appends the findings in the points of a site file: a fault if there are too few or too many
+    /// points, those in each, and a warning if there are more findings.
     pub(crate) fn append_to(self, findings: &mut Vec<Finding>) -> Result<(), AllocError> {
         let CheckedPoints {
             alloc,
+            count,
             findings: mut found,
             more,
             ..
         } = self;
+        if count == 0 || count > MAX_POINTS {
+            let message = format!(in alloc; "points: {count} entries; expected 1 to {MAX_POINTS}")?;
+            findings.push(Finding::fault(Location::File, message))?;
+        }
         findings.append(&mut found)?;
         if more {
             let message = format!(in alloc;
@@ -87,65 +228,102 @@ impl CheckedPoints {
     }
 }
 
-/// Reads the value of `points` in a site file for `central check`, and checks each point.
-pub(crate) fn read_points<'a>(
-    alloc: Global,
-    names: &SiteNames<'_>,
-    reader: &mut Reader<'a>,
-) -> Result<PointsPart<'a>, PartFault>
-    ensures shorter { OnOk result (length reader.new < length reader.old) }
-{
-    let token = reader.next().ok_or(PartFault::NotJson)?;
-    if let Token::BeginArray = token {
-        return Ok(PointsPart::List(read_entries(alloc, names, reader)?));
+impl Connectors {
+    /// Begins before the first connector of a point in a site file.
+    fn new(alloc: Global) -> Connectors {
+        Connectors {
+            count: 0,
+            together: 0,
+            wrong: Vec::new(alloc),
+        }
     }
-    Ok(PointsPart::Other(glance_from(token, reader)?))
+
+    /// Reads the list of the ceilings of a point's connectors in a site file, which has begun.
+    fn read<'a>(
+        &mut self,
+        pass: &mut SitePass<'a>,
+        reader: &mut Reader<'a>,
+    ) -> Result<(), Invalid> {
+        for index in 0..pass.text.len() {
+            if reader.take_end_array() {
+                break;
+            }
+            self.count = index.saturating_add(1);
+            let value = pass.read_value(reader)?;
+            let outcome = self.add(pass.alloc, index, value);
+            pass.note(outcome);
+        }
+        Ok(())
+    }
+
+    /// Adds the ceiling of a point's connector in a site file, or a message if it isn't valid.
+    fn add(&mut self, alloc: Global, index: usize, value: Glance<'_>) -> Result<(), AllocError> {
+        if let Some(ceiling) = ceiling_of(value) {
+            self.together = self.together.saturating_add(ceiling);
+        } else if self.wrong.len() <= MAX_FOUND {
+            // One message more than are kept makes `CheckedPoints` warn that there are more.
+            self.wrong.push(format!(in alloc; "connectors[{index}]: {value}; expected {LIMIT}")?)?;
+        }
+        Ok(())
+    }
+
+    /// Adds the faults of the list of a point's connectors in a site file. Returns the sum of their
+    /// ceilings, 0 if one isn't valid.
+    fn add_faults(self, alloc: Global, faults: &mut Vec<String>) -> Result<u64, AllocError> {
+        let Connectors {
+            count,
+            together,
+            mut wrong,
+        } = self;
+        if count == 0 || count > MAX_CONNECTORS {
+            faults.push(format!(in alloc;
+                "connectors: {count} entries; expected 1 to {MAX_CONNECTORS}"
+            )?)?;
+        }
+        let sum = if wrong.is_empty() { together } else { 0 };
+        faults.append(&mut wrong)?;
+        Ok(sum)
+    }
 }
 
-/// Reads the list of points in a site file for `central check`, and checks each of them.
-fn read_entries(
-    alloc: Global,
-    names: &SiteNames<'_>,
-    reader: &mut Reader<'_>,
-) -> Result<CheckedPoints, PartFault>
-    ensures shorter { OnOk result (length reader.new < length reader.old) }
-{
-    let mut points = CheckedPoints::new(alloc);
-    while !reader.take_end_array() {
-        check_entry(&mut points, names, reader)?;
-        points.count = points.count.saturating_add(1);
+/// Returns the ceiling of a point or a connector in a site file, in tenths, if its value is valid.
+fn ceiling_of(value: Glance<'_>) -> Option<u64> {
+    match value {
+        Glance::Number(text) => read_tenths(text).ok().map(u64::from),
+        _ => None,
     }
-    Ok(points)
 }
 
-/// Reads and checks the next entry in the list of points of a site file for `central check`.
-fn check_entry(
-    points: &mut CheckedPoints,
-    names: &SiteNames<'_>,
-    reader: &mut Reader<'_>,
-) -> Result<(), PartFault>
-    ensures shorter { OnOk result (length reader.new < length reader.old) }
-{
-    // Only the number of the other points matters: their findings wouldn't be kept.
-    if points.more {
-        read_glance(reader)?;
-        return Ok(());
-    }
-    let index = points.count;
-    let token = reader.next().ok_or(PartFault::NotJson)?;
-    if let Token::BeginObject = token {
-        let point = read_point(points.alloc, index, reader)?;
-        check_point(points, names, point)?;
-        return Ok(());
-    }
-    let value = glance_from(token, reader)?;
-    let found = describe_value(points.alloc, Some(value))?;
-    let message = message_of(
-        points.alloc,
-        &found,
-        "an object with id, ceiling and connectors",
-    )?;
-    let place = Location::Point { index, id: None };
-    points.add(Finding::fault(place, message))?;
-    Ok(())
+/// Returns whether a text in a site file is valid as the `id` of a point.
+fn is_point_id(id: &str) -> bool {
+    !id.is_empty() && id.len() <= MAX_ID_CHARACTERS && id.bytes().all(is_id_byte)
+}
+
+/// Returns whether the `id` of a point in a site file may contain this byte.
+fn is_id_byte(byte: u8) -> bool {
+    matches!(byte, b'A'..=b'Z' | b'a'..=b'z' | b'0'..=b'9' | b'.' | b'_' | b'-' | b'~')
+}
+
+/// Returns the place of a finding in a point of a site file, with its identity if that is a string
+/// that isn't empty.
+fn place_of(alloc: Global, index: usize, id: &KnownField<'_>) -> Result<Location, AllocError> {
+    let id = match id.value {
+        Some(Glance::Text(id)) if !id.is_empty() => {
+            let id = Excerpt(id);
+            Some(format!(in alloc; "{id}")?)
+        }
+        _ => None,
+    };
+    Ok(Location::Point { index, id })
+}
+
+/// Describes, for a remark, that the ceilings of a point's connectors in a site file add up to more
+/// than the point's.
+// It is no warning, since this is so at most points.
+fn together_message(alloc: Global, ceiling: u64, together: u64) -> Result<String, AllocError> {
+    let together = tenths_text(alloc, together)?;
+    let ceiling = tenths_text(alloc, ceiling)?;
+    format!(in alloc;
+        "the connectors' ceilings are {together} together, more than the point's {ceiling}; each connector alone is bounded by the point's"
+    )
 }

@@ -2,25 +2,30 @@
 
 use ocpp_scalars::{Instant, push_instant};
 use std::alloc::{AllocError, Global};
+use std::fmt;
 
 /// The maximum number of characters of an excerpt.
 const MAX_EXCERPT: usize = 60;
 
-/// Returns the first 60 characters of a text, and dots if there are more.
-pub fn excerpt(alloc: Global, text: &str) -> Result<String, AllocError> {
-    let mut out = String::new(alloc);
-    for character in text.chars().take(MAX_EXCERPT) {
-        // A finding is one line, which a line feed in the checked text would break.
-        if character.is_control() {
-            out.push('\u{fffd}')?;
-        } else {
-            out.push(character)?;
+/// The first 60 characters of a text, and dots if there are more.
+#[derive(Clone, Copy)]
+pub struct Excerpt<'a>(pub &'a str);
+
+impl fmt::Display for Excerpt<'_> {
+    fn fmt<W: fmt::Write>(&self, f: &mut fmt::Formatter<W>) -> fmt::Result {
+        for character in self.0.chars().take(MAX_EXCERPT) {
+            // A finding is one line, which a line feed in the checked text would break.
+            if character.is_control() {
+                f.write_char('\u{fffd}')?;
+            } else {
+                f.write_char(character)?;
+            }
+        }
+        match self.0.chars().nth(MAX_EXCERPT) {
+            Some(_) => f.write_str(".."),
+            None => Ok(()),
         }
     }
-    if text.chars().nth(MAX_EXCERPT).is_some() {
-        out.push_str("..")?;
-    }
-    Ok(out)
 }
 
 /// Writes an instant, as `2025-01-31T18:00:00Z`.

@@ -1,10 +1,10 @@
 //! Checks a CALL in a line of a script.
 
 use crate::field_fault::field_fault_message;
-use crate::line_hints::point_hint;
+use crate::line_hints::unknown_point;
 use crate::line_text::{LineMessage, Sender};
-use crate::payload_fields::{UnknownField, repeated_payload_fields, unknown_payload_fields};
-use crate::payload_objects::{PayloadObject, names_of};
+use crate::payload_fields::{PayloadFields, UnknownField, payload_fields};
+use crate::payload_objects::names_of;
 use crate::printed_check::depends_on_state;
 use crate::profile_check::check_install;
 use crate::remote_start_check::check_remote_start;
@@ -12,8 +12,8 @@ use crate::report::Report;
 use crate::sentences::sentence;
 use crate::text_check::not_composite;
 use crate::zone_check::remark_unzoned;
-use findings::{excerpt, outline_of, similar_name};
-use messages::{Action, ActionKind, CallFault, ScheduleRequest, Side, fields_of, read_fields};
+use findings::{Excerpt, similar_name};
+use messages::{Action, ActionKind, CallFault, Side, fields_of, read_fields};
 use ocpp_scalars::Refusal;
 use ocppj_frame::Node;
 use profile::{Criteria, Unit};
@@ -27,21 +27,6 @@ pub(crate) struct LineCall<'a, 'node, 'memory> {
     pub text: &'a LineMessage<'a>,
     pub action: &'a str,
     pub payload: Node<'node, 'memory>,
-}
-
-impl<'a, 'node, 'memory> LineCall<'a, 'node, 'memory> {
-    /// Makes a `LineCall` of the message in a line of a script, its action and its payload.
-    pub(crate) fn new(
-        text: &'a LineMessage<'a>,
-        action: &'a str,
-        payload: Node<'node, 'memory>,
-    ) -> LineCall<'a, 'node, 'memory> {
-        LineCall {
-            text,
-            action,
-            payload,
-        }
-    }
 }
 
 /// Checks a CALL in a line of a script: whether its sender has the action, then its payload.
@@ -71,7 +56,7 @@ fn unknown_action_message(alloc: Global, sender: Side, name: &str) -> Result<Str
         Side::Operator => "an operator",
         Side::Point => "a point",
     };
-    let action = excerpt(alloc, name)?;
+    let action = Excerpt(name);
     match similar_name(alloc, name, actions.as_slice())? {
         Some(meant) => format!(in alloc;
             "NotImplemented: \"{action}\" is no action of {sender} (\"{meant}\" is one)"
@@ -100,65 +85,43 @@ fn actions_of(alloc: Global, side: Side) -> Result<Vec<&'static str>, AllocError
 /// Checks the payload of a CALL in a line of a script: its fields, then its request.
 fn check_action(report: &mut Report, call: &LineCall<'_, '_, '_>, kind: ActionKind) {
     let alloc = report.alloc;
-    // Of a point's CALL only some fields are read, so its other fields aren't unknown ones.
-    if kind.side().is_same(Side::Operator) {
-        warn_repeated(report, call.text.frame, kind);
-    }
+    let Ok(fields) = payload_fields(alloc, call.text.frame, kind) else {
+        return report.fail();
+    };
+    warn_repeated(report, &fields);
     match read_fields(alloc, kind, call.payload) {
-        Ok(action) => check_asked(report, call, kind, action),
+        Ok(Action::ClearChargingProfile(criteria)) => check_clear(report, call, &criteria, &fields),
+        Ok(action) => {
+            warn_unknown(report, kind, &fields);
+            remark_unzoned(report, kind, call.payload);
+            check_asked(report, call, action);
+        }
         Err(CallFault::Refused(Refusal::OutOfMemory)) => report.fail(),
         Err(fault) => {
             report.fault(field_fault_message(alloc, call.payload, kind, fault));
-            if kind.side().is_same(Side::Operator) {
-                warn_unknown(report, call.text.frame, kind);
-            }
+            warn_unknown(report, kind, &fields);
         }
     }
 }
 
 /// Checks the request of a CALL in a line of a script, whose fields are right, by its action.
-fn check_asked(report: &mut Report, call: &LineCall<'_, '_, '_>, kind: ActionKind, action: Action) {
-    check_operator_fields(report, call, kind);
+fn check_asked(report: &mut Report, call: &LineCall<'_, '_, '_>, action: Action) {
     match action {
         Action::SetChargingProfile { connector, profile } => {
             check_install(report, call.text, connector, profile)
         }
-        Action::ClearChargingProfile(criteria) => check_clear(report, call, &criteria),
-        Action::GetCompositeSchedule(request) => check_ask(report, call.text, &request),
+        Action::GetCompositeSchedule(request) => {
+            check_ask(report, call.text, request.connector, request.duration)
+        }
         Action::RemoteStartTransaction(start) => check_remote_start(report, call.text, start),
         // An audit asks the point for a schedule in the site's unit, so the same checks apply.
         Action::AuditPoint {
             connector,
             duration,
-        } => check_audit_request(report, call.text, connector, duration),
+        } => check_ask(report, call.text, connector, duration),
         Action::StartTransaction(start) => check_start(report, call.text, start.connector),
         _ => check_refused(report, call.text),
     }
-}
-
-/// Warns of unknown fields of an operator's CALL in a script, and remarks on its instants without a
-/// zone.
-fn check_operator_fields(report: &mut Report, call: &LineCall<'_, '_, '_>, kind: ActionKind) {
-    // An unknown field of a clear has a warning of its own: it may clear more than is meant.
-    if !kind.side().is_same(Side::Operator) || kind == ActionKind::ClearChargingProfile {
-        return;
-    }
-    warn_unknown(report, call.text.frame, kind);
-    let payload = PayloadObject {
-        fields: fields_of(kind),
-        node: call.payload,
-    };
-    remark_unzoned(report, payload);
-}
-
-/// Checks an operator's AuditPoint in a line of a script, as a request for a schedule.
-fn check_audit_request(report: &mut Report, text: &LineMessage<'_>, connector: u32, duration: u32) {
-    let request = ScheduleRequest {
-        connector,
-        duration,
-        unit: None,
-    };
-    check_ask(report, text, &request);
 }
 
 /// Reports the refusal of a CALL in a script whose action has no other check, unless it depends on
@@ -166,55 +129,28 @@ fn check_audit_request(report: &mut Report, text: &LineMessage<'_>, connector: u
 fn check_refused(report: &mut Report, text: &LineMessage<'_>) {
     match text.refusal() {
         Some(Refusal::UnknownPoint) => refuse_point(report, text),
-        Some(refusal) if !depends_on_state(refusal) => {
-            let why = sentence(refusal);
-            report.fault(format!(in report.alloc; "{refusal}: {why}"));
-        }
+        Some(refusal) if !depends_on_state(refusal) => reject(report, refusal, None),
         _ => {}
     }
 }
 
 /// Warns, for `check` or `call`, of duplicate fields of an operator's CALL.
-pub(crate) fn warn_repeated(report: &mut Report, frame: &str, kind: ActionKind) {
-    let Ok(repeated) = repeated_fields(report.alloc, frame, kind) else {
-        return report.fail();
-    };
-    for name in &repeated {
+pub(crate) fn warn_repeated(report: &mut Report, fields: &PayloadFields) {
+    for name in &fields.repeated {
         report.warn(format!(in report.alloc;
             "\"{name}\" is a duplicate field, and the last one counts"
         ));
     }
 }
 
-/// Returns the duplicate fields in the payload of an operator's CALL, for a warning of `check` or
-/// `call` about each.
-fn repeated_fields(alloc: Global, frame: &str, kind: ActionKind) -> Result<Vec<&str>, AllocError> {
-    let outline = outline_of(alloc, frame)?;
-    repeated_payload_fields(alloc, frame, &outline, kind)
-}
-
-/// Returns the unknown fields in the payload of an operator's CALL, which have no effect, for
-/// warnings of `check` or `call`.
-pub(crate) fn unknown_fields(
-    alloc: Global,
-    frame: &str,
-    kind: ActionKind,
-) -> Result<Vec<UnknownField<'_>>, AllocError> {
-    let outline = outline_of(alloc, frame)?;
-    unknown_payload_fields(alloc, frame, &outline, kind)
-}
-
 /// Warns, for `check` or `call`, of unknown fields of an operator's CALL.
-pub(crate) fn warn_unknown(report: &mut Report, frame: &str, kind: ActionKind) {
+pub(crate) fn warn_unknown(report: &mut Report, kind: ActionKind, fields: &PayloadFields) {
     // OCPP doesn't have these two actions, so it doesn't define their fields.
     let whose = match kind {
         ActionKind::AuditPoint | ActionKind::PointStatus => "",
         _ => " of OCPP",
     };
-    let Ok(unknown) = unknown_fields(report.alloc, frame, kind) else {
-        return report.fail();
-    };
-    for field in &unknown {
+    for field in &fields.unknown {
         report.warn(unknown_field_message(report.alloc, field, whose));
     }
 }
@@ -223,12 +159,12 @@ pub(crate) fn warn_unknown(report: &mut Report, frame: &str, kind: ActionKind) {
 /// field that was probably meant.
 fn unknown_field_message(
     alloc: Global,
-    field: &UnknownField<'_>,
+    field: &UnknownField,
     whose: &str,
 ) -> Result<String, AllocError> {
-    let name = excerpt(alloc, field.name)?;
-    let known = names_of(alloc, field.fields)?;
-    match similar_name(alloc, field.name, known.as_slice())? {
+    let name = Excerpt(field.name.as_str());
+    let known = names_of(alloc, field.known)?;
+    match similar_name(alloc, field.name.as_str(), known.as_slice())? {
         Some(meant) => format!(in alloc;
             "\"{name}\" is no field{whose} there and has no effect (\"{meant}\" is one)"
         ),
@@ -238,15 +174,17 @@ fn unknown_field_message(
 
 /// Checks a ClearChargingProfile in a line of a script: whether the site has its point, and its
 /// fields that are no criteria.
-fn check_clear(report: &mut Report, call: &LineCall<'_, '_, '_>, criteria: &Criteria) {
+// An unknown field of a clear has a warning of its own: it may clear more than is meant.
+fn check_clear(
+    report: &mut Report,
+    call: &LineCall<'_, '_, '_>,
+    criteria: &Criteria,
+    fields: &PayloadFields,
+) {
     if call.text.site.place_of(call.text.point).is_none() {
         refuse_point(report, call.text);
     }
-    let kind = ActionKind::ClearChargingProfile;
-    match unknown_fields(report.alloc, call.text.frame, kind) {
-        Ok(unknown) => warn_of_clear(report, call.payload, criteria, &unknown),
-        Err(AllocError) => report.fail(),
-    }
+    warn_of_clear(report, call.payload, criteria, fields);
 }
 
 /// Warns, for `check` or `call`, of a ClearChargingProfile that clears more than it seems to. It
@@ -256,47 +194,28 @@ pub(crate) fn warn_of_clear(
     report: &mut Report,
     payload: Node<'_, '_>,
     criteria: &Criteria,
-    unknown: &Vec<UnknownField<'_>>,
+    fields: &PayloadFields,
 ) {
     if has_no_criterion(criteria) {
-        return report.warn(clears_all_message(report.alloc, payload, unknown));
+        return report.warn(clears_all_message(report.alloc, payload, fields));
     }
-    for field in unknown {
-        report.warn(no_criterion_message(report.alloc, field.name));
+    for field in &fields.unknown {
+        let name = Excerpt(field.name.as_str());
+        report.warn(format!(in report.alloc;
+            "\"{name}\" is no criterion and has no effect, so more may be CLEARED than is meant: id, connectorId, chargingProfilePurpose and stackLevel are the criteria"
+        ));
     }
-}
-
-/// Describes, for a warning of `check` or `call`, a field that is no criterion of a
-/// ClearChargingProfile. More may be cleared than is meant.
-fn no_criterion_message(alloc: Global, name: &str) -> Result<String, AllocError> {
-    let name = excerpt(alloc, name)?;
-    format!(in alloc;
-        "\"{name}\" is no criterion and has no effect, so more may be CLEARED than is meant: id, connectorId, chargingProfilePurpose and stackLevel are the criteria"
-    )
-}
-
-/// Returns the names of the criteria that are null in a ClearChargingProfile without any other
-/// criterion, for a warning of `check` or `call`.
-fn null_criteria(alloc: Global, payload: Node<'_, '_>) -> Result<Vec<&'static str>, AllocError> {
-    let mut names = Vec::new(alloc);
-    for row in fields_of(ActionKind::ClearChargingProfile) {
-        let name = row.name().text();
-        if payload.field(name).is_some() {
-            names.push(name)?;
-        }
-    }
-    Ok(names)
 }
 
 /// Returns whether a ClearChargingProfile without a criterion has fields, unknown or null, so that
 /// `call` takes it for a mistake.
-pub(crate) fn has_fields(payload: Node<'_, '_>, unknown: &Vec<UnknownField<'_>>) -> bool {
+pub(crate) fn has_fields(payload: Node<'_, '_>, fields: &PayloadFields) -> bool {
     for row in fields_of(ActionKind::ClearChargingProfile) {
         if payload.field(row.name().text()).is_some() {
             return true;
         }
     }
-    !unknown.is_empty()
+    !fields.unknown.is_empty()
 }
 
 /// Describes, for a warning of `check` or `call`, a ClearChargingProfile without a criterion, and
@@ -304,21 +223,24 @@ pub(crate) fn has_fields(payload: Node<'_, '_>, unknown: &Vec<UnknownField<'_>>)
 fn clears_all_message(
     alloc: Global,
     payload: Node<'_, '_>,
-    unknown: &Vec<UnknownField<'_>>,
+    fields: &PayloadFields,
 ) -> Result<String, AllocError> {
     let mut message = String::from_str(
         alloc,
         "a clear without a criterion clears EVERYTHING that the point has, a fuse limit (ChargePointMaxProfile) too",
     )?;
-    for field in unknown {
-        let name = excerpt(alloc, field.name)?;
-        match criterion_meant(alloc, field.name)? {
+    for field in &fields.unknown {
+        let name = Excerpt(field.name.as_str());
+        match criterion_meant(alloc, field.name.as_str())? {
             Some(meant) => write!(message, "; \"{name}\" isn't one (\"{meant}\" is)")?,
             None => write!(message, "; \"{name}\" isn't one")?,
         }
     }
-    for name in &null_criteria(alloc, payload)? {
-        write!(message, "; \"{name}\" is null, which is none")?;
+    for row in fields_of(ActionKind::ClearChargingProfile) {
+        let name = row.name().text();
+        if payload.field(name).is_some() {
+            write!(message, "; \"{name}\" is null, which is none")?;
+        }
     }
     Ok(message)
 }
@@ -342,78 +264,49 @@ fn criterion_meant(alloc: Global, name: &str) -> Result<Option<&'static str>, Al
 /// Reports that the site lacks the point of a message in a script. Adds the identity that is
 /// probably meant.
 pub(crate) fn refuse_point(report: &mut Report, text: &LineMessage<'_>) {
-    let message = unknown_point_message(report, text.site, text.point);
+    let message = unknown_point(report, text.site, text.point);
     report.fault(message);
 }
 
-/// Describes the refusal of a message for a point that the site lacks. Adds the identity that is
-/// probably meant.
-fn unknown_point_message(report: &mut Report, site: &Site, id: &str) -> Result<String, AllocError> {
-    let alloc = report.alloc;
-    let hint = point_hint(report, site, id)?;
-    let id = excerpt(alloc, id)?;
-    format!(in alloc; "UnknownPoint: the site has no point \"{id}\"{hint}")
-}
-
 /// Returns the point of the site that a line of a script names, if the site has it.
-pub(crate) fn point_of<'a>(site: &'a Site, text: &LineMessage<'_>) -> Option<SitePoint<'a>> {
-    site.point(site.place_of(text.point)?)
+pub(crate) fn point_of<'a>(text: &LineMessage<'a>) -> Option<SitePoint<'a>> {
+    text.site.point(text.site.place_of(text.point)?)
 }
 
 /// Checks a GetCompositeSchedule or an AuditPoint in a script by its answer. Reports a refusal
 /// unless it depends on the point's state.
-fn check_ask(report: &mut Report, text: &LineMessage<'_>, request: &ScheduleRequest) {
+fn check_ask(report: &mut Report, text: &LineMessage<'_>, connector: u32, duration: u32) {
     match text.rejection() {
         None => {}
         Some(refusal) if depends_on_state(refusal) => {}
         Some(Refusal::UnknownPoint) => refuse_point(report, text),
         Some(refusal) => {
-            let found = ask_found(report.alloc, text, request, refusal);
+            let found = match refusal {
+                Refusal::BadDuration | Refusal::PastCalendar => {
+                    format!(in report.alloc; "duration is {duration}")
+                }
+                _ => place_found(report.alloc, text, connector, refusal),
+            };
             reject_found(report, refusal, found);
         }
     }
 }
 
-/// Describes the value for which a GetCompositeSchedule or an AuditPoint in a script is refused.
-fn ask_found(
+/// Describes the value in an operator's CALL in a script for which the site refuses it.
+pub(crate) fn place_found(
     alloc: Global,
-    text: &LineMessage<'_>,
-    request: &ScheduleRequest,
-    refusal: Refusal,
-) -> Result<String, AllocError> {
-    let connector = request.connector;
-    let duration = request.duration;
-    match refusal {
-        Refusal::UnknownConnector => connector_found(alloc, text.site, text, connector),
-        Refusal::BadDuration | Refusal::PastCalendar => {
-            format!(in alloc; "duration is {duration}")
-        }
-        Refusal::WrongUnit => String::from_str(alloc, unit_found(text.site)),
-        _ => format!(in alloc; "connectorId is {connector}"),
-    }
-}
-
-/// Describes an operator's unknown connectorId, for a fault of `check` or `call --data`. Adds the
-/// last connector of the point, if the site has the point.
-pub(crate) fn connector_found(
-    alloc: Global,
-    site: &Site,
     text: &LineMessage<'_>,
     connector: u32,
+    refusal: Refusal,
 ) -> Result<String, AllocError> {
-    match point_of(site, text) {
-        Some(point) => {
+    match (refusal, point_of(text)) {
+        (Refusal::UnknownConnector, Some(point)) => {
             let count = point.ceilings.len();
             format!(in alloc; "connectorId is {connector}, and {count} is the last one")
         }
-        None => format!(in alloc; "connectorId is {connector}"),
+        (Refusal::WrongUnit, _) => String::from_str(alloc, unit_found(text.site)),
+        _ => format!(in alloc; "connectorId is {connector}"),
     }
-}
-
-/// Returns the number of connectors of the point that a script's line names, 0 if the site lacks
-/// it.
-pub(crate) fn connector_count(text: &LineMessage<'_>) -> usize {
-    point_of(text.site, text).map_or(0, |point| point.ceilings.len())
 }
 
 /// Describes the unit of the site file, for the fault that an operator's CALL has the other
@@ -451,7 +344,7 @@ pub(crate) fn reject_found(
 
 /// Checks a StartTransaction in a line of a script. Reports a connector that the point lacks.
 fn check_start(report: &mut Report, text: &LineMessage<'_>, connector: u32) {
-    let Some(point) = point_of(text.site, text) else {
+    let Some(point) = point_of(text) else {
         return;
     };
     let count = point.ceilings.len();

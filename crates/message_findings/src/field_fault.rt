@@ -1,7 +1,7 @@
 //! Describes the field at fault of a CALL: its path, the value found there and the value wanted.
 
 use crate::payload_objects::{MAX_DEPTH, PayloadList, PayloadObject, row_named};
-use findings::{ExpectedField, LIMIT, field_message, glance_at};
+use findings::{KnownField, LIMIT, glance_at};
 use messages::{ActionKind, CallFault, FieldKind, FieldName, FieldRow, fields_of};
 use ocppj_frame::{Field, Node, tenths_field, whole_field};
 use std::alloc::{AllocError, Global};
@@ -34,13 +34,16 @@ pub(crate) fn field_fault_message(
     let Some(row) = row_named(object.fields, name) else {
         return format!(in alloc; "{code}: {name}");
     };
-    let expected = ExpectedField {
-        field: name,
-        wanted: wanted_of(row),
-        hint: None,
+    let wanted = wanted_of(row);
+    let value = object.node.field(name).map(glance_at);
+    let hint = None;
+    let field = KnownField {
+        name,
+        wanted,
+        value,
+        hint,
     };
-    let message = field_message(alloc, object.node.field(name).map(glance_at), &expected)?;
-    format!(in alloc; "{code}: {path}{message}")
+    format!(in alloc; "{code}: {path}{field}")
 }
 
 /// Returns the field of the payload that the fault of a CALL names, if it names one, for the

@@ -3,7 +3,7 @@
 use crate::line_text::utf8_of;
 use crate::report::Report;
 use crate::sentences::line_sentence;
-use findings::{excerpt, is_similar, similar_name};
+use findings::{Excerpt, is_similar, similar_name};
 use ocpp_scalars::{InstantFault, read_instant};
 use replay::ScriptLineFault;
 use site_rules::Site;
@@ -52,17 +52,20 @@ fn bad_line(alloc: Global, text: &str) -> Result<String, AllocError> {
     let hint = form_hint(alloc, text)?;
     let fault = ScriptLineFault::BadLine;
     let rule = line_sentence(fault);
-    let text = excerpt(alloc, text)?;
+    let text = Excerpt(text);
     format!(in alloc; "{fault}: {hint}; {rule}: {text}")
 }
 
-/// Describes, for `check`, the fault of a script's line whose point isn't in the site.
-fn unknown_point(report: &mut Report, site: &Site, id: &str) -> Result<String, AllocError> {
-    let alloc = report.alloc;
+/// Describes, for `check`, a point of a script that isn't in the site. Adds the identity that is
+/// probably meant.
+pub(crate) fn unknown_point(
+    report: &mut Report,
+    site: &Site,
+    id: &str,
+) -> Result<String, AllocError> {
     let hint = point_hint(report, site, id)?;
-    let fault = ScriptLineFault::UnknownPoint;
-    let id = excerpt(alloc, id)?;
-    format!(in alloc; "{fault}: the site has no point \"{id}\"{hint}")
+    let id = Excerpt(id);
+    format!(in report.alloc; "UnknownPoint: the site has no point \"{id}\"{hint}")
 }
 
 /// Describes, for `check`, the fault of a script's line whose first word is no instant.
@@ -73,7 +76,7 @@ fn bad_instant(alloc: Global, word: &str) -> Result<String, AllocError> {
     };
     let fault = ScriptLineFault::BadInstant;
     let rule = line_sentence(fault);
-    let word = excerpt(alloc, word)?;
+    let word = Excerpt(word);
     format!(in alloc; "{fault}: \"{word}\" {hint}; {rule}")
 }
 
@@ -93,7 +96,7 @@ fn form_hint(alloc: Global, text: &str) -> Result<String, AllocError> {
     if WORDS.contains(&word) {
         return String::from_str(alloc, words_hint(word));
     }
-    let found = excerpt(alloc, word)?;
+    let found = Excerpt(word);
     match similar_name(alloc, word, &WORDS)? {
         Some(meant) => {
             format!(in alloc; "the second word is \"{found}\"; \"{meant}\" is probably meant")
@@ -200,7 +203,7 @@ fn instant_hint(word: &str, fault: InstantFault) -> &'static str {
 
 /// Returns a hint at the point that an unknown identity in a script probably means, for the first
 /// 1,000 such identities.
-pub(crate) fn point_hint(report: &mut Report, site: &Site, id: &str) -> Result<String, AllocError> {
+fn point_hint(report: &mut Report, site: &Site, id: &str) -> Result<String, AllocError> {
     let alloc = report.alloc;
     if !report.takes_hint() {
         return Ok(String::new(alloc));

@@ -60,18 +60,6 @@ pub(crate) struct LineMessage<'a> {
 }
 
 impl<'a> LineMessage<'a> {
-    /// Makes the message of a script's line whose second word is `hold`, for `check`.
-    pub(crate) fn held(
-        site: &'a Site,
-        played: &'a PlayedLine<'_>,
-        sent: &'a SentText<'_>,
-    ) -> LineMessage<'a> {
-        LineMessage {
-            sender: Sender::Hold,
-            ..LineMessage::new(site, played, sent)
-        }
-    }
-
     /// Makes the message of a script's line, with the output that `replay` prints for it.
     pub(crate) fn new(
         site: &'a Site,

@@ -1,7 +1,7 @@
 //! Finds refusals in a line's output that depend on the point's state, and clears without a match.
 
+use crate::call_check::reject;
 use crate::report::Report;
-use crate::sentences::sentence;
 use findings::Finding;
 use messages::{CallFault, Response};
 use ocpp_scalars::Refusal;
@@ -39,7 +39,7 @@ pub fn check_printed(
             check_answer(&mut report, response);
         }
     }
-    report.into_findings()
+    report.take_findings()
 }
 
 /// Checks an answer in the output of a script's line. Reports a refusal that depends on the point's
@@ -47,19 +47,13 @@ pub fn check_printed(
 fn check_answer(report: &mut Report, response: &Response) {
     match response {
         Response::Rejected(refusal) | Response::Error(CallFault::Refused(refusal)) => {
-            check_refusal(report, *refusal)
+            if depends_on_state(*refusal) {
+                reject(report, *refusal, None);
+            }
         }
         Response::Unknown => report.warn_text(
             "this clears nothing: the point has no profile that matches its criteria",
         ),
         _ => {}
-    }
-}
-
-/// Reports that a message in a script is refused, if that depends on the point's state.
-fn check_refusal(report: &mut Report, refusal: Refusal) {
-    if depends_on_state(refusal) {
-        let why = sentence(refusal);
-        report.fault(format!(in report.alloc; "{refusal}: {why}"));
     }
 }

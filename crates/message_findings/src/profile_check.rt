@@ -1,8 +1,6 @@
 //! Checks an install, and warns of a profile that probably does something unintended.
 
-use crate::call_check::{
-    connector_found, point_of, refuse_point, reject, reject_found, unit_found,
-};
+use crate::call_check::{place_found, point_of, refuse_point, reject, reject_found};
 use crate::line_text::LineMessage;
 use crate::report::Report;
 use crate::sentences::never_sentence;
@@ -10,7 +8,7 @@ use findings::{instant_text, tenths_text};
 use ocpp_scalars::{Instant, Refusal};
 use profile::{Kind, Period, Profile, ProfileKind, ProfileParts, Purpose, Recurrency};
 use profile_findings::never_rated;
-use site_rules::{Site, SitePoint, admit};
+use site_rules::{SitePoint, admit};
 use std::alloc::{AllocError, Global};
 
 /// Checks a SetChargingProfile in a line of a script, whose fields are right: its refusal by the
@@ -21,17 +19,16 @@ pub(crate) fn check_install(
     connector: u32,
     parts: ProfileParts,
 ) {
-    let site = text.site;
     let Some(profile) = check_parts(report, parts) else {
         return;
     };
-    match admit(site, text.point, connector, &profile) {
+    match admit(text.site, text.point, connector, &profile) {
         Err(Refusal::UnknownPoint) => refuse_point(report, text),
         Err(refusal) => {
-            let found = place_found(report.alloc, site, text, connector, refusal);
+            let found = place_found(report.alloc, text, connector, refusal);
             reject_found(report, refusal, found);
         },
-        Ok(()) => warn_ceiling_at(report, text, connector, &profile),
+        Ok(()) => warn_ceiling(report, text, connector, &profile),
     }
     warn_transaction(report, &profile);
     warn_rates(report, text.moment, &profile);
@@ -65,21 +62,6 @@ pub(crate) fn check_parts(report: &mut Report, parts: ProfileParts) -> Option<Pr
 pub(crate) fn warn_never_rated(report: &mut Report, profile: &Profile) {
     if let Some(why) = never_rated(profile) {
         report.warn_text_of(profile.purpose, profile.id, never_sentence(why));
-    }
-}
-
-/// Describes the value in a SetChargingProfile for which the site doesn't admit the profile.
-fn place_found(
-    alloc: Global,
-    site: &Site,
-    text: &LineMessage<'_>,
-    connector: u32,
-    refusal: Refusal,
-) -> Result<String, AllocError> {
-    match refusal {
-        Refusal::UnknownConnector => connector_found(alloc, site, text, connector),
-        Refusal::WrongUnit => String::from_str(alloc, unit_found(site)),
-        _ => format!(in alloc; "connectorId is {connector}"),
     }
 }
 
@@ -147,20 +129,17 @@ fn warn_transaction(report: &mut Report, profile: &Profile) {
     }
 }
 
-/// Warns of a profile in a line of a script that never lowers a limit at the line's point.
-pub(crate) fn warn_ceiling_at(
+/// Warns of a profile in a line of a script that never lowers a limit, since the ceilings of the
+/// site file are below it.
+pub(crate) fn warn_ceiling(
     report: &mut Report,
     text: &LineMessage<'_>,
     connector: u32,
     profile: &Profile,
 ) {
-    if let Some(point) = point_of(text.site, text) {
-        warn_ceiling(report, point, connector, profile);
-    }
-}
-
-/// Warns of a profile that never lowers a limit, since the ceilings of the site file are below it.
-fn warn_ceiling(report: &mut Report, point: SitePoint<'_>, connector: u32, profile: &Profile) {
+    let Some(point) = point_of(text) else {
+        return;
+    };
     let ceiling = highest_ceiling(point, connector, profile.purpose);
     let periods = profile.schedule.periods.as_slice();
     if periods.iter().all(|period| period.limit > ceiling) {
@@ -205,7 +184,9 @@ pub(crate) fn warn_rates(report: &mut Report, moment: Instant, profile: &Profile
             report.warn_of(profile.purpose, profile.id, message);
         }
     }
-    warn_duration(report, profile);
+    if let Some(duration) = profile.schedule.duration {
+        warn_past(report, profile, "duration", u64::from(duration));
+    }
     match profile.kind {
         Kind::Recurring(recurrency) => warn_recurrence(report, profile, recurrency),
         Kind::Absolute | Kind::Relative => {}
@@ -220,29 +201,18 @@ fn over_message(alloc: Global, end: Instant) -> Result<String, AllocError> {
     )
 }
 
-/// Warns of a profile's chargingSchedulePeriod that starts when the duration of the schedule is
-/// over.
-fn warn_duration(report: &mut Report, profile: &Profile) {
-    let Some(duration) = profile.schedule.duration else {
-        return;
-    };
-    if let Some((index, start)) = first_past(profile, u64::from(duration)) {
-        let message = format!(in report.alloc;
-            "chargingSchedulePeriod[{index}] starts at {start} s, when the duration of {duration} s is over: it never counts"
-        );
-        report.warn_of(profile.purpose, profile.id, message);
-    }
-}
-
-/// Returns the index and the start of a profile's first chargingSchedulePeriod that starts at this
-/// offset or later, in seconds.
-fn first_past(profile: &Profile, end: u64) -> Option<(usize, u32)> {
+/// Warns of a profile's first chargingSchedulePeriod that starts at this offset or later, in
+/// seconds, when the duration, the day or the week is over.
+fn warn_past(report: &mut Report, profile: &Profile, whose: &str, end: u64) {
     for (index, period) in profile.schedule.periods.as_slice().iter().enumerate() {
-        if u64::from(period.start) >= end {
-            return Some((index, period.start));
+        let start = period.start;
+        if u64::from(start) >= end {
+            let message = format!(in report.alloc;
+                "chargingSchedulePeriod[{index}] starts at {start} s, when the {whose} of {end} s is over: it never counts"
+            );
+            return report.warn_of(profile.purpose, profile.id, message);
         }
     }
-    None
 }
 
 /// Warns of the parts of a Daily or Weekly schedule after its day or week, and of its gaps.
@@ -253,12 +223,9 @@ fn warn_recurrence(report: &mut Report, profile: &Profile, recurrency: Recurrenc
         Recurrency::Weekly => "week",
     };
     let end = profile.schedule.duration.map_or(length, u64::from);
-    // With a shorter duration, `warn_duration` has reported the period already.
-    if let (true, Some((index, start))) = (end >= length, first_past(profile, length)) {
-        let message = format!(in report.alloc;
-            "chargingSchedulePeriod[{index}] starts at {start} s, when the {unit} of {length} s is over: it never counts"
-        );
-        report.warn_of(profile.purpose, profile.id, message);
+    // With a shorter duration, the period has its warning already.
+    if end >= length {
+        warn_past(report, profile, unit, length);
     }
     if end > length {
         let message = format!(in report.alloc;

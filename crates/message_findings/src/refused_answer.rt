@@ -2,7 +2,7 @@
 
 use crate::rejection::{RejectedAnswer, fault_of, refusal_of, rejection_of};
 use crate::sentences::{call_sentence, sentence};
-use findings::excerpt;
+use findings::Excerpt;
 use ocpp_scalars::Refusal;
 use ocppj_frame::{FrameFault, ReadingMemory, read_tree};
 use std::alloc::{AllocError, Global};
@@ -65,6 +65,6 @@ fn fault_sentence(alloc: Global, code: &str, field: &str) -> Result<Option<Strin
     if field.is_empty() {
         return Ok(Some(format!(in alloc; "{code}: {why}")?));
     }
-    let field = excerpt(alloc, field)?;
+    let field = Excerpt(field);
     Ok(Some(format!(in alloc; "{code}: {field}: {why}")?))
 }

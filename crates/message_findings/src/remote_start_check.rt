@@ -1,16 +1,15 @@
 //! Checks a remote start, and how one that waits ends.
 
-use crate::call_check::{connector_count, refuse_point, reject, reject_found, unit_found};
+use crate::call_check::{point_of, refuse_point, reject, reject_found, unit_found};
 use crate::line_text::LineMessage;
 use crate::printed_check::depends_on_state;
-use crate::profile_check::{check_parts, warn_ceiling_at, warn_never_rated, warn_rates};
+use crate::profile_check::{check_parts, warn_ceiling, warn_never_rated, warn_rates};
 use crate::report::Report;
 use crate::starts::EndedStart;
-use findings::excerpt;
+use findings::Excerpt;
 use messages::{RemoteStartTransaction, purpose_name};
 use ocpp_scalars::Refusal;
 use profile::{Profile, ProfileParts, Purpose};
-use std::alloc::{AllocError, Global};
 
 /// Checks a RemoteStartTransaction in a line of a script, whose fields are right: its refusal and
 /// its profile.
@@ -35,7 +34,7 @@ pub(crate) fn check_remote_start(
         return;
     }
     if text.rejection().is_none() {
-        warn_ceiling_at(report, text, connector, &profile);
+        warn_ceiling(report, text, connector, &profile);
     }
     warn_rates(report, text.moment, &profile);
 }
@@ -96,7 +95,7 @@ fn refuse_start(
 
 /// Reports a RemoteStartTransaction in a script at a connector at which no transaction can start.
 fn reject_connector(report: &mut Report, text: &LineMessage<'_>, connector: u32) {
-    let count = connector_count(text);
+    let count = point_of(text).map_or(0, |point| point.ceilings.len());
     let found = format!(in report.alloc;
         "connectorId is {connector}, and a transaction starts at one from 1 to {count}"
     );
@@ -106,21 +105,17 @@ fn reject_connector(report: &mut Report, text: &LineMessage<'_>, connector: u32)
 /// Warns of a transaction in a script without the profile of the remote start that waited at its
 /// connector.
 pub(crate) fn check_ended_start(report: &mut Report, ended: &EndedStart) {
-    report.warn(ended_start_message(report.alloc, ended));
-}
-
-/// Describes, for a warning of `check`, a remote start that ended without its TxProfile.
-fn ended_start_message(alloc: Global, ended: &EndedStart) -> Result<String, AllocError> {
     let id = ended.profile;
-    let tag = excerpt(alloc, ended.id_tag.as_str())?;
+    let tag = Excerpt(ended.id_tag.as_str());
     // With an equal idTag, only the limit of profiles keeps the profile out.
-    if ended.is_same_tag {
-        format!(in alloc;
+    let message = if ended.is_same_tag {
+        format!(in report.alloc;
             "TxProfile {id} of the remote start by idTag \"{tag}\" is given up: the point would have more than 200 profiles"
         )
     } else {
-        format!(in alloc;
+        format!(in report.alloc;
             "TxProfile {id} isn't installed: it came with a remote start by idTag \"{tag}\", and another starts"
         )
-    }
+    };
+    report.warn(message);
 }

@@ -11,7 +11,7 @@ use std::mem;
 const MAX_HINTS: u32 = 1_000;
 
 /// The findings so far, and the current line. After a failed allocation findings may be missing,
-/// and `into_findings` returns the error.
+/// and `take_findings` returns the error.
 // A `?` after each finding would have the same effect. But each adds a return to the proof, with
 // all values that are dropped there.
 #[derive(Drop)]
@@ -38,24 +38,12 @@ impl Report {
         }
     }
 
-    /// Returns all findings in a script or an operator's message, unless an allocation failed.
-    pub(crate) fn into_findings(mut self) -> Result<Vec<Finding>, AllocError> {
-        self.take_findings()
-    }
-
-    /// Takes the findings in a script so far, unless an allocation failed.
+    /// Takes the findings in a script or an operator's message so far, unless an allocation failed.
     pub(crate) fn take_findings(&mut self) -> Result<Vec<Finding>, AllocError> {
-        self.outcome()?;
-        Ok(mem::replace(&mut self.findings, Vec::new(self.alloc)))
-    }
-
-    /// Returns the error if an allocation for the findings in a script failed so far.
-    pub(crate) fn outcome(&self) -> Result<(), AllocError> {
         if self.is_short {
-            Err(AllocError)
-        } else {
-            Ok(())
+            return Err(AllocError);
         }
+        Ok(mem::replace(&mut self.findings, Vec::new(self.alloc)))
     }
 
     /// Notes that an allocation for a finding in a script or an operator's message failed

@@ -49,7 +49,10 @@ impl ScriptCheck {
             None => {}
             Some(Ok(ScriptLine::Text(sent))) => self.check_sent(machine, played, sent),
             Some(Ok(ScriptLine::Hold(sent))) => {
-                let text = LineMessage::held(site, played, sent);
+                let text = LineMessage {
+                    sender: Sender::Hold,
+                    ..LineMessage::new(site, played, sent)
+                };
                 check_text(&mut self.report, &mut self.memory, &text);
             }
             Some(Ok(ScriptLine::Release(number))) => {

@@ -3,19 +3,17 @@
 ghost use Rattle.std.specs.Prelude.{◌≡◌, ◌↔◌, IfOk, IsSome, None};
 ghost use Rattle.ocppj_frame.specs.Read.{tree_of_text};
 
-use crate::call_check::{
-    has_fields, refuse_action, unknown_fields, warn_of_clear, warn_repeated, warn_unknown,
-};
+use crate::call_check::{has_fields, refuse_action, warn_of_clear, warn_repeated, warn_unknown};
 use crate::field_fault::field_fault_message;
+use crate::payload_fields::payload_fields;
 use crate::profile_check::check_sent_profile;
 use crate::remote_start_check::check_sent_start;
 use crate::report::Report;
 use crate::text_check::why_dropped;
-use findings::{Finding, break_of, json_fault_text, place_in_text};
+use findings::{Finding, break_of, place_in_text};
 use messages::{Action, ActionKind, CallFault, Side, read_fields};
 use ocpp_scalars::Refusal;
 use ocppj_frame::{Frame, FrameFault, Node, ReadingMemory, read_frame};
-use profile::Criteria;
 use profile_findings::has_no_criterion;
 use std::alloc::{AllocError, Global};
 
@@ -80,7 +78,7 @@ fn check_frame(alloc: Global, text: &str, frame: Frame<'_>) -> Result<SentCheck,
     }
 }
 
-/// Describes the break of a message that isn't JSON: the line, the column, and the token wanted.
+/// Describes the break of a message that isn't JSON: the line, the column, and the character there.
 pub fn json_break(alloc: Global, text: &str) -> Result<Option<String>, AllocError>
     ensures { IfOk result (λ message. IsSome message ↔ (tree_of_text text.now ≡ None)) }
 {
@@ -88,8 +86,7 @@ pub fn json_break(alloc: Global, text: &str) -> Result<Option<String>, AllocErro
         return Ok(None);
     };
     let place = place_in_text(text, fault.offset);
-    let found = json_fault_text(alloc, &fault)?;
-    Ok(Some(format!(in alloc; "{place}: {found}")?))
+    Ok(Some(format!(in alloc; "{place}: the JSON breaks where {fault}")?))
 }
 
 /// Returns the findings of `call` in a CALL that it is to send, whose action an operator doesn't
@@ -99,7 +96,7 @@ fn no_operators_action(alloc: Global, name: &str) -> Result<SentCheck, AllocErro
     refuse_action(&mut report, Side::Operator, name);
     Ok(SentCheck {
         no_call: None,
-        findings: report.into_findings()?,
+        findings: report.take_findings()?,
         clears_by_mistake: false,
     })
 }
@@ -121,82 +118,42 @@ fn check_fields(
     kind: ActionKind,
     payload: Node<'_, '_>,
 ) -> Result<SentCheck, AllocError> {
+    let fields = payload_fields(alloc, text, kind)?;
     let mut report = Report::new(alloc);
-    warn_repeated(&mut report, text, kind);
-    let clears_by_mistake = match read_fields(alloc, kind, payload) {
-        Ok(action) => check_read(&mut report, text, kind, payload, action),
-        Err(fault) => {
-            check_fault(&mut report, text, kind, payload, fault);
-            false
+    warn_repeated(&mut report, &fields);
+    let mut clears_by_mistake = false;
+    match read_fields(alloc, kind, payload) {
+        Ok(Action::ClearChargingProfile(criteria)) => {
+            warn_of_clear(&mut report, payload, &criteria, &fields);
+            // An empty payload isn't a mistake here: OCPP lets it clear everything, and nothing is
+            // misspelled.
+            clears_by_mistake = has_no_criterion(&criteria) && has_fields(payload, &fields);
         }
-    };
+        Ok(action) => {
+            warn_unknown(&mut report, kind, &fields);
+            check_action(&mut report, action);
+        }
+        Err(CallFault::Refused(Refusal::OutOfMemory)) => return Err(AllocError),
+        Err(fault) => {
+            report.fault(field_fault_message(alloc, payload, kind, fault));
+            warn_unknown(&mut report, kind, &fields);
+        }
+    }
     Ok(SentCheck {
         no_call: None,
-        findings: report.into_findings()?,
+        findings: report.take_findings()?,
         clears_by_mistake,
     })
 }
 
-/// Checks an operator's CALL, whose fields are right, before `call` sends it. Returns whether it
-/// clears everything by mistake.
-fn check_read(
-    report: &mut Report,
-    text: &str,
-    kind: ActionKind,
-    payload: Node<'_, '_>,
-    action: Action,
-) -> bool {
+/// Checks the profile of an operator's CALL, whose fields are right, before `call` sends it.
+fn check_action(report: &mut Report, action: Action) {
     match action {
-        Action::ClearChargingProfile(criteria) => check_clear(report, text, payload, &criteria),
         Action::SetChargingProfile {
             connector: _connector,
             profile,
-        } => {
-            warn_unknown(report, text, kind);
-            check_sent_profile(report, profile);
-            false
-        }
-        Action::RemoteStartTransaction(start) => {
-            warn_unknown(report, text, kind);
-            check_sent_start(report, start);
-            false
-        }
-        _action => {
-            warn_unknown(report, text, kind);
-            false
-        }
+        } => check_sent_profile(report, profile),
+        Action::RemoteStartTransaction(start) => check_sent_start(report, start),
+        _action => {}
     }
-}
-
-/// Reports a field of an operator's CALL that isn't right, and its unknown fields, before `call`
-/// sends it.
-fn check_fault(
-    report: &mut Report,
-    text: &str,
-    kind: ActionKind,
-    payload: Node<'_, '_>,
-    fault: CallFault,
-) {
-    if matches!(fault, CallFault::Refused(Refusal::OutOfMemory)) {
-        return report.fail();
-    }
-    report.fault(field_fault_message(report.alloc, payload, kind, fault));
-    warn_unknown(report, text, kind);
-}
-
-/// Warns of an operator's ClearChargingProfile before `call` sends it. Returns whether it clears
-/// everything by mistake.
-// An empty payload isn't a mistake here: OCPP lets it clear everything, and nothing is misspelled.
-fn check_clear(
-    report: &mut Report,
-    text: &str,
-    payload: Node<'_, '_>,
-    criteria: &Criteria,
-) -> bool {
-    let Ok(unknown) = unknown_fields(report.alloc, text, ActionKind::ClearChargingProfile) else {
-        report.fail();
-        return false;
-    };
-    warn_of_clear(report, payload, criteria, &unknown);
-    has_no_criterion(criteria) && has_fields(payload, &unknown)
 }

@@ -5,7 +5,7 @@ use crate::call_check::{LineCall, check_call};
 use crate::line_text::{LineMessage, Sender};
 use crate::report::Report;
 use crate::sentences::{call_sentence, line_sentence};
-use findings::{JsonFault, excerpt, first_break, json_fault_text};
+use findings::{Excerpt, first_break};
 use messages::{ActionKind, CallFault, ReplyStatus};
 use ocpp_scalars::character_count;
 use ocppj_frame::{
@@ -15,36 +15,15 @@ use ocppj_frame::{
 use replay::ScriptLineFault;
 use std::alloc::{AllocError, Global};
 
-/// The outcome of reading a message.
-#[derive(Clone, Copy, PartialEq, Eq)]
-enum Reading {
-    /// It is a message, and was checked as one, unless an allocation failed.
-    Checked,
-    /// It is no message.
-    Dropped,
-}
-
 /// Checks the message in a line of a script, or of an event in a journal, as a frame of OCPP-J.
 pub(crate) fn check_text(report: &mut Report, memory: &mut ReadingMemory, text: &LineMessage<'_>) {
-    match check_message(report, memory, text) {
-        Reading::Checked => {}
-        Reading::Dropped => check_dropped(report, memory, text),
-    }
-}
-
-/// Checks the frame in a line of a script, and returns whether it is a message of OCPP-J.
-fn check_message(
-    report: &mut Report,
-    memory: &mut ReadingMemory,
-    text: &LineMessage<'_>,
-) -> Reading {
     match read_frame(memory, text.frame) {
-        Ok(frame) => check_frame(report, text, frame),
-        Err(FrameFault::Formation { id: _id }) => check_malformed(report, text),
-        Err(FrameFault::Dropped) => return Reading::Dropped,
-        Err(FrameFault::OutOfMemory) => report.fail(),
+        Ok(frame) => return check_frame(report, text, frame),
+        Err(FrameFault::Formation { id: _id }) => return check_malformed(report, text),
+        Err(FrameFault::OutOfMemory) => return report.fail(),
+        Err(FrameFault::Dropped) => {}
     }
-    Reading::Checked
+    check_dropped(report, memory, text)
 }
 
 /// Checks a frame in a line of a script: a CALL by its action, a reply by its status.
@@ -55,8 +34,16 @@ fn check_frame(report: &mut Report, text: &LineMessage<'_>, frame: Frame<'_>) {
             payload,
             ..
         } => {
-            let call = LineCall::new(text, action.as_str(), payload.root());
-            check_call(report, &call);
+            let action = action.as_str();
+            let payload = payload.root();
+            check_call(
+                report,
+                &LineCall {
+                    text,
+                    action,
+                    payload,
+                },
+            );
         }
         _ if text.sender == Sender::Hold => not_composite(report, text, "it is no CALL"),
         Frame::Reply { id, payload } => {
@@ -106,39 +93,30 @@ fn check_reply(report: &mut Report, text: &LineMessage<'_>, id: &str, status: Op
         }
     }
     if let (true, Some(status)) = (text.confirms_call, status) {
-        report.warn(not_accepted_message(report.alloc, text, id, status));
+        warn_not_accepted(report, text, id, status);
     }
 }
 
-/// Describes, for a warning of `check`, a point that doesn't accept the call in flight.
-fn not_accepted_message(
-    alloc: Global,
-    text: &LineMessage<'_>,
-    id: &str,
-    status: &str,
-) -> Result<String, AllocError> {
+/// Warns of a point in a script that doesn't accept the call in flight.
+fn warn_not_accepted(report: &mut Report, text: &LineMessage<'_>, id: &str, status: &str) {
     let effect = if text.replies_to == Some(ActionKind::RemoteStartTransaction) {
         "it starts no transaction, and the remote start waits no more"
     } else {
         "the central system keeps what the call is of, so its schedules aren't what the point has"
     };
-    let id = excerpt(alloc, id)?;
-    let status = excerpt(alloc, status)?;
-    format!(in alloc; "the point answers call \"{id}\" with {status}: {effect}")
+    let id = Excerpt(id);
+    let status = Excerpt(status);
+    report.warn(format!(in report.alloc;
+        "the point answers call \"{id}\" with {status}: {effect}"
+    ));
 }
 
 /// Reports a `hold` line of a script that is no request for a composite schedule.
 pub(crate) fn not_composite(report: &mut Report, text: &LineMessage<'_>, why: &str) {
-    report.fault(not_composite_message(report.alloc, text.frame, why));
-}
-
-/// Describes, for `check`, the frame in a `hold` line of a script that is no request for a
-/// composite schedule.
-fn not_composite_message(alloc: Global, frame: &str, why: &str) -> Result<String, AllocError> {
     let fault = ScriptLineFault::NotComposite;
     let rule = line_sentence(fault);
-    let frame = excerpt(alloc, frame)?;
-    format!(in alloc; "{fault}: {rule}, and {why}: {frame}")
+    let frame = Excerpt(text.frame);
+    report.fault(format!(in report.alloc; "{fault}: {rule}, and {why}: {frame}"));
 }
 
 /// Reports a CALL in a line of a script whose action is no string or whose payload is no object.
@@ -146,14 +124,9 @@ fn check_malformed(report: &mut Report, text: &LineMessage<'_>) {
     if text.sender == Sender::Hold {
         return not_composite(report, text, "it is malformed");
     }
-    report.fault(malformed_message(report.alloc, text.frame));
-}
-
-/// Describes a CALL whose action is no string or whose payload is no object.
-fn malformed_message(alloc: Global, frame: &str) -> Result<String, AllocError> {
     let sentence = call_sentence(CallFault::FormationViolation);
-    let frame = excerpt(alloc, frame)?;
-    format!(in alloc; "FormationViolation: {sentence}: {frame}")
+    let frame = Excerpt(text.frame);
+    report.fault(format!(in report.alloc; "FormationViolation: {sentence}: {frame}"));
 }
 
 /// Reports a frame in a line of a script that is no message of OCPP-J, with the reason.
@@ -165,13 +138,10 @@ fn check_dropped(report: &mut Report, memory: &mut ReadingMemory, text: &LineMes
     if text.sender == Sender::Hold {
         return not_composite(report, text, why.as_str());
     }
-    report.warn(dropped_message(report.alloc, text.frame, why.as_str()));
-}
-
-/// Describes, for a warning, a frame that is no message of OCPP-J and gets no answer.
-fn dropped_message(alloc: Global, frame: &str, why: &str) -> Result<String, AllocError> {
-    let frame = excerpt(alloc, frame)?;
-    format!(in alloc; "this is no message and is discarded without an answer: {why}: {frame}")
+    let frame = Excerpt(text.frame);
+    report.warn(format!(in report.alloc;
+        "this is no message and is discarded without an answer: {why}: {frame}"
+    ));
 }
 
 /// Describes, for `check` or `call`, why a frame in a script, or one to be sent, is no message of
@@ -185,27 +155,19 @@ pub(crate) fn why_dropped(
     match read_tree(memory, frame) {
         Ok(tree) => String::from_str(alloc, why_no_message(tree.root())),
         Err(FrameFault::OutOfMemory) => Err(AllocError),
-        Err(_) => broken_at(alloc, frame, before, &first_break(alloc, frame)?),
+        Err(_) => broken_at(alloc, frame, before),
     }
 }
 
-/// Describes, for `check` or `call`, the character at which a frame of OCPP-J stops being JSON,
-/// with its column in the line.
-fn broken_at(
-    alloc: Global,
-    frame: &str,
-    before: usize,
-    fault: &JsonFault,
-) -> Result<String, AllocError> {
-    let mut column = before.saturating_add(1);
-    for (offset, _) in frame.char_indices() {
-        if offset >= fault.offset {
-            break;
-        }
-        column = column.saturating_add(1);
-    }
-    let found = json_fault_text(alloc, fault)?;
-    format!(in alloc; "its JSON breaks at column {column}: {found}")
+/// Describes, for `check` or `call`, where a frame of OCPP-J stops being JSON, with the column in its
+/// line.
+fn broken_at(alloc: Global, frame: &str, before: usize) -> Result<String, AllocError> {
+    let fault = first_break(alloc, frame)?;
+    let good = frame.get(..fault.offset).unwrap_or(frame);
+    let column = before
+        .saturating_add(character_count(good))
+        .saturating_add(1);
+    format!(in alloc; "its JSON breaks at column {column}, where {fault}")
 }
 
 /// Returns, for `check` or `call`, the reason why a JSON text is no message of OCPP-J, such as a

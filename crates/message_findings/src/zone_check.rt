@@ -2,13 +2,20 @@
 
 use crate::payload_objects::{MAX_DEPTH, PayloadObject};
 use crate::report::Report;
-use messages::{FieldKind, FieldRow};
-use ocppj_frame::{Field, text_field};
+use messages::{ActionKind, FieldKind, FieldRow, Side, fields_of};
+use ocppj_frame::{Field, Node, text_field};
 
-/// Adds a remark for each instant without a zone in an operator's payload, which counts as UTC.
+/// Adds a remark for each instant without a zone in an operator's payload, which counts as UTC. A
+/// point's payload has no remarks.
 // A local time that counts as UTC shifts a schedule by hours. RFC 3339 requires an offset.
-pub(crate) fn remark_unzoned(report: &mut Report, payload: PayloadObject<'_, '_>) {
-    let mut object = payload;
+pub(crate) fn remark_unzoned(report: &mut Report, kind: ActionKind, payload: Node<'_, '_>) {
+    if !kind.side().is_same(Side::Operator) {
+        return;
+    }
+    let mut object = PayloadObject {
+        fields: fields_of(kind),
+        node: payload,
+    };
     for _ in 0..=MAX_DEPTH {
         remark_fields(report, object);
         match object.inner() {

@@ -1,0 +1,212 @@
+//! The pass through a site file: its values, and its unknown and duplicate fields.
+
+use crate::finding::{Finding, Location};
+use crate::found::{Glance, KnownField};
+use crate::similar::similar_name;
+use crate::text_place::place_in_text;
+use crate::words::Excerpt;
+use json::{Invalid, Reader, Token};
+use ocppj_frame::after_mark;
+use std::alloc::{AllocError, Global};
+
+/// The maximum number of fields of either kind to report.
+// For each report the lines are counted from the beginning of the file, which may have 16 MiB.
+const MAX_REPORTED: usize = 100;
+
+/// The maximum nesting depth of a skipped value. The file has been read as JSON before.
+const MAX_DEPTH: usize = 127;
+
+/// The pass through a site file so far.
+#[derive(Drop)]
+pub(crate) struct SitePass<'a> {
+    pub alloc: Global,
+    pub text: &'a str,
+    /// Whether the text is marked (`ocppj_frame::mark_text`): its numbers are strings, and its
+    /// offsets aren't those of the file.
+    is_marked: bool,
+    /// The warnings of unknown fields, at most 100.
+    unknown: Vec<Finding>,
+    /// Whether there are more unknown fields.
+    more: bool,
+    /// The warnings of duplicate fields, at most 100.
+    repeated: Vec<Finding>,
+    /// Whether an allocation failed, so that findings may be missing.
+    // A `?` after each finding would have the same effect, but costs more to prove.
+    is_short: bool,
+}
+
+impl<'a> SitePass<'a> {
+    /// Begins before the first value of a site file.
+    pub(crate) fn new(alloc: Global, text: &'a str, is_marked: bool) -> SitePass<'a> {
+        SitePass {
+            alloc,
+            text,
+            is_marked,
+            unknown: Vec::new(alloc),
+            more: false,
+            repeated: Vec::new(alloc),
+            is_short: false,
+        }
+    }
+
+    /// Notes whether an allocation failed for a finding in a site file.
+    pub(crate) fn note(&mut self, outcome: Result<(), AllocError>) {
+        self.is_short |= outcome.is_err();
+    }
+
+    /// Begins the next value of a site file, if it is a list (`[`) or an object (`{`) as wanted.
+    pub(crate) fn begins(&self, reader: &mut Reader<'a>, wanted: u8) -> bool {
+        let is_wanted = self.next_byte(reader) == Some(wanted);
+        if is_wanted {
+            let _ = reader.next();
+        }
+        is_wanted
+    }
+
+    /// Returns the first byte of the next token of a site file.
+    fn next_byte(&self, reader: &Reader<'a>) -> Option<u8> {
+        self.text.as_bytes().get(reader.offset()).copied()
+    }
+
+    /// Reads the next value of a site file, without the contents of a list or an object.
+    pub(crate) fn read_value(&self, reader: &mut Reader<'a>) -> Result<Glance<'a>, Invalid> {
+        let value = match self.next_byte(reader) {
+            Some(b'[') => Glance::List,
+            Some(b'{') => Glance::Object,
+            _ => return self.read_scalar(reader),
+        };
+        reader.skip_value(MAX_DEPTH)?;
+        Ok(value)
+    }
+
+    /// Reads the next value of a site file that is neither a list nor an object.
+    fn read_scalar(&self, reader: &mut Reader<'a>) -> Result<Glance<'a>, Invalid> {
+        match reader.next() {
+            Some(Token::String(text)) => match after_mark(text, b'n') {
+                Some(number) if self.is_marked => Ok(Glance::Number(number)),
+                _ => Ok(Glance::Text(self.unmarked(text))),
+            },
+            Some(Token::Number(number)) => Ok(Glance::Number(number)),
+            Some(Token::Bool(_)) => Ok(Glance::Bool),
+            Some(Token::Null) => Ok(Glance::Null),
+            _ => Err(Invalid),
+        }
+    }
+
+    /// Returns a name or a string of a site file without its mark, a letter before it.
+    fn unmarked(&self, text: &'a str) -> &'a str {
+        if self.is_marked {
+            text.get(1..).unwrap_or(text)
+        } else {
+            text
+        }
+    }
+
+    /// Returns the place of a finding at an offset in the text of a site file.
+    fn place(&self, offset: usize) -> Location {
+        if self.is_marked {
+            Location::File
+        } else {
+            place_in_text(self.text, offset)
+        }
+    }
+
+    /// Reads the next name in an object of a site file. Returns the index of its known field, or
+    /// the number of known fields if it is none of them. Returns none at the end of the object.
+    pub(crate) fn next_field(
+        &mut self,
+        reader: &mut Reader<'a>,
+        fields: &mut [KnownField<'a>],
+    ) -> Result<Option<usize>, Invalid> {
+        let offset = reader.offset();
+        let Some(key) = reader.next_key()? else {
+            return Ok(None);
+        };
+        let name = self.unmarked(key);
+        for (index, field) in fields.iter().enumerate() {
+            if field.name == name {
+                if field.value.is_some() {
+                    let outcome = self.warn_repeated(name, offset);
+                    self.note(outcome);
+                }
+                return Ok(Some(index));
+            }
+        }
+        let outcome = self.warn_unknown(fields, name, offset);
+        self.note(outcome);
+        Ok(Some(fields.len()))
+    }
+
+    /// Warns of a duplicate field of a site file, unless there are too many.
+    fn warn_repeated(&mut self, name: &str, offset: usize) -> Result<(), AllocError> {
+        if self.repeated.len() >= MAX_REPORTED {
+            return Ok(());
+        }
+        let place = self.place(offset);
+        let message = format!(in self.alloc;
+            "\"{name}\" is a duplicate field, and the last one counts"
+        )?;
+        self.repeated.push(Finding::warning(place, message))?;
+        Ok(())
+    }
+
+    /// Warns of an unknown field of a site file, unless there are too many. Notes it at the known
+    /// field that is probably meant.
+    fn warn_unknown(
+        &mut self,
+        fields: &mut [KnownField<'a>],
+        name: &'a str,
+        offset: usize,
+    ) -> Result<(), AllocError> {
+        if self.unknown.len() >= MAX_REPORTED {
+            self.more = true;
+            return Ok(());
+        }
+        let mut names = Vec::new(self.alloc);
+        for field in fields.iter() {
+            names.push(field.name)?;
+        }
+        let meant = similar_name(self.alloc, name, names.as_slice())?;
+        let field = fields
+            .iter()
+            .position(|field| meant == Some(field.name) && field.hint.is_none());
+        if let Some(field) = field.and_then(|index| fields.get_mut(index)) {
+            field.hint = Some(name);
+        }
+        let place = self.place(offset);
+        let name = Excerpt(name);
+        let message = match meant {
+            Some(meant) => format!(in self.alloc;
+                "\"{name}\" is no field that is looked at (\"{meant}\" is one)"
+            )?,
+            None => format!(in self.alloc; "\"{name}\" is no field that is looked at")?,
+        };
+        self.unknown.push(Finding::warning(place, message))?;
+        Ok(())
+    }
+
+    /// Appends the warnings of a site file's unknown and duplicate fields, unless an allocation
+    /// failed.
+    pub(crate) fn append_to(self, findings: &mut Vec<Finding>) -> Result<(), AllocError> {
+        let SitePass {
+            alloc,
+            mut unknown,
+            more,
+            mut repeated,
+            is_short,
+            ..
+        } = self;
+        if is_short {
+            return Err(AllocError);
+        }
+        findings.append(&mut unknown)?;
+        if more {
+            let message = format!(in alloc;
+                "there are more than {MAX_REPORTED} fields that nothing looks at"
+            )?;
+            findings.push(Finding::warning(Location::File, message))?;
+        }
+        findings.append(&mut repeated)?;
+        Ok(())
+    }
+}
