@@ -81,7 +81,7 @@ unmade_if answer_of seen_of session was moment frame first left (Err ended) aske
 
 -- ---- a step that was made, or none
 
-same_sent : (session : SessionState) (moment : ℕ) (sender : Side) (point frame : List ℕ)
+pub same_sent : (session : SessionState) (moment : ℕ) (sender : Side) (point frame : List ℕ)
     (text : Sent) → text ≡ sent moment sender point frame → sender ≡ side_of session.peer
     → point ≡ session.point → text ≡ sent_by session moment frame
 same_sent session moment sender point frame text text_is sender_is point_is =

@@ -1,9 +1,10 @@
 //! Installs the profiles of a charge point again after it has booted, since it may have lost them.
 
 ghost use Rattle.std.specs.Prelude.{IfSome};
-ghost use Rattle.session.specs.Noting.{IsEntryToNote};
+ghost use Rattle.session.specs.Noting.{AsksFor, IsEntryToNote};
 ghost use Rattle.session.specs.Perform.{IsOfText};
 ghost use Rattle.session.specs.Serving.{KeepsPass};
+ghost use Rattle.session.specs.Session.{sent_by};
 
 use crate::context::Context;
 use crate::serving::noting::{note_performed, prepare_message};
@@ -15,7 +16,7 @@ use journal::Entry;
 use messages::{CallBody, push_payload};
 use ocpp_scalars::{Instant, Moments};
 use ocppj_frame::{push_call_head, push_frame_end};
-use profile::{Purpose, Row};
+use profile::{Purpose, Row, Unit};
 use site_core::{Machine, ProfileState, Step};
 use std::alloc::{AllocError, Global};
 use texts::SentText;
@@ -52,50 +53,57 @@ pub(crate) fn install_again<W: World>(
     ensures { KeepsPass pass.old pass.new }
 {
     let point = core.point_id().as_str();
-    let (Some(now), Ok(operator), Ok(profiles)) = (
-        context.clock.now(),
-        operator_of(context, point),
-        profiles_in_order(context, point),
-    ) else {
+    let Some(now) = context.clock.now() else {
+        return;
+    };
+    let Ok((unit, profiles)) = profiles_of(context, point) else {
+        return;
+    };
+    // The central system itself installs them, as an operator of the point.
+    let Ok(operator) = SessionCore::operator(context.alloc, point, None, unit) else {
         return;
     };
     for profile in profiles {
-        let text = present_text(context, point, profile);
-        if let Ok(Some(text)) = text {
-            let install = Install { profile, text };
-            install_one(context, &operator, pass, now, &install);
-        }
+        install_one(context, &operator, pass, now, profile);
     }
 }
 
-/// Returns a session of the central system itself, as an operator's of this point, by which
-/// profiles are installed again.
-fn operator_of<W: World>(context: &Context<'_, W>, point: &str) -> Result<SessionCore, AllocError> {
-    let book = context.shared.lock(context.rt);
-    let unit = book.present().site().unit();
-    drop(book);
-    SessionCore::operator(context.alloc, point, None, unit)
-}
-
-/// Returns the ids of a point's profiles in the order in which they are installed again after a
-/// boot.
-fn profiles_in_order<W: World>(
+/// Returns the site's unit, and the ids of a point's profiles in the order in which they are
+/// installed again after a boot.
+fn profiles_of<W: World>(
     context: &Context<'_, W>,
     point: &str,
-) -> Result<Vec<i32>, AllocError> {
-    let mut profiles = Vec::new(context.alloc);
+) -> Result<(Unit, Vec<i32>), AllocError> {
     let book = context.shared.lock(context.rt);
-    let Some(found) = book.present().book_of(point) else {
-        return Ok(profiles);
-    };
-    for purpose in &PURPOSES {
-        for row in found.view().rows {
-            if row.profile.purpose == *purpose {
-                profiles.push(row.profile.id)?;
-            }
+    profiles_in_order(context.alloc, book.present(), point)
+}
+
+/// Returns the site's unit, and the ids of a point's profiles in this state, in the order in which
+/// they are installed again after a boot.
+// Apart from the lock: what a function does while it holds one is dear to prove.
+fn profiles_in_order(
+    alloc: Global,
+    machine: &Machine,
+    point: &str,
+) -> Result<(Unit, Vec<i32>), AllocError> {
+    let mut profiles = Vec::new(alloc);
+    if let Some(book) = machine.book_of(point) {
+        for purpose in PURPOSES {
+            push_ids(&mut profiles, book.view().rows, purpose)?;
         }
     }
-    Ok(profiles)
+    Ok((machine.site().unit(), profiles))
+}
+
+/// Adds the ids of a point's profiles of this purpose to those that are installed again after a
+/// boot.
+fn push_ids(profiles: &mut Vec<i32>, rows: &[Row], purpose: Purpose) -> Result<(), AllocError> {
+    for row in rows {
+        if row.profile.purpose == purpose {
+            profiles.push(row.profile.id)?;
+        }
+    }
+    Ok(())
 }
 
 /// Returns the message that installs a point's profile again after a boot, if one does.
@@ -116,32 +124,68 @@ fn install_text(
     point: &str,
     profile: i32,
 ) -> Result<Option<String>, AllocError> {
-    let Some(row) = row_of(machine, point, profile) else {
-        return Ok(None);
-    };
+    match row_of(machine, point, profile) {
+        Some(row) => Ok(Some(text_of_row(alloc, row)?)),
+        None => Ok(None),
+    }
+}
+
+/// Returns the message that installs the profile of this row again after a boot.
+fn text_of_row(alloc: Global, row: &Row) -> Result<String, AllocError> {
     let body = CallBody::Set {
         connector: row.connector,
         profile: row.profile.copy()?,
     };
     let mut text = String::new(alloc);
-    push_call_head(&mut text, MESSAGE_ID, body.action())?;
-    push_payload(&mut text, &body)?;
-    push_frame_end(&mut text)?;
-    Ok(Some(text))
+    push_message(&mut text, &body)?;
+    Ok(text)
+}
+
+/// Appends the message of the central system that asks for this call to a point.
+fn push_message(text: &mut String, body: &CallBody) -> Result<(), AllocError> {
+    push_call_head(text, MESSAGE_ID, body.action())?;
+    push_payload(text, body)?;
+    push_frame_end(text)
 }
 
 /// Returns the installed profile of this id, unless its call to the point has no reply yet.
 fn row_of<'a>(machine: &'a Machine, point: &str, profile: i32) -> Option<&'a Row> {
-    let rows = machine.book_of(point)?.view().rows;
-    let row = rows.iter().find(|row| row.profile.id == profile)?;
+    let row = row_with_id(machine.book_of(point)?.view().rows, profile)?;
     match machine.profile_state_of(point, row) {
         ProfileState::Sent => None,
         ProfileState::Held | ProfileState::Unsure | ProfileState::Rejected => Some(row),
     }
 }
 
+/// Returns the row of the point's profile of this id, if it is installed.
+fn row_with_id(rows: &[Row], profile: i32) -> Option<&Row> {
+    for row in rows {
+        if row.profile.id == profile {
+            return Some(row);
+        }
+    }
+    None
+}
+
 /// Installs a profile of a point again after a boot, if memory suffices and it can be noted.
 fn install_one<W: World>(
+    context: &Context<'_, W>,
+    operator: &SessionCore,
+    pass: &mut Pass<W::Changes, W::Answers>,
+    moment: Instant,
+    profile: i32,
+)
+    ensures { KeepsPass pass.old pass.new }
+{
+    let text = present_text(context, operator.point_id().as_str(), profile);
+    if let Ok(Some(text)) = text {
+        let install = Install { profile, text };
+        make_install(context, operator, pass, moment, &install);
+    }
+}
+
+/// Makes the step of the message that installs a profile again after a boot, if it can be noted.
+fn make_install<W: World>(
     context: &Context<'_, W>,
     operator: &SessionCore,
     pass: &mut Pass<W::Changes, W::Answers>,
@@ -151,16 +195,30 @@ fn install_one<W: World>(
     ensures { KeepsPass pass.old pass.new }
 {
     let frame = install.text.as_str();
-    let Ok(mut todo) = read_message(context, operator, moment, frame) else {
-        return;
-    };
+    let step = step_of_message(context, operator, moment, frame);
     let sent = SentText::new(moment, operator.side(), operator.point_id().as_str(), frame);
-    let step = todo.take_step();
     let Ok(entry) = prepare_message(context, operator.sender(), &sent, &step) else {
         return;
     };
     if let Some(step) = step {
         perform_if_present(context, pass, step, entry, install);
+    }
+}
+
+/// Returns the step that the message asks for which installs a profile again after a boot. None if
+/// memory runs out.
+fn step_of_message<W: World>(
+    context: &Context<'_, W>,
+    operator: &SessionCore,
+    moment: Instant,
+    frame: &str,
+) -> Option<Step>
+    ensures asks { IfSome result (AsksFor (sent_by operator.now moment frame.now)) }
+    ensures of_text { IfSome result IsOfText }
+{
+    match read_message(context, operator, moment, frame) {
+        Ok(mut todo) => todo.take_step(),
+        Err(_) => None,
     }
 }
 
