@@ -1,6 +1,6 @@
 //! The job of `central run`.
 
-ghost use Rattle.std.specs.Prelude.{◌≡◌, ◌≤◌, ◌+◌, true};
+ghost use Rattle.std.specs.Prelude.{◌≡◌, ◌≤◌, ◌+◌, true, IfOk};
 
 use crate::serving::stop_of;
 use command_io::{ProgramFault, read_digested_site, read_key_file};
@@ -75,6 +75,23 @@ pub fn run_file<
     requires workers { 1 ≤ running.workers }
     requires seats { 1 ≤ running.seats }
 {
+    let plan = plan_of(rt, &running)?;
+    // One pass more than seats, for the restore.
+    let Some(passes) = running.seats.checked_add(1) else {
+        return Err(ProgramFault::OutOfMemory);
+    };
+    let blanks = (Blank::new(passes), Blank::new(passes));
+    run_counted::<Brand, Brand, Brand, R>(rt, plan, blanks, (Unnamed::new(), Unnamed::new()))
+}
+
+/// Reads the files of a run, and opens its journal and its ports.
+fn plan_of<
+    'a,
+    R: Files<File = File> + Eprint + AllocGlobal + Net<Listener = TcpListener, Stream = TcpStream>,
+>(rt: &R, running: &Running<'a>) -> Result<Plan<'a>, ProgramFault>
+    ensures workers { IfOk result (λ plan. plan.workers ≡ running.now.workers) }
+    ensures seats { IfOk result (λ plan. plan.seats ≡ running.now.seats) }
+{
     let installs_again = installs_again(running.after_boot)?;
     let (site, digest) = read_digested_site(rt, running.site)?;
     let options = SeatOptions {
@@ -89,7 +106,7 @@ pub fn run_file<
         listener: listen(rt, running.listen, is_open, ProgramFault::NoKeys)?,
         address: running.listen,
     };
-    let plan = Plan {
+    Ok(Plan {
         site,
         digest,
         opened,
@@ -97,19 +114,13 @@ pub fn run_file<
         clients,
         workers: running.workers,
         options,
-        status: listen_for_status(rt, &running)?,
+        status: listen_for_status(rt, running)?,
         status_address: if running.is_status_open {
             None
         } else {
             running.status
         },
-    };
-    // One pass more than seats, for the restore.
-    let Some(passes) = running.seats.checked_add(1) else {
-        return Err(ProgramFault::OutOfMemory);
-    };
-    let blanks = (Blank::new(passes), Blank::new(passes));
-    run_counted::<Brand, Brand, Brand, R>(rt, plan, blanks, (Unnamed::new(), Unnamed::new()))
+    })
 }
 
 /// Returns whether `run` installs a point's profiles again after a boot, by `--after-boot`.

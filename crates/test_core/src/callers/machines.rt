@@ -1,37 +1,48 @@
 //! A caller of `site_core`.
 
-use site_core::{Machine, PointId, Reply, Step, Take};
-use site_rules::read_site;
-use std::test::Fail;
+use crate::played::{comes_to, opening};
+use crate::same::{same, same_said};
+use site_core::{Machine, PointId, Step, Take};
+use std::alloc::Global;
+use std::process::Abort;
+use step_words::Said;
 use test_books::{instant_at, row_of};
 
-const SITE: &str = r#"{"unit":"A","points":[{"id":"CP1","ceiling":63.0,"connectors":[32.0]}]}"#;
+/// Returns the step of the central system by which an operator installs a profile of 16 A at CP1.
+fn install(rt: &impl Abort, alloc: Global) -> Step {
+    Step::Install {
+        point: PointId::copied(alloc, "CP1").expect(rt, "error"),
+        row: row_of(alloc, "start=0 periods=0:160").expect(rt, "error"),
+    }
+}
+
+/// Returns the step of the central system by which an operator requests a schedule of connector 1
+/// of CP1 for a minute.
+fn take(rt: &impl Abort, alloc: Global) -> Step {
+    Step::Take(Take {
+        point: PointId::copied(alloc, "CP1").expect(rt, "error"),
+        connector: 1,
+        start: instant_at(0).expect(rt, "error"),
+        duration: 60,
+        unit: None,
+        seen: 0,
+    })
+}
+
+/// Makes a step on the machine of the central system, and checks its outcome.
+fn make(rt: &impl Abort, machine: &mut Machine, step: &Step, wanted: Said) {
+    same_said(rt, comes_to(machine, step), wanted, wanted.0);
+}
 
 /// Checks that the central system's machine installs a profile, and compiles and returns a
 /// requested schedule. Two calls wait for the point.
 #[test]
-fn a_machine_makes_steps(rt: HostRuntime) -> Result<(), Fail> {
+fn a_machine_makes_steps(rt: HostRuntime) {
     let alloc = rt.alloc();
-    let mut machine = Machine::new(alloc, read_site(alloc, SITE.as_bytes())?)?;
-    let point = PointId::copied(alloc, "CP1")?;
-    let row = row_of(alloc, "start=0 periods=0:160")?;
-    assert!(rt; machine.step(Step::Install { point, row }).is_ok());
-    let take = Take {
-        point: PointId::copied(alloc, "CP1")?,
-        connector: 1,
-        start: instant_at(0)?,
-        duration: 60,
-        unit: None,
-        seen: 0,
-    };
-    assert!(rt; machine.step(Step::Take(take)).is_ok());
-    assert!(rt; machine.step(Step::Compile(1)).is_ok());
-    let Ok(Reply::Answered { answer, .. }) = machine.step(Step::Answer(1)) else {
-        return Err(Fail::new("no answer"));
-    };
-    for period in answer?.periods() {
-        assert_eq!(rt; (period.start, period.limit), (0, 160));
-    }
-    assert_eq!(rt; machine.outbox_len("CP1"), 2);
-    Ok(())
+    let mut machine = opening(&rt, alloc);
+    make(&rt, &mut machine, &install(&rt, alloc), ("Accepted", None));
+    make(&rt, &mut machine, &take(&rt, alloc), ("Taken", Some(1)));
+    make(&rt, &mut machine, &Step::Compile(1), ("Compiled", None));
+    make(&rt, &mut machine, &Step::Answer(1), ("limit", Some(160)));
+    same(&rt, machine.outbox_len("CP1") as u64, 2, "calls");
 }
