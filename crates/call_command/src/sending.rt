@@ -4,6 +4,7 @@ use client::{Address, AnswerLines, CallEnd, ClientRuntime, OperatorClient, conne
 use client_lines::{ClientFault, Lines};
 use operator_calls::{Caller, GivenCall, Visit, on_one_line, url_of_point};
 use replay::Progress;
+use std::alloc::Global;
 use std::fmt::Display;
 use std::io;
 use std::io::Read;
