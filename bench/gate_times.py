@@ -27,8 +27,8 @@ import time
 # cores on which `transactions` takes twice as long: 120 x 2 / 2 are 120 minutes, and the rest is for empty lanes and for
 # the tests behind the gate.
 BUDGET = 120
-# A run above this fails: the clock itself differs by some 10 % from run to run.
-MOST = 1.1 * BUDGET
+# A run above this fails. The clock is one proof early in the run: where others use the machine, it differs by up to a quarter.
+MOST = 1.25 * BUDGET
 # The proof of `transactions` took 0.5 on this clock before its derived Debugs went, and takes 0.44 since: of two pairs of
 # checks, each pair one behind the other, those with them took 79 and 48 seconds, and those without 69 and 43.
 CLOCK = 0.44
