@@ -225,7 +225,7 @@ def faults_of_call(program):
     closed = b"central: url: closed by the central system, which may have no such point\n"
     with Serving(program, SITE, 1) as serving, tempfile.NamedTemporaryFile("wb") as binary, tempfile.NamedTemporaryFile("wb") as long:
         expect("no such point", operator(serving, "--ask", "1", "60", point="P2"), (3, b"", closed))
-        why = b"clear: line 1, column 2: expected a name in double quotes or `}`, found `i`\n"
+        why = b"clear: line 1, column 2: the JSON breaks where 'i' is found\n"
         expect("no JSON", operator(serving, "--clear", "{id:1}"), (2, b"! clear NotACall\n", why))
         for file, content in ((binary, b"\xff"), (long, b" " * 1_048_577)):
             file.write(content)
