@@ -36,7 +36,8 @@ LeadsTo state line made = restored state line ≡ Ok made.after
 -- a change that was made and drew a number, whatever the name of the sender
 abbrev pub ChangesAreRestored : Type 0
 ChangesAreRestored =
-    (state : MachineState) (text : Sent) (sender : SenderState) (step : Step) (made : Made) (number : ℕ)
+    (state : MachineState) (text : Sent) (sender : SenderState)
+    (step : Step) (made : Made) (number : ℕ)
     → side_of_sender sender ≡ text.sender
     → change_asked (asked_of text) ≡ Ok step → IsStep state step made
     → number_drawn made.reply made.after.numbers.version ≡ Some number

@@ -58,8 +58,10 @@ fn calls<C: Ledger, A: Ledger>(
 
 /// Makes each of these calls on a new book.
 fn each_call<C: Ledger, A: Ledger>(rt: &impl Abort, alloc: Global, changed: Blank, answered: Blank)
-    requires changed { (changed.name ≡ C.name) × (changed.parts ≡ C.parts) × (changed.parts ≡ 1) }
-    requires answered { (answered.name ≡ A.name) × (answered.parts ≡ A.parts) × (answered.parts ≡ 1) }
+    requires changed { (changed.name ≡ C.name) × (changed.parts ≡ C.parts)
+        × (changed.parts ≡ 1) }
+    requires answered { (answered.name ≡ A.name) × (answered.parts ≡ A.parts)
+        × (answered.parts ≡ 1) }
 {
     let made = Book::<C, A>::make(alloc, changed, answered, site(rt, alloc), 1);
     let (mut book, mut passes) = made.expect(rt, "error");
