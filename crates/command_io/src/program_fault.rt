@@ -171,7 +171,8 @@ impl ProgramFault {
     }
 }
 
-/// Returns the program's exit status if the journal in a site's folder can't be used.
+/// Returns the program's exit status if a command stops because it can't use the journal in a
+/// site's folder.
 fn folder_status(fault: &FolderFault) -> u8
     ensures { result ≡ folder_status fault.now }
 {

@@ -28,7 +28,8 @@ pub fn read_script_of<R: Files<File = File> + Input + Eprint + AllocGlobal>(
     }
 }
 
-/// Reads the script of messages that a command plays from standard input.
+/// Reads the script of messages that `replay`, `check`, `show` or `explain` plays from standard
+/// input.
 fn read_script<R: Input + AllocGlobal>(rt: &R) -> Result<Vec<u8>, ProgramFault>
     ensures short { IfOk result (λ script. vec_len script ≤ max_script_bytes) }
 {
@@ -40,8 +41,8 @@ fn read_script<R: Input + AllocGlobal>(rt: &R) -> Result<Vec<u8>, ProgramFault>
     }
 }
 
-/// Reads the script of messages that a command plays from a file. If it can't be read, prints its
-/// name and the cause to standard error.
+/// Reads the script of messages that `replay`, `check`, `show` or `explain` plays from the file of
+/// `--script`. If it can't be read, prints its name and the cause to standard error.
 fn read_script_file<R: Files<File = File> + Eprint + AllocGlobal>(
     rt: &R,
     path: &str,

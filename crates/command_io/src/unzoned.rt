@@ -7,8 +7,8 @@ pub fn note_unzoned<R: Eprint>(rt: &R, option: &str, text: &str) {
     }
 }
 
-/// Returns whether the instant in a command's option has `Z` or an offset after its time. Any other
-/// text needs none.
+/// Returns whether the instant in an option, `--start` of `explain` or `--at` of `show` or
+/// `explain`, has `Z` or an offset after its time. Any other text needs none.
 fn has_zone(text: &str) -> bool {
     match text.split_once(['T', 't', ' ']) {
         // Only the time counts: a date has `-`, too.

@@ -27,7 +27,8 @@ pub fn central_command<'a>(alloc: Global) -> Result<Command<'a>, AllocError>
     with_readers(alloc, served)
 }
 
-/// Adds the commands of the command line that use sockets, and `key`.
+/// Adds the commands of the program that use sockets, and `key`, to the command line's definition
+/// for clap.
 fn with_served<'a>(alloc: Global, command: Command<'a>) -> Result<Command<'a>, AllocError>
     ensures { IfOk result (λ added. app_of added ≡ with_served (app_of command.entry)) }
 {
@@ -39,7 +40,8 @@ fn with_served<'a>(alloc: Global, command: Command<'a>) -> Result<Command<'a>, A
     with_command(alloc, command, point())
 }
 
-/// Adds the commands of the command line that read a script of messages or a journal.
+/// Adds the commands of the program that read a script of messages or a journal to the command
+/// line's definition for clap.
 fn with_readers<'a>(alloc: Global, command: Command<'a>) -> Result<Command<'a>, AllocError>
     ensures { IfOk result (λ added. app_of added ≡ with_readers (app_of command.entry)) }
 {
@@ -50,7 +52,7 @@ fn with_readers<'a>(alloc: Global, command: Command<'a>) -> Result<Command<'a>, 
     with_command(alloc, command, show())
 }
 
-/// Adds a command with its options to the command line's definition for clap.
+/// Adds a command with its options and their help to the command line's definition for clap.
 fn with_command<'a>(
     alloc: Global,
     command: Command<'a>,
@@ -66,7 +68,7 @@ fn with_command<'a>(
     command.subcommand(added)
 }
 
-/// Adds options to a command in the command line's definition for clap.
+/// Adds options with their help to a command in the command line's definition for clap.
 fn with_options<'a>(
     alloc: Global,
     plain: Command<'a>,

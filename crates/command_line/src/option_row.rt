@@ -38,7 +38,8 @@ pub(crate) enum OptionRow {
     Starting(&'static str, &'static str),
 }
 
-/// Returns the clap argument of an option of the command line.
+/// Returns the clap argument of an option in the command line's definition, with its name, its
+/// value and its help.
 pub(crate) fn arg_of<'a>(alloc: Global, row: &OptionRow) -> Arg<'a>
     ensures rule { rule_of result ≡ rule_of_row row.now }
     ensures global { result.global ≡ false }
@@ -67,7 +68,7 @@ pub(crate) fn arg_of<'a>(alloc: Global, row: &OptionRow) -> Arg<'a>
     }
 }
 
-/// Returns the clap argument of an option of the command line that takes a value.
+/// Returns the clap argument of an option that takes a value, for the command line's definition.
 fn option<'a>(alloc: Global, name: &'a str, help: &'a str) -> Arg<'a>
     ensures rule { rule_of result ≡ option name.now }
     ensures global { result.global ≡ false }

@@ -68,7 +68,7 @@ fn job_named<'a>(name: &str, given: &ArgMatches<'a>) -> Option<Job<'a>>
     }
 }
 
-/// Returns the job of `serve` with the options on the command line.
+/// Returns the job of `serve`, from its options as clap read them from the command line.
 fn serving_of<'a>(given: &ArgMatches<'a>) -> Option<Serving<'a>>
     ensures { IfSome result (λ serving. IsServing (rows_of (found_of given.now)) serving) }
 {
@@ -88,7 +88,7 @@ fn serving_of<'a>(given: &ArgMatches<'a>) -> Option<Serving<'a>>
     })
 }
 
-/// Returns the job of `replay` with the options on the command line.
+/// Returns the job of `replay`, from its options as clap read them from the command line.
 fn replaying_of<'a>(given: &ArgMatches<'a>) -> Option<Replaying<'a>>
     ensures { IfSome result (λ replaying. IsReplaying (rows_of (found_of given.now)) replaying) }
 {
@@ -97,8 +97,8 @@ fn replaying_of<'a>(given: &ArgMatches<'a>) -> Option<Replaying<'a>>
     Some(Replaying { site, source })
 }
 
-/// Returns the job of `run` with the options on the command line, and the defaults of those that
-/// aren't given.
+/// Returns the job of `run`, from its options as clap read them from the command line, and the
+/// defaults of those that aren't given.
 fn running_of<'a>(given: &ArgMatches<'a>) -> Option<Running<'a>>
     ensures { IfSome result (λ running. IsRunning (rows_of (found_of given.now)) running) }
 {
@@ -128,7 +128,7 @@ fn running_of<'a>(given: &ArgMatches<'a>) -> Option<Running<'a>>
     })
 }
 
-/// Returns the job of `key` with the options on the command line.
+/// Returns the job of `key`, from its options as clap read them from the command line.
 fn key_making_of<'a>(given: &ArgMatches<'a>) -> Option<KeyMaking<'a>>
     ensures { IfSome result (λ making. IsKeyMaking (rows_of (found_of given.now)) making) }
 {
@@ -137,7 +137,7 @@ fn key_making_of<'a>(given: &ArgMatches<'a>) -> Option<KeyMaking<'a>>
     Some(KeyMaking { name, is_operator })
 }
 
-/// Returns the job of `call` with the options on the command line.
+/// Returns the job of `call`, from its options as clap read them from the command line.
 fn calling_of<'a>(given: &ArgMatches<'a>) -> Option<Calling<'a>>
     ensures { IfSome result (λ calling. IsCalling (rows_of (found_of given.now)) calling) }
 {
@@ -175,8 +175,8 @@ fn calling_of<'a>(given: &ArgMatches<'a>) -> Option<Calling<'a>>
     })
 }
 
-/// Returns the remote start that `call` is to request by `--remote-start`, if one is given. None if
-/// it has neither two nor three values.
+/// Returns the remote start that `--remote-start` of `call` on the command line requests, if it is
+/// given. None if it has neither two nor three values.
 fn starting_of<'a>(given: &ArgMatches<'a>) -> Option<Option<Starting<'a>>>
     ensures { IfSome result (λ starting.
         IsStarting (all_of (codes "remote-start") (rows_of (found_of given.now))) starting) }
@@ -197,8 +197,8 @@ fn starting_of<'a>(given: &ArgMatches<'a>) -> Option<Option<Starting<'a>>>
     }
 }
 
-/// Returns the connector and the seconds of `--ask` or `--audit` of `call`, if the option is given.
-/// None if it doesn't have two values.
+/// Returns the connector and the seconds of `--ask` or `--audit` of `call` on the command line, if
+/// the option is given. None if it doesn't have two values.
 fn asking_of<'a>(given: &ArgMatches<'a>, option: &str) -> Option<Option<Asking<'a>>>
     ensures { IfSome result
         (λ asking. IsAsking (all_of option.now (rows_of (found_of given.now))) asking) }
@@ -210,7 +210,7 @@ fn asking_of<'a>(given: &ArgMatches<'a>, option: &str) -> Option<Option<Asking<'
     }
 }
 
-/// Returns the job of `point` with the options on the command line.
+/// Returns the job of `point`, from its options as clap read them from the command line.
 fn pointing_of<'a>(given: &ArgMatches<'a>) -> Option<Pointing<'a>>
     ensures { IfSome result (λ pointing. IsPointing (rows_of (found_of given.now)) pointing) }
 {
@@ -226,7 +226,7 @@ fn pointing_of<'a>(given: &ArgMatches<'a>) -> Option<Pointing<'a>>
     })
 }
 
-/// Returns the job of `explain` with the options on the command line.
+/// Returns the job of `explain`, from its options as clap read them from the command line.
 fn explaining_of<'a>(given: &ArgMatches<'a>) -> Option<Explaining<'a>>
     ensures { IfSome result
         (λ explaining. IsExplaining (rows_of (found_of given.now)) explaining) }
@@ -255,7 +255,7 @@ fn explaining_of<'a>(given: &ArgMatches<'a>) -> Option<Explaining<'a>>
     })
 }
 
-/// Returns the job of `check` with the options on the command line.
+/// Returns the job of `check`, from its options as clap read them from the command line.
 fn checking_of<'a>(given: &ArgMatches<'a>) -> Option<Checking<'a>>
     ensures { IfSome result (λ checking. IsChecking (rows_of (found_of given.now)) checking) }
 {
@@ -271,7 +271,7 @@ fn checking_of<'a>(given: &ArgMatches<'a>) -> Option<Checking<'a>>
     })
 }
 
-/// Returns the job of `show` with the options on the command line.
+/// Returns the job of `show`, from its options as clap read them from the command line.
 fn showing_of<'a>(given: &ArgMatches<'a>) -> Option<Showing<'a>>
     ensures { IfSome result (λ showing. IsShowing (rows_of (found_of given.now)) showing) }
 {
@@ -286,8 +286,8 @@ fn showing_of<'a>(given: &ArgMatches<'a>) -> Option<Showing<'a>>
     })
 }
 
-/// Returns the source of the script of messages that a command reads: `--data`, `--script` or else
-/// standard input. None if both options are given.
+/// Returns the source that the command line names for the script of `replay`, `check`, `show` or
+/// `explain`: `--data`, `--script` or else standard input. None if both options are given.
 fn source_of<'a>(given: &ArgMatches<'a>) -> Option<Source<'a>>
     ensures { IfSome result (λ source. IsSource (rows_of (found_of given.now)) source) }
 {
@@ -300,14 +300,15 @@ fn source_of<'a>(given: &ArgMatches<'a>) -> Option<Source<'a>>
     }
 }
 
-/// Returns whether both `--data` and `--script` name a script of messages for a command.
+/// Returns whether the command line gives `replay`, `check`, `show` or `explain` two scripts, by
+/// both `--data` and `--script`.
 fn has_two_scripts(given: &ArgMatches<'_>) -> bool
     ensures { result ≡ has_two_scripts (rows_of (found_of given.now)) }
 {
     text_of(given, "data").is_some() && text_of(given, "script").is_some()
 }
 
-/// Returns the value of an option of the command line.
+/// Returns the value of an option as clap read it from the command line, if it is given.
 fn text_of<'a>(given: &ArgMatches<'a>, option: &str) -> Option<&'a str>
     ensures { option_map (λ text. text.now) result
         ≡ first_of option.now (rows_of (found_of given.now)) }
@@ -315,7 +316,7 @@ fn text_of<'a>(given: &ArgMatches<'a>, option: &str) -> Option<&'a str>
     given.get_str(option)
 }
 
-/// Returns the values of an option of the command line.
+/// Returns the values of an option as clap read them from the command line, if it is given.
 fn texts_of<'b, 'a>(given: &'b ArgMatches<'a>, option: &str) -> Option<&'b [&'a str]>
     ensures { option_map (λ texts. map (λ text. text.now) texts.now) result
         ≡ all_of option.now (rows_of (found_of given.now)) }
@@ -323,7 +324,7 @@ fn texts_of<'b, 'a>(given: &'b ArgMatches<'a>, option: &str) -> Option<&'b [&'a 
     given.get_raw(option)
 }
 
-/// Returns the whole number that is the value of an option of the command line.
+/// Returns the whole number that is the value of an option, as clap read it from the command line.
 fn number_of(given: &ArgMatches<'_>, option: &str) -> Option<u64>
     ensures { IfSome result
         (λ number. IsNumber option.now (rows_of (found_of given.now)) number) }
@@ -331,7 +332,8 @@ fn number_of(given: &ArgMatches<'_>, option: &str) -> Option<u64>
     given.get_one(option)
 }
 
-/// Returns the whole number that is the value of an option of the command line, if it is given.
+/// Returns the whole number that is the value of an option, as clap read it from the command line,
+/// if it is given.
 fn optional_number_of(given: &ArgMatches<'_>, option: &str) -> Option<u64>
     ensures { IsOptionalNumber option.now (rows_of (found_of given.now)) result }
 {

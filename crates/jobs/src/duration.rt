@@ -27,7 +27,7 @@ pub fn read_duration(text: &str) -> Option<u32>
     in_range(seconds)
 }
 
-/// Returns the seconds of the duration in an option of `explain`, if they are from 1 to
+/// Returns the seconds of the value of `explain`'s `--duration`, if they are from 1 to
 /// MAX_DURATION.
 fn in_range(seconds: u64) -> Option<u32>
     ensures { result ≡ in_range seconds }
@@ -38,8 +38,8 @@ fn in_range(seconds: u64) -> Option<u32>
     Some(seconds as u32)
 }
 
-/// Returns the seconds of a duration in an option that is a whole number and its unit, such as
-/// `90m`.
+/// Returns the seconds of a value of `explain`'s `--duration` that is a whole number and its unit,
+/// such as `90m`.
 fn counted(text: &[u8]) -> Option<u64>
     ensures { result ≡ counted text.now }
 {
@@ -48,7 +48,8 @@ fn counted(text: &[u8]) -> Option<u64>
     Some(number * seconds)
 }
 
-/// Returns the seconds of a unit in the duration of an option. The empty unit is the second.
+/// Returns the seconds of the unit in a value of `explain`'s `--duration`. The empty unit is the
+/// second.
 fn unit_of(unit: &[u8]) -> Option<u64>
     ensures value { result ≡ unit_of unit.now }
     ensures bound { IfSome result (λ seconds. seconds ≤ 86_400) }
@@ -62,8 +63,8 @@ fn unit_of(unit: &[u8]) -> Option<u64>
     }
 }
 
-/// Returns the seconds of an ISO 8601 duration in an option, from the text after the P: days, and a
-/// time of day after a T.
+/// Returns the seconds of a value of `explain`'s `--duration` in the form of ISO 8601, from the
+/// text after the P: days, and a time of day after a T.
 fn period(text: &[u8]) -> Option<u64>
     ensures { result ≡ period text.now }
 {
@@ -76,8 +77,8 @@ fn period(text: &[u8]) -> Option<u64>
     }
 }
 
-/// Returns the seconds of the hours, minutes and seconds in an ISO 8601 duration, of which at least
-/// one is there.
+/// Returns the seconds of the hours, minutes and seconds, at least one of these, in a value of
+/// `explain`'s `--duration` in the form of ISO 8601.
 fn time_of_day(text: &[u8]) -> Option<u64>
     ensures value { result ≡ time_of_day text.now }
     ensures bound { IfSome result (λ seconds. seconds ≤ 3_661 * max_duration) }
@@ -92,8 +93,9 @@ fn time_of_day(text: &[u8]) -> Option<u64>
     Some(hours + minutes + seconds)
 }
 
-/// Returns the seconds of a duration's part at the beginning of a text, such as `30M`, and the text
-/// after its unit. If there is no number with this unit, returns 0 and the whole text.
+/// Returns the seconds of a part, such as `30M`, at the beginning of the rest of `explain`'s
+/// `--duration`, and the text after its unit. If there is no number with this unit, returns 0 and
+/// the whole text.
 fn split_part(unit: u8, seconds: u64, text: &[u8]) -> (u64, &[u8])
     requires { seconds ≤ 86_400 }
     ensures value { (result.0, result.1.now) ≡ part_at unit seconds text.now }
@@ -105,8 +107,8 @@ fn split_part(unit: u8, seconds: u64, text: &[u8]) -> (u64, &[u8])
     }
 }
 
-/// Splits off the number at the beginning of a duration's text, up to the longest duration. Returns
-/// it with the text after its digits.
+/// Splits off the number at the beginning of the rest of `explain`'s `--duration`, up to the
+/// longest duration. Returns it with the text after its digits.
 fn split_number(text: &[u8]) -> Option<(u64, &[u8])>
     ensures value { option_map (λ x. (x.0, x.1.now)) result ≡ number_at text.now }
     ensures bound { IfSome result (λ x. x.0 ≤ max_duration) }
@@ -117,8 +119,8 @@ fn split_number(text: &[u8]) -> Option<(u64, &[u8])>
     }
 }
 
-/// Splits off the number at the beginning of a duration's text that begins with a digit, up to the
-/// longest duration. Returns it with the text after its digits.
+/// Splits off the number at the beginning of the rest of `explain`'s `--duration`, which begins
+/// with a digit, up to the longest duration. Returns it with the text after its digits.
 fn split_digits(text: &[u8]) -> Option<(u64, &[u8])>
     ensures value { option_map (λ x. (x.0, x.1.now)) result ≡ number_after 0 text.now }
     ensures bound { IfSome result (λ x. x.0 ≤ max_duration) }

@@ -80,8 +80,8 @@ pub fn lesser_of(best: Option<ProfileLimit>, other: Bound) -> Bound
     }
 }
 
-/// Returns the charging profile and limit with the higher stack level (chapter 3.13), or the first
-/// of equals, or the only one.
+/// Returns, of two profiles with their limits, the one with the higher stack level, or the first of
+/// equals, or the only one. For the definition of the profile that prevails (chapter 3.13).
 pub(crate) fn higher_level(
     best: Option<ProfileLimit>,
     next: Option<ProfileLimit>,

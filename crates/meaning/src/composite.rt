@@ -98,16 +98,16 @@ impl Composite {
     }
 }
 
-/// Whether the periods of a GetCompositeSchedule.conf make a composite schedule over a number of
-/// seconds, and aren't too many.
+/// Whether the periods that a charge point reports in a GetCompositeSchedule.conf make a composite
+/// schedule over a number of seconds, and aren't too many.
 fn is_said_schedule(duration: u32, periods: &[CompositePeriod]) -> bool
     ensures { result ≡ is_said_schedule duration periods.now }
 {
     periods.len() <= MAX_COMPOSITE_PERIODS && is_some_schedule(duration, periods)
 }
 
-/// Whether the periods of a GetCompositeSchedule.conf, however many, make a composite schedule over
-/// a number of seconds.
+/// Whether the periods that a charge point reports in a GetCompositeSchedule.conf, however many,
+/// make a composite schedule over a number of seconds.
 fn is_some_schedule(duration: u32, periods: &[CompositePeriod]) -> bool
     ensures { result ≡ is_some_schedule duration periods.now }
 {
@@ -123,8 +123,8 @@ fn is_some_schedule(duration: u32, periods: &[CompositePeriod]) -> bool
     before.is_some()
 }
 
-/// Whether a period of a GetCompositeSchedule.conf begins later than the one before it, and the
-/// first one at 0.
+/// Whether a period that a charge point reports in a GetCompositeSchedule.conf begins later than
+/// the one before it, and the first one at 0.
 fn is_next(before: Option<u32>, start: u32) -> bool
     ensures { result ≡ is_next before start }
 {

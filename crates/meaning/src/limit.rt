@@ -26,8 +26,8 @@ pub fn limit_at(view: &View<'_>, connector: u32, asked: Instant, instant: Instan
 }
 
 impl View<'_> {
-    /// Returns the charge point's own limit at an instant: the least of its ceiling and the
-    /// prevailing ChargePointMaxProfile.
+    /// Returns the charge point's own limit at an instant, definition by definition: the least of
+    /// its ceiling and the prevailing ChargePointMaxProfile. For the simulated point's schedules.
     fn point_limit(&self, asked: Instant, instant: Instant) -> u32
         ensures { result ≡ point_limit (point_state self.now) asked instant }
     {
@@ -37,8 +37,9 @@ impl View<'_> {
         }
     }
 
-    /// Returns a connector's own limit at an instant: the least of its ceiling and the limit of its
-    /// prevailing TxProfile or TxDefaultProfile.
+    /// Returns a connector's own limit at an instant, definition by definition: the least of its
+    /// ceiling and its prevailing TxProfile's or TxDefaultProfile's limit. For the simulated
+    /// point's schedules.
     fn own_limit(&self, connector: usize, asked: Instant, instant: Instant) -> u32
         requires above { 0 < connector }
         requires has_connector { connector ≤ length self.now.ceilings.now }
@@ -51,8 +52,9 @@ impl View<'_> {
         }
     }
 
-    /// Returns a connector's limit at an instant by the prevailing TxProfile, otherwise by the
-    /// prevailing TxDefaultProfile.
+    /// Returns a connector's limit at an instant, definition by definition: by the prevailing
+    /// TxProfile, otherwise by the prevailing TxDefaultProfile. For the simulated point's
+    /// schedules.
     fn transaction_limit(&self, connector: usize, asked: Instant, instant: Instant) -> Option<u32>
         ensures { result ≡ transaction_limit (point_state self.now) connector asked instant }
     {
@@ -63,8 +65,9 @@ impl View<'_> {
         }
     }
 
-    /// Returns the sum of the active connectors' own limits at an instant, but at most `most`, as a
-    /// limit of the whole charge point.
+    /// Returns the sum of the active connectors' own limits at an instant, definition by
+    /// definition, but at most `most`, as a limit of the whole charge point. For the simulated
+    /// point's schedules.
     fn shared_limit_within(&self, most: u32, asked: Instant, instant: Instant) -> u32
         ensures { result ≡ min most (shared_limit (point_state self.now) asked instant) }
     {
@@ -82,8 +85,8 @@ impl View<'_> {
     }
 }
 
-/// Adds a connector's limit to those of the connectors before it, for the limit of the whole charge
-/// point. The sum is at most `most`.
+/// Adds a connector's limit to those of the connectors before it, for the definition of the whole
+/// charge point's limit. The sum is at most `most`.
 fn least_sum(most: u32, sum: u32, limit: u32) -> u32
     ensures { result ≡ min most (sum + limit) }
 {

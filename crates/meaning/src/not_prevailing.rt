@@ -45,7 +45,8 @@ pub fn why_not(
 
 impl View<'_> {
     /// Returns the reason why a row (an installed charging profile) doesn't count for a connector:
-    /// `OtherConnector`, `NoTransaction` or `Hidden`.
+    /// `OtherConnector`, `NoTransaction` or `Hidden`. For `explain`, `check`, `call` and the status
+    /// page.
     fn why_not_counted(&self, connector: usize, row: &Row) -> Option<WhyNot>
         ensures { result ≡ why_not_counted (point_state self.now) connector row.now }
     {
@@ -64,7 +65,7 @@ impl View<'_> {
     }
 
     /// Returns the reason why a row (an installed charging profile) has no limit for a connector at
-    /// an instant, if it has none.
+    /// an instant, if it has none. For `explain`, `check`, `call` and the status page.
     fn why_no_limit(
         &self,
         connector: usize,
@@ -85,7 +86,7 @@ impl View<'_> {
     }
 
     /// Returns the reason why a charging profile with a limit doesn't prevail for a connector:
-    /// `BelowHigherLevel` or `BehindTxProfile`.
+    /// `BelowHigherLevel` or `BehindTxProfile`. For `explain`, `check`, `call` and the status page.
     fn why_behind(
         &self,
         connector: usize,
@@ -110,8 +111,9 @@ impl View<'_> {
         None
     }
 
-    /// Whether a charging profile of a purpose with a higher stack level has a limit for a
-    /// connector at an instant. Then a lower level doesn't prevail.
+    /// Whether a profile of a purpose with a higher stack level has a limit for a connector at an
+    /// instant. Then a lower level doesn't prevail. For `explain`, `check`, `call` and the status
+    /// page.
     fn has_higher(
         &self,
         purpose: Purpose,
@@ -128,7 +130,8 @@ impl View<'_> {
     }
 
     /// Whether any row (installed charging profile) that applies to a connector by a purpose has a
-    /// higher stack level and a limit at an instant.
+    /// higher stack level and a limit at an instant. For `explain`, `check`, `call` and the status
+    /// page.
     fn any_higher(
         &self,
         purpose: Purpose,
@@ -157,7 +160,7 @@ impl View<'_> {
 }
 
 /// Whether a charging profile of a purpose that is installed at one connector doesn't apply to
-/// another one.
+/// another one. For `explain`, `check`, `call` and the status page.
 fn is_elsewhere(purpose: Purpose, connector: usize, at: usize) -> bool
     ensures { result ≡ is_elsewhere purpose connector at }
 {
@@ -169,7 +172,8 @@ fn is_elsewhere(purpose: Purpose, connector: usize, at: usize) -> bool
 }
 
 /// Returns the reason why a row (an installed charging profile) has no limit at an offset in its
-/// schedule, or before it. `None` if it has a limit there.
+/// schedule, or before it. `None` if it has a limit there. For `explain`, `check`, `call` and the
+/// status page.
 fn why_no_limit_in(row: &Row, offset: Option<u64>) -> Option<WhyNot>
     ensures { result ≡ why_no_limit_in row.now offset }
 {

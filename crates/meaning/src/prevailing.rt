@@ -12,7 +12,8 @@ use profile::{Purpose, Row, is_candidate};
 
 impl View<'_> {
     /// Returns the limit of a connector at an instant by the prevailing profile of a purpose
-    /// (chapter 3.13), in tenths, or `None` if no profile of that purpose has one.
+    /// (chapter 3.13), definition by definition, in tenths. `None` if no profile of that purpose
+    /// has one.
     pub(crate) fn prevailing(
         &self,
         purpose: Purpose,
@@ -35,7 +36,7 @@ impl View<'_> {
     }
 
     /// Returns a charging profile's stack level and its limit for a connector at an instant, if it
-    /// has one.
+    /// has one, for the definition of the profile that prevails.
     fn level_and_limit(
         &self,
         connector: usize,
@@ -63,8 +64,8 @@ pub fn has_its_transaction(purpose: Purpose, started: Option<Instant>) -> bool
     }
 }
 
-/// Returns, of two profiles' stack levels and limits, the one with the higher level (chapter 3.13),
-/// or the first of equals, or the only one.
+/// Returns, of two profiles' stack levels and limits, the one with the higher level, or the first
+/// of equals, or the only one: the definition of the profile that prevails (chapter 3.13).
 fn higher(best: Option<(u32, u32)>, next: Option<(u32, u32)>) -> Option<(u32, u32)>
     ensures { result ≡ greatest (λ (limit : ℕ × ℕ). limit.0)
         (filter_map (λ limit. limit) (best ∷ (next ∷ []))) }

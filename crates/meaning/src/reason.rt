@@ -50,7 +50,8 @@ pub fn reason_at(
 }
 
 impl View<'_> {
-    /// Returns the limit of the whole charge point at an instant, with its cause.
+    /// Returns the limit of the whole charge point at an instant with its cause, definition by
+    /// definition.
     fn whole_bound(&self, asked: Instant, instant: Instant) -> Bound
         ensures { result ≡ bound_by true (point_state self.now) 0 asked instant }
     {
@@ -69,7 +70,8 @@ impl View<'_> {
         self.below_point(sum, asked, instant)
     }
 
-    /// Returns the charge point's ceiling as a limit with its cause.
+    /// Returns the charge point's ceiling as a limit with its cause, for the definition of a
+    /// limit's reason.
     fn point_ceiling(&self) -> Bound
         ensures { result ≡ bound_of PointCeiling self.now.ceiling }
     {
@@ -80,7 +82,7 @@ impl View<'_> {
     }
 
     /// Returns the least of the prevailing ChargePointMaxProfile, another limit and the charge
-    /// point's ceiling at an instant, with its cause.
+    /// point's ceiling at an instant with its cause, definition by definition.
     fn below_point(&self, bound: Bound, asked: Instant, instant: Instant) -> Bound
         ensures { result ≡ below_point (point_state self.now) asked instant bound }
     {
@@ -88,7 +90,7 @@ impl View<'_> {
     }
 
     /// Returns the least of the charge point's prevailing ChargePointMaxProfile and another limit
-    /// at an instant, with its cause.
+    /// at an instant with its cause, definition by definition.
     fn below_maximum(&self, bound: Bound, asked: Instant, instant: Instant) -> Bound
         ensures { result ≡ lesser_of
             (prevailing_row ChargePointMaxProfile (point_state self.now) 0 asked instant) bound }
@@ -97,8 +99,8 @@ impl View<'_> {
         lesser_of(most, bound)
     }
 
-    /// Returns a connector's own limit at an instant, with its cause: the prevailing TxProfile or
-    /// TxDefaultProfile, or the ceiling.
+    /// Returns a connector's own limit at an instant with its cause, definition by definition: the
+    /// prevailing TxProfile or TxDefaultProfile, or the ceiling.
     fn own_bound(&self, connector: usize, asked: Instant, instant: Instant) -> Bound
         requires above { 0 < connector }
         requires has_connector { connector ≤ length self.now.ceilings.now }
@@ -112,7 +114,7 @@ impl View<'_> {
     }
 
     /// Returns a connector's prevailing TxProfile at an instant, otherwise its prevailing
-    /// TxDefaultProfile, with its limit.
+    /// TxDefaultProfile, with its limit, definition by definition.
     fn transaction_profile(
         &self,
         connector: usize,
@@ -128,8 +130,8 @@ impl View<'_> {
         }
     }
 
-    /// Returns the sum of the active connectors' own limits at an instant, but at most `most`, as a
-    /// limit of the whole charge point.
+    /// Returns the sum of the active connectors' own limits at an instant, but at most `most`. It
+    /// is a limit of the whole charge point, in the definition of a limit's reason.
     fn shared_limit_up_to(&self, most: u64, asked: Instant, instant: Instant) -> u64
         requires few { most ≤ 4294967296 }
         ensures { result ≡ min most (shared_limit (point_state self.now) asked instant) }
@@ -146,7 +148,7 @@ impl View<'_> {
     }
 
     /// Returns the share of each active connector in the sum that limits the whole charge point at
-    /// an instant.
+    /// an instant, definition by definition.
     fn shares(&self, alloc: Global, asked: Instant, instant: Instant) -> Result<Shares, AllocError>
         requires numbered { length self.now.ceilings.now < 2 ^ 32 }
         ensures { IfOk result
@@ -168,7 +170,7 @@ impl View<'_> {
     }
 
     /// Returns the prevailing profile of a purpose (chapter 3.13) for a connector at an instant
-    /// with its limit, or `None` if no profile of that purpose has one.
+    /// with its limit, definition by definition. `None` if no profile of that purpose has one.
     pub(crate) fn prevailing_profile(
         &self,
         purpose: Purpose,
@@ -191,8 +193,8 @@ impl View<'_> {
         best
     }
 
-    /// Returns the charging profile of a row (installed at a connector) with its limit for a
-    /// connector at an instant, if it has one.
+    /// Returns a row (an installed charging profile) with its limit for a connector at an instant,
+    /// if it has one. For the definition of the profile that prevails.
     fn profile_limit(
         &self,
         connector: usize,

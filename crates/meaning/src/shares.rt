@@ -53,8 +53,8 @@ impl Shares {
     }
 }
 
-/// Whether two reasons for the limit of a charge point have equal lists of the active connectors'
-/// shares in it.
+/// Whether two reasons for a limit have equal lists of the active connectors' shares in the sum
+/// that is the whole charge point's limit.
 fn same_shares(shares: &[Share], others: &[Share]) -> bool
     ensures { IsTrue result ↔ (shares.now ≡ others.now) }
 {

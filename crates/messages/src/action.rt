@@ -128,7 +128,8 @@ pub fn read_fields(
     }
 }
 
-/// Returns the action of a CALL whose fields aren't read, such as Heartbeat, with its fixed answer.
+/// Returns the action of a CALL to the central system whose fields aren't read, such as Heartbeat,
+/// with its fixed answer.
 fn answered(answer: Option<FixedAnswer>) -> Result<Action, CallFault>
     ensures { result ≡ action_answered answer }
 {
@@ -140,8 +141,8 @@ fn answered(answer: Option<FixedAnswer>) -> Result<Action, CallFault>
 
 // ---- the fields of operators' actions
 
-/// Reads SetChargingProfile.req (OCPP 1.6, chapter 6) from the payload of an operator's CALL, or
-/// returns its first fault.
+/// Reads SetChargingProfile.req (OCPP 1.6, chapter 6) from the payload of an operator's CALL to the
+/// central system, or returns its first fault.
 #[tactic(auto, unfolding(crate::specs::Action::set_charging_profile_of))]
 fn read_set_charging_profile(alloc: Global, payload: Node<'_, '_>) -> Result<Action, CallFault>
     ensures { ReadsUnless is_memory (λ action. action) result
@@ -153,8 +154,8 @@ fn read_set_charging_profile(alloc: Global, payload: Node<'_, '_>) -> Result<Act
     Ok(Action::SetChargingProfile { connector, profile })
 }
 
-/// Reads ClearChargingProfile.req (OCPP 1.6, chapter 6) from the payload of an operator's CALL, or
-/// returns its first fault.
+/// Reads ClearChargingProfile.req (OCPP 1.6, chapter 6) from the payload of an operator's CALL to
+/// the central system, or returns its first fault.
 #[tactic(auto, unfolding(crate::specs::Action::clear_charging_profile_of))]
 fn read_clear_charging_profile(payload: Node<'_, '_>) -> Result<Action, CallFault>
     ensures { result ≡ clear_charging_profile_of (tree_at payload.entry) }
@@ -171,8 +172,8 @@ fn read_clear_charging_profile(payload: Node<'_, '_>) -> Result<Action, CallFaul
     }))
 }
 
-/// Reads GetCompositeSchedule.req (OCPP 1.6, chapter 6) from the payload of an operator's CALL, or
-/// returns its first fault.
+/// Reads GetCompositeSchedule.req (OCPP 1.6, chapter 6) from the payload of an operator's CALL to
+/// the central system, or returns its first fault.
 #[tactic(auto, unfolding(crate::specs::Action::get_composite_schedule_of))]
 fn read_get_composite_schedule(payload: Node<'_, '_>) -> Result<Action, CallFault>
     ensures { result ≡ get_composite_schedule_of (tree_at payload.entry) }
@@ -187,8 +188,8 @@ fn read_get_composite_schedule(payload: Node<'_, '_>) -> Result<Action, CallFaul
     }))
 }
 
-/// Reads RemoteStartTransaction.req (OCPP 1.6, chapter 6) from the payload of an operator's CALL,
-/// or returns its first fault.
+/// Reads RemoteStartTransaction.req (OCPP 1.6, chapter 6) from the payload of an operator's CALL to
+/// the central system, or returns its first fault.
 #[tactic(auto, unfolding(crate::specs::Action::remote_start_of))]
 fn read_remote_start(alloc: Global, payload: Node<'_, '_>) -> Result<Action, CallFault>
     ensures { ReadsUnless is_memory (λ action. action) result
@@ -206,7 +207,7 @@ fn read_remote_start(alloc: Global, payload: Node<'_, '_>) -> Result<Action, Cal
 }
 
 /// Reads AuditPoint, our own action to compare a point's composite schedule, from the payload of an
-/// operator's CALL, or returns its first fault.
+/// operator's CALL to the central system, or returns its first fault.
 #[tactic(auto, unfolding(crate::specs::Action::audit_point_of))]
 fn read_audit_point(payload: Node<'_, '_>) -> Result<Action, CallFault>
     ensures { result ≡ audit_point_of (tree_at payload.entry) }
@@ -219,8 +220,8 @@ fn read_audit_point(payload: Node<'_, '_>) -> Result<Action, CallFault>
     })
 }
 
-/// Reads the idTag in the payload of a StartTransaction or RemoteStartTransaction: at most 20
-/// characters (OCPP 1.6, chapter 7, IdToken).
+/// Reads the idTag in the payload of a point's StartTransaction or an operator's
+/// RemoteStartTransaction CALL: at most 20 characters (OCPP 1.6, chapter 7, IdToken).
 #[tactic(auto, unfolding(crate::specs::Action::id_tag_of))]
 fn read_id_tag(alloc: Global, payload: Node<'_, '_>) -> Result<IdTag, CallFault>
     ensures { ReadsUnless is_memory (λ id_tag. id_tag) result (id_tag_of (tree_at payload.entry)) }
@@ -231,8 +232,8 @@ fn read_id_tag(alloc: Global, payload: Node<'_, '_>) -> Result<IdTag, CallFault>
 
 // ---- the fields of points' actions
 
-/// Reads StartTransaction.req (OCPP 1.6, chapter 6) from the payload of a point's CALL, or returns
-/// its first fault.
+/// Reads StartTransaction.req (OCPP 1.6, chapter 6) from the payload of a charge point's CALL to
+/// the central system, or returns its first fault.
 #[tactic(auto, unfolding(crate::specs::Action::start_transaction_of))]
 fn read_start_transaction(alloc: Global, payload: Node<'_, '_>) -> Result<Action, CallFault>
     ensures { ReadsUnless is_memory (λ action. action) result
@@ -251,7 +252,7 @@ fn read_start_transaction(alloc: Global, payload: Node<'_, '_>) -> Result<Action
 }
 
 /// Reads only the transactionId of StopTransaction.req (OCPP 1.6, chapter 6), from the payload of a
-/// point's CALL.
+/// charge point's CALL to the central system.
 #[tactic(auto, unfolding(crate::specs::Action::stop_transaction_of))]
 fn read_stop_transaction(payload: Node<'_, '_>) -> Result<Action, CallFault>
     ensures { result ≡ stop_transaction_of (tree_at payload.entry) }

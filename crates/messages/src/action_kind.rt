@@ -96,8 +96,8 @@ struct ActionRow {
     fields: &'static [FieldRow],
 }
 
-/// Makes the row, in the table of known OCPP actions, of an action whose fields are read from its
-/// CALL.
+/// Makes the row, in the table of the actions that the central system knows, of an action whose
+/// fields are read from its CALL.
 fn with_fields(side: Side, name: &'static str, fields: &'static [FieldRow]) -> ActionRow
     ensures name { result.name.now ≡ name.now }
     ensures side { result.side ≡ side }
@@ -112,8 +112,8 @@ fn with_fields(side: Side, name: &'static str, fields: &'static [FieldRow]) -> A
     }
 }
 
-/// Makes the row, in the table of known OCPP actions, of an action with a fixed answer, whose
-/// fields aren't read.
+/// Makes the row, in the table of the actions that the central system knows, of an action with a
+/// fixed answer, whose fields aren't read.
 fn answered(side: Side, name: &'static str, answer: FixedAnswer) -> ActionRow
     ensures name { result.name.now ≡ name.now }
     ensures side { result.side ≡ side }
@@ -153,8 +153,8 @@ impl ActionKind {
         ]
     }
 
-    /// Returns the action's row of the table of known OCPP actions: its name, its sender's side,
-    /// its fixed answer and its fields.
+    /// Returns the action's row of the table of the actions that the central system knows: its
+    /// name, its sender's side, its fixed answer and its fields.
     fn row(self) -> ActionRow
         ensures name { result.name.now ≡ (row_of self).name }
         ensures side { result.side ≡ (row_of self).side }
@@ -243,7 +243,8 @@ impl ActionKind {
     }
 }
 
-/// Returns the first of these known OCPP actions with this name, as a CALL writes it.
+/// Returns the first of these actions, of those that the central system knows, with this name, as a
+/// CALL writes it.
 fn kind_in(kinds: &[ActionKind], text: &str) -> Option<ActionKind>
     ensures { result ≡ kind_in kinds.now text.now }
 {

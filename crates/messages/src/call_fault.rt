@@ -54,8 +54,8 @@ impl CallFault {
     }
 }
 
-/// Returns the errorCode of the CALLERROR for a refused ClearChargingProfile, StartTransaction or
-/// StopTransaction (OCPP-J 1.6, 4.2.3).
+/// Returns the errorCode of the CALLERROR (OCPP-J 1.6, 4.2.3) with which the central system answers
+/// a refused ClearChargingProfile, StartTransaction or StopTransaction.
 fn refused_code(refusal: Refusal) -> &'static str
     ensures { result.now ≡ refused_code refusal }
 {

@@ -64,8 +64,8 @@ pub fn push_payload_fields(out: &mut String, body: &CallBody) -> Result<(), Allo
     }
 }
 
-/// Appends the fields of ClearChargingProfile.req (OCPP 1.6, chapter 6) to the payload of a call to
-/// a charge point.
+/// Appends the fields of ClearChargingProfile.req (OCPP 1.6, chapter 6) to the payload of a call
+/// that the central system sends to a charge point.
 fn push_clear(out: &mut String, criteria: &Criteria) -> Result<(), AllocError>
     ensures { Appends result (string_bytes out.old) (string_bytes out.new)
         (fields_text (clear_fields criteria.now)) }
@@ -81,8 +81,8 @@ fn push_clear(out: &mut String, criteria: &Criteria) -> Result<(), AllocError>
     )
 }
 
-/// Appends the fields of SetChargingProfile.req (OCPP 1.6, chapter 6) to the payload of a call to a
-/// charge point.
+/// Appends the fields of SetChargingProfile.req (OCPP 1.6, chapter 6) to the payload of a call that
+/// the central system sends to a charge point.
 fn push_set(out: &mut String, connector: u32, profile: &Profile) -> Result<(), AllocError>
     ensures { Appends result (string_bytes out.old) (string_bytes out.new)
         (fields_text (set_fields connector profile.now)) }
@@ -94,7 +94,7 @@ fn push_set(out: &mut String, connector: u32, profile: &Profile) -> Result<(), A
 }
 
 /// Appends the fields of GetCompositeSchedule.req (OCPP 1.6, chapter 6) to the payload of the call
-/// that audits a charge point. The duration is in seconds.
+/// by which the central system audits a charge point. The duration is in seconds.
 fn push_audit(out: &mut String, connector: u32, duration: u32, unit: Unit) -> Result<(), AllocError>
     ensures { Appends result (string_bytes out.old) (string_bytes out.new)
         (fields_text (audit_fields connector duration unit)) }
@@ -110,7 +110,7 @@ fn push_audit(out: &mut String, connector: u32, duration: u32, unit: Unit) -> Re
 }
 
 /// Appends the fields of RemoteStartTransaction.req (OCPP 1.6, chapter 6) to the payload of a call
-/// to a charge point.
+/// that the central system sends to a charge point.
 fn push_remote_start(
     out: &mut String,
     connector: u32,
@@ -128,8 +128,8 @@ fn push_remote_start(
     Ok(())
 }
 
-/// Appends a comma and the chargingProfile field to the payload of a RemoteStartTransaction call,
-/// if it has a profile.
+/// Appends a comma and the chargingProfile field to the payload of a RemoteStartTransaction call to
+/// a charge point, if the call has a profile.
 #[tactic(auto, unfolding(crate::specs::ByCases::ObjectText::later_fields_text))]
 fn push_profile_field(out: &mut String, profile: &Option<Profile>) -> Result<(), AllocError>
     ensures { Appends result (string_bytes out.old) (string_bytes out.new)
@@ -156,7 +156,8 @@ pub fn push_profile(out: &mut String, profile: &Profile) -> Result<(), AllocErro
 }
 
 /// Appends the fields before chargingSchedule to the JSON text of a ChargingProfile (OCPP 1.6,
-/// chapter 7).
+/// chapter 7): for calls to a charge point, the JSON of `show`, and the profiles that `call --undo`
+/// installs again.
 fn push_profile_scalars(out: &mut String, profile: &Profile) -> Result<(), AllocError>
     ensures { Appends result (string_bytes out.old) (string_bytes out.new)
         (fields_text (own_fields profile.now)) }
@@ -182,7 +183,8 @@ fn push_profile_scalars(out: &mut String, profile: &Profile) -> Result<(), Alloc
     )
 }
 
-/// Returns the chargingProfileId, as a field of the JSON text of a ChargingProfile.
+/// Returns the chargingProfileId, as a field of the JSON text of a ChargingProfile, such as that in
+/// a call to a charge point.
 // A function of its own: its contract says that the number keeps its sign.
 fn profile_id(profile: &Profile) -> Option<FieldValue>
     ensures { option_map value_text result ≡ Some (signed_decimal profile.now.id) }
@@ -191,7 +193,7 @@ fn profile_id(profile: &Profile) -> Option<FieldValue>
 }
 
 /// Appends the chargingSchedule to the JSON text of a ChargingProfile (OCPP 1.6, chapter 7,
-/// ChargingSchedule).
+/// ChargingSchedule), such as that in a call to a charge point.
 fn push_schedule(out: &mut String, schedule: &Schedule) -> Result<(), AllocError>
     ensures { Appends result (string_bytes out.old) (string_bytes out.new)
         (schedule_text schedule.now) }
@@ -226,8 +228,8 @@ impl ListItem for Period {
     }
 }
 
-/// Appends a period to the JSON text of a charging schedule (OCPP 1.6, chapter 7,
-/// ChargingSchedulePeriod).
+/// Appends a period to the JSON text of a ChargingProfile's chargingSchedule (OCPP 1.6, chapter 7,
+/// ChargingSchedulePeriod), such as that in a call to a charge point.
 fn push_period(out: &mut String, period: &Period) -> Result<(), AllocError>
     ensures { Appends result (string_bytes out.old) (string_bytes out.new)
         (period_text period.now) }
@@ -275,8 +277,8 @@ enum Criterion {
     StackLevel(u32),
 }
 
-/// Appends the given criteria of a ClearChargingProfile call with commas between them, or
-/// `every profile` if there is none, for pages such as `central show`'s.
+/// Appends the given criteria of a ClearChargingProfile call to a charge point in words, with
+/// commas between them, or `every profile` if there is none. For `show` and `check`.
 fn push_criteria(out: &mut String, criteria: &Criteria) -> Result<(), AllocError>
     ensures { Appends result (string_bytes out.old) (string_bytes out.new)
         (criteria_text (criteria_given criteria.now)) }
@@ -292,8 +294,8 @@ fn push_criteria(out: &mut String, criteria: &Criteria) -> Result<(), AllocError
     )
 }
 
-/// Appends in words those criteria of a ClearChargingProfile call that are given, or
-/// `every profile`, for pages such as that of `central show`.
+/// Appends in words those criteria of a ClearChargingProfile call to a charge point that are given,
+/// or `every profile`. For `show` and `check`.
 fn push_given(out: &mut String, criteria: &[Option<Criterion>]) -> Result<(), AllocError>
     ensures { Appends result (string_bytes out.old) (string_bytes out.new)
         (criteria_text criteria.now) }
@@ -315,8 +317,8 @@ fn push_given(out: &mut String, criteria: &[Option<Criterion>]) -> Result<(), Al
     Ok(())
 }
 
-/// Appends one criterion of a ClearChargingProfile call in words, such as `connector 1`, for pages
-/// such as that of `central show`.
+/// Appends one criterion of a ClearChargingProfile call to a charge point in words, such as
+/// `connector 1`. For `show` and `check`.
 fn push_criterion(out: &mut String, criterion: &Criterion) -> Result<(), AllocError>
     ensures { Appends result (string_bytes out.old) (string_bytes out.new)
         (criterion_words criterion.now) }
@@ -331,8 +333,8 @@ fn push_criterion(out: &mut String, criterion: &Criterion) -> Result<(), AllocEr
     }
 }
 
-/// Appends words and a number, such as `stack level 3`, to the description of a call on pages such
-/// as that of `central show`.
+/// Appends words and a number, such as `stack level 3`, to the subject (in words) of a call to a
+/// charge point. For `show` and `check`.
 fn push_words(out: &mut String, words: &str, number: FieldValue) -> Result<(), AllocError>
     ensures { Appends result (string_bytes out.old) (string_bytes out.new)
         (words.now ++ value_text number) }
@@ -341,8 +343,8 @@ fn push_words(out: &mut String, words: &str, number: FieldValue) -> Result<(), A
     push_value(out, number)
 }
 
-/// Appends the description of a SetChargingProfile call, as in `TxProfile 7 at connector 1`, for
-/// pages such as that of `central show`.
+/// Appends the subject of a SetChargingProfile call to a charge point in words, as in `TxProfile 7
+/// at connector 1`. For `show` and `check`.
 fn push_profile_at(out: &mut String, connector: u32, profile: &Profile) -> Result<(), AllocError>
     ensures { Appends result (string_bytes out.old) (string_bytes out.new)
         (profile_words profile.now.purpose profile.now.id
@@ -352,8 +354,8 @@ fn push_profile_at(out: &mut String, connector: u32, profile: &Profile) -> Resul
     push_words(out, " at connector ", FieldValue::Whole(connector))
 }
 
-/// Appends a charging profile's purpose and id, as in `TxProfile 7`, to a call's description on
-/// pages such as that of `central show`.
+/// Appends a charging profile's purpose and id, as in `TxProfile 7`, to the subject (in words) of a
+/// call to a charge point. For `show` and `check`.
 fn push_profile_words(out: &mut String, profile: &Profile) -> Result<(), AllocError>
     ensures { Appends result (string_bytes out.old) (string_bytes out.new)
         (profile_words profile.now.purpose profile.now.id) }
@@ -362,8 +364,8 @@ fn push_profile_words(out: &mut String, profile: &Profile) -> Result<(), AllocEr
     push_words(out, " ", FieldValue::Signed(profile.id))
 }
 
-/// Appends the description of a GetCompositeSchedule call (an audit), as in `connector 1 for 60 s`,
-/// for pages such as that of `central show`.
+/// Appends the subject of a GetCompositeSchedule call to a charge point (an audit) in words, as in
+/// `connector 1 for 60 s`. For `show` and `check`.
 fn push_audit_words(out: &mut String, connector: u32, duration: u32) -> Result<(), AllocError>
     ensures { Appends result (string_bytes out.old) (string_bytes out.new)
         (audit_words connector duration) }
@@ -373,8 +375,8 @@ fn push_audit_words(out: &mut String, connector: u32, duration: u32) -> Result<(
     out.push_str(" s")
 }
 
-/// Appends the description of a RemoteStartTransaction call, for pages such as that of
-/// `central show`: its idTag, connector, and profile if there is one.
+/// Appends the subject of a RemoteStartTransaction call to a charge point in words: its idTag,
+/// connector, and profile if there is one. For `show` and `check`.
 fn push_remote_start_words(
     out: &mut String,
     connector: u32,
@@ -389,8 +391,8 @@ fn push_remote_start_words(
     Ok(())
 }
 
-/// Appends the idTag and the connector of a RemoteStartTransaction call, as in
-/// `idTag T1 at connector 1`, for pages such as that of `central show`.
+/// Appends the idTag and the connector of a RemoteStartTransaction call to a charge point in words,
+/// as in `idTag T1 at connector 1`. For `show` and `check`.
 fn push_tag_words(out: &mut String, connector: u32, id_tag: &str) -> Result<(), AllocError>
     ensures { Appends result (string_bytes out.old) (string_bytes out.new)
         (tag_words connector id_tag.now) }
@@ -400,8 +402,8 @@ fn push_tag_words(out: &mut String, connector: u32, id_tag: &str) -> Result<(), 
     push_words(out, " at connector ", FieldValue::Whole(connector))
 }
 
-/// Appends the profile of a RemoteStartTransaction call, if it has one, as in ` with TxProfile 7`,
-/// for pages such as that of `central show`.
+/// Appends the profile of a RemoteStartTransaction call to a charge point, if it has one, in words,
+/// as in ` with TxProfile 7`. For `show` and `check`.
 fn push_profile_suffix(out: &mut String, profile: &Option<Profile>) -> Result<(), AllocError>
     ensures { Appends result (string_bytes out.old) (string_bytes out.new)
         (words_of_profile profile.now) }

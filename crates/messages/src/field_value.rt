@@ -25,39 +25,40 @@ pub(crate) enum FieldValue {
     UnitName(Unit),
 }
 
-/// Returns a whole number as the value of a field in a call's JSON payload, if the field is
-/// present.
+/// Returns a whole number as the value of a field in the JSON text of a call to a charge point, if
+/// the field is present.
 pub(crate) fn whole(number: Option<u32>) -> Option<FieldValue>
     ensures { option_map value_text result ≡ option_map decimal number }
 {
     number.map(FieldValue::Whole)
 }
 
-/// Returns a signed number, such as a transactionId, as the value of a field in a call's JSON
-/// payload, if the field is present.
+/// Returns a signed number, such as a transactionId, as the value of a field in a call to a charge
+/// point, if the field is present.
 pub(crate) fn signed(number: Option<i32>) -> Option<FieldValue>
     ensures { option_map value_text result ≡ option_map signed_decimal number }
 {
     number.map(FieldValue::Signed)
 }
 
-/// Returns tenths of A or W as the value of a field in a call's JSON payload, if the field is
-/// present.
+/// Returns tenths of A or W as the value of a field in the text of a call to a charge point, if the
+/// field is present.
 pub(crate) fn tenths(tenths: Option<u32>) -> Option<FieldValue>
     ensures { option_map value_text result ≡ option_map tenths_text tenths }
 {
     tenths.map(FieldValue::Tenths)
 }
 
-/// Returns an instant as the value of a field in a call's JSON payload, if the field is present.
+/// Returns an instant as the value of a field in the JSON text of a call to a charge point, if the
+/// field is present.
 pub(crate) fn time(instant: Option<Instant>) -> Option<FieldValue>
     ensures { option_map value_text result ≡ option_map time_text instant }
 {
     instant.map(FieldValue::Time)
 }
 
-/// Returns a chargingProfilePurpose as the value of a field in a call's JSON payload, if the field
-/// is present.
+/// Returns a chargingProfilePurpose as the value of a field in the JSON text of a call to a charge
+/// point, if the field is present.
 pub(crate) fn purpose(purpose: Option<Purpose>) -> Option<FieldValue>
     ensures { option_map value_text result
         ≡ option_map (λ p. string_text (purpose_name p)) purpose }
@@ -65,8 +66,8 @@ pub(crate) fn purpose(purpose: Option<Purpose>) -> Option<FieldValue>
     purpose.map(FieldValue::PurposeName)
 }
 
-/// Returns the recurrencyKind of a profile's kind as a field's value in a call's JSON payload; only
-/// a Recurring one has it.
+/// Returns the recurrencyKind of a profile's kind as the value of a field in the JSON text of a
+/// call to a charge point; only a Recurring one has it.
 pub(crate) fn recurrency(kind: Kind) -> Option<FieldValue>
     ensures { option_map value_text result
         ≡ option_map (λ r. string_text (recurrency_name r)) (recurrency_of kind) }
@@ -77,7 +78,8 @@ pub(crate) fn recurrency(kind: Kind) -> Option<FieldValue>
     }
 }
 
-/// Appends the value of a field to the JSON payload of a call to a charge point.
+/// Appends the value of a field to the JSON text of a call that the central system sends to a
+/// charge point.
 pub(crate) fn push_value(out: &mut String, value: FieldValue) -> Result<(), AllocError>
     ensures { Appends result (string_bytes out.old) (string_bytes out.new) (value_text value) }
 {
@@ -93,7 +95,8 @@ pub(crate) fn push_value(out: &mut String, value: FieldValue) -> Result<(), Allo
     }
 }
 
-/// Appends an instant as a JSON string, as the value of a field in a call's payload.
+/// Appends an instant as a JSON string, as the value of a field in the text of a call to a charge
+/// point.
 fn push_time(out: &mut String, instant: Instant) -> Result<(), AllocError>
     ensures { Appends result (string_bytes out.old) (string_bytes out.new) (time_text instant) }
 {
@@ -103,8 +106,8 @@ fn push_time(out: &mut String, instant: Instant) -> Result<(), AllocError>
     Ok(())
 }
 
-/// Appends a key or a name as a JSON string to a call's payload. The text has no character to
-/// escape.
+/// Appends a key or a name as a JSON string to the text of a call to a charge point. It has no
+/// character to escape.
 pub(crate) fn push_string(out: &mut String, text: &str) -> Result<(), AllocError>
     ensures { Appends result (string_bytes out.old) (string_bytes out.new) (string_text text.now) }
 {

@@ -71,7 +71,8 @@ pub fn whole_from_zero(fields: Node<'_, '_>, name: FieldName) -> NamedField<u32>
     }
 }
 
-/// Returns the field of an OCPP payload as a number from 0; a negative number is a wrong value.
+/// Returns the field of a CALL's or a reply's payload, read as a whole number, as a number from 0;
+/// a negative number is a wrong value.
 fn from_zero(field: Field<i32>) -> Field<u32>
     ensures { result ≡ from_zero field }
 {
@@ -116,8 +117,8 @@ pub fn one_name_of<T: Named + Drop>(fields: Node<'_, '_>, name: FieldName) -> Na
     }
 }
 
-/// Returns the field of an OCPP payload as one of the named values of `T`, such as a purpose;
-/// another text is a wrong value.
+/// Returns the field of a CALL's or a reply's payload as one of the named values of `T`, such as a
+/// purpose; another text is a wrong value.
 fn one_of<T: Named + Drop>(field: Field<&str>) -> Field<T>
     ensures { result ≡ one_of T.named (field_map (λ text. text.now) field.entry) }
 {
@@ -129,8 +130,8 @@ fn one_of<T: Named + Drop>(field: Field<&str>) -> Field<T>
     }
 }
 
-/// Returns the field of an OCPP payload with this value, or with a wrong value if the field's text
-/// names none.
+/// Returns the field of a CALL's or a reply's payload with this named value, or as a wrong value if
+/// the field's text names none.
 fn value_or_wrong<T: Drop>(value: Option<T>) -> Field<T>
     ensures { result ≡ value_or_wrong value }
 {

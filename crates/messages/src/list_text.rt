@@ -10,12 +10,14 @@ pub(crate) trait ListItem {
     /// The text of a value.
     ghost text: { Self → List ℕ };
 
-    /// Appends the JSON text of the value, for a list in an OCPP message.
+    /// Appends the JSON text of the value, for a list in a call to a charge point or in an answer:
+    /// the periods of a schedule.
     fn push_text(&self, out: &mut String) -> Result<(), AllocError>
         ensures { Appends result (string_bytes out.old) (string_bytes out.new) (text self.now) };
 }
 
-/// Appends a JSON list of values, such as the periods of a schedule, to an OCPP message.
+/// Appends a JSON list of values, the periods of a schedule, to a call to a charge point or to an
+/// answer.
 pub(crate) fn push_list<T: ListItem>(out: &mut String, items: &[T]) -> Result<(), AllocError>
     ensures { Appends result (string_bytes out.old) (string_bytes out.new)
         (list_text (map T.text items.now)) }
@@ -26,8 +28,8 @@ pub(crate) fn push_list<T: ListItem>(out: &mut String, items: &[T]) -> Result<()
     Ok(())
 }
 
-/// Appends the items of a JSON list in an OCPP message, such as a schedule's periods, with commas
-/// between them.
+/// Appends the items of a JSON list, the periods of a schedule in a call to a charge point or in an
+/// answer, with commas between them.
 fn push_joined<T: ListItem>(out: &mut String, items: &[T]) -> Result<(), AllocError>
     ensures { Appends result (string_bytes out.old) (string_bytes out.new)
         (joined (map T.text items.now)) }

@@ -38,7 +38,8 @@ pub fn recurrency_name(kind: Kind) -> Option<&'static str>
     }
 }
 
-/// Returns the recurrencyKind of a profile as OCPP writes it (chapter 7, RecurrencyKindType).
+/// Returns the recurrencyKind of a profile as OCPP's messages write it (chapter 7,
+/// RecurrencyKindType).
 pub(crate) fn name_of_recurrency(recurrency: Recurrency) -> &'static str
     ensures { result.now ≡ recurrency_name recurrency }
 {

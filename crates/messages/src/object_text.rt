@@ -9,7 +9,8 @@ ghost use Rattle.messages.specs.ByCases.ObjectText.{later_fields_text, rest_text
 use crate::field_value::{FieldValue, push_string, push_value};
 use std::alloc::AllocError;
 
-/// Appends a JSON object to a call's payload, with the fields that are present, in this order.
+/// Appends a JSON object to the text of a call to a charge point, with the fields that are present,
+/// in this order.
 #[tactic(auto, unfolding(crate::specs::ObjectText::object_text))]
 pub(crate) fn push_object(
     out: &mut String,
@@ -24,8 +25,8 @@ pub(crate) fn push_object(
     Ok(())
 }
 
-/// Appends the fields of a JSON object in a call's payload that are present, in this order, with
-/// commas between them.
+/// Appends the fields of a JSON object that are present to the text of a call to a charge point, in
+/// this order, with commas between them.
 #[tactic(auto, unfolding(crate::specs::ObjectText::fields_text))]
 pub(crate) fn push_fields(
     out: &mut String,
@@ -37,8 +38,8 @@ pub(crate) fn push_fields(
     push_rest(out, false, fields)
 }
 
-/// Appends further fields of a JSON object in a call's payload: those that are present, in this
-/// order, each after a comma.
+/// Appends further fields of a JSON object to the text of a call to a charge point: those that are
+/// present, in this order, each after a comma.
 #[tactic(auto, unfolding(crate::specs::ByCases::ObjectText::later_fields_text))]
 pub(crate) fn push_later_fields(
     out: &mut String,
@@ -50,8 +51,8 @@ pub(crate) fn push_later_fields(
     push_rest(out, true, fields)
 }
 
-/// Appends the fields of a JSON object in a call's payload that are present, with commas between
-/// them. Begins with a comma if earlier fields are written.
+/// Appends the fields of a JSON object that are present to the text of a call to a charge point,
+/// with commas between them. Begins with a comma if earlier fields are written.
 fn push_rest(
     out: &mut String,
     some_written: bool,
@@ -74,7 +75,8 @@ fn push_rest(
     Ok(())
 }
 
-/// Appends a field to a JSON object in a call's payload: its key and its value.
+/// Appends a field of a JSON object, its key and its value, to the text of a call to a charge
+/// point.
 fn push_field(out: &mut String, key: &str, value: FieldValue) -> Result<(), AllocError>
     ensures { Appends result (string_bytes out.old) (string_bytes out.new)
         (field_text key.now (value_text value)) }

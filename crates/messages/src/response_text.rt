@@ -33,8 +33,8 @@ pub fn write_response(alloc: Global, id: &str, response: &Response) -> Result<St
     Ok(out)
 }
 
-/// Estimates the length of the answer to a CALL in bytes, so that the text of a long schedule isn't
-/// copied as it grows.
+/// Estimates the length of the central system's answer to a CALL in bytes, so that the text of a
+/// long schedule isn't copied as it grows.
 fn room(response: &Response) -> usize {
     match response {
         Response::Schedule(response) => {
@@ -72,7 +72,8 @@ pub fn push_response(out: &mut String, id: &str, response: &Response) -> Result<
     }
 }
 
-/// Appends the CALLRESULT that answers the CALL of this id, with this payload.
+/// Appends the CALLRESULT with which the central system answers the CALL of this id, with this
+/// payload.
 fn push_result(out: &mut String, id: &str, payload: &str) -> Result<(), AllocError>
     ensures { Appends result (string_bytes out.old) (string_bytes out.new)
         (call_result_text id.now payload.now) }
@@ -82,8 +83,8 @@ fn push_result(out: &mut String, id: &str, payload: &str) -> Result<(), AllocErr
     push_frame_end(out)
 }
 
-/// Appends the answer to a CALL whose install or request is refused, such as a SetChargingProfile.
-/// `OutOfMemory` is a CALLERROR, as for every action.
+/// Appends the central system's answer to a CALL whose install or request is refused, such as a
+/// SetChargingProfile. `OutOfMemory` is a CALLERROR, as for every action.
 fn push_rejected(out: &mut String, id: &str, refusal: Refusal) -> Result<(), AllocError>
     ensures { Appends result (string_bytes out.old) (string_bytes out.new)
         (refusal_text id.now refusal) }
@@ -96,14 +97,16 @@ fn push_rejected(out: &mut String, id: &str, refusal: Refusal) -> Result<(), All
     push_frame_end(out)
 }
 
-/// Returns whether a CALL is refused for lack of memory, and so answered by a CALLERROR.
+/// Returns whether the central system refuses a CALL for lack of memory, and so answers it by a
+/// CALLERROR.
 fn is_out_of_memory(refusal: Refusal) -> bool
     ensures { result ≡ is_out_of_memory refusal }
 {
     matches!(refusal, Refusal::OutOfMemory)
 }
 
-/// Appends the payload of a CALLRESULT that rejects a CALL, with the refusal's name as the reason.
+/// Appends the payload of a CALLRESULT with which the central system rejects a CALL, with the
+/// refusal's name as the reason.
 fn push_rejection(out: &mut String, refusal: Refusal) -> Result<(), AllocError>
     ensures { Appends result (string_bytes out.old) (string_bytes out.new) (rejected_text refusal) }
 {
@@ -113,8 +116,8 @@ fn push_rejection(out: &mut String, refusal: Refusal) -> Result<(), AllocError>
     Ok(())
 }
 
-/// Appends the CALLRESULT that answers a point's BootNotification, with the present moment and the
-/// interval.
+/// Appends the CALLRESULT that answers a charge point's BootNotification, with the present time and
+/// the interval.
 #[tactic(auto, using(crate::proofs::FieldsText::boot_notification_object, std::proofs::lemmas::Grind::common_steps))]
 fn push_boot_notification(
     out: &mut String,
@@ -130,7 +133,7 @@ fn push_boot_notification(
     push_frame_end(out)
 }
 
-/// Appends the CALLRESULT that answers a point's Heartbeat, with the present moment.
+/// Appends the CALLRESULT that answers a charge point's Heartbeat, with the present time.
 fn push_heartbeat(out: &mut String, id: &str, current_time: Instant) -> Result<(), AllocError>
     ensures { Appends result (string_bytes out.old) (string_bytes out.new)
         (call_result_text id.now (heartbeat_text current_time)) }
@@ -141,8 +144,8 @@ fn push_heartbeat(out: &mut String, id: &str, current_time: Instant) -> Result<(
     push_frame_end(out)
 }
 
-/// Appends the beginning of the payload that answers a BootNotification or a Heartbeat: its first
-/// field, currentTime.
+/// Appends the beginning of the payload that answers a charge point's BootNotification or
+/// Heartbeat: its first field, currentTime.
 fn push_current_time(out: &mut String, current_time: Instant) -> Result<(), AllocError>
     ensures { Appends result (string_bytes out.old) (string_bytes out.new)
         (first_field_text (codes "currentTime") (time_text current_time)) }
@@ -153,7 +156,8 @@ fn push_current_time(out: &mut String, current_time: Instant) -> Result<(), Allo
     Ok(())
 }
 
-/// Appends the CALLRESULT that answers a point's StartTransaction, with the transaction's number.
+/// Appends the CALLRESULT that answers a charge point's StartTransaction, with the transaction's
+/// number.
 fn push_start_transaction(out: &mut String, id: &str, transaction: i32) -> Result<(), AllocError>
     ensures { Appends result (string_bytes out.old) (string_bytes out.new)
         (call_result_text id.now (start_transaction_text transaction)) }
@@ -163,7 +167,8 @@ fn push_start_transaction(out: &mut String, id: &str, transaction: i32) -> Resul
     push_frame_end(out)
 }
 
-/// Appends the payload StartTransaction.conf (OCPP 1.6, chapter 6), with the transaction's number.
+/// Appends the payload StartTransaction.conf (OCPP 1.6, chapter 6) of the answer to a charge point,
+/// with the transaction's number.
 fn push_transaction(out: &mut String, transaction: i32) -> Result<(), AllocError>
     ensures { Appends result (string_bytes out.old) (string_bytes out.new)
         (start_transaction_text transaction) }
@@ -189,8 +194,8 @@ fn push_schedule_result(
     push_frame_end(out)
 }
 
-/// Appends the payload GetCompositeSchedule.conf (OCPP 1.6, chapter 6), with the composite
-/// schedule.
+/// Appends the payload GetCompositeSchedule.conf (OCPP 1.6, chapter 6) of the answer to an
+/// operator, with the composite schedule.
 fn push_composite(out: &mut String, response: &ScheduleResponse) -> Result<(), AllocError>
     ensures { Appends result (string_bytes out.old) (string_bytes out.new)
         (composite_text response.now) }
@@ -206,7 +211,7 @@ fn push_composite(out: &mut String, response: &ScheduleResponse) -> Result<(), A
 }
 
 /// Appends a composite schedule to the payload of GetCompositeSchedule.conf (OCPP 1.6, chapter 7,
-/// ChargingSchedule).
+/// ChargingSchedule), the answer to an operator.
 fn push_composite_schedule(
     out: &mut String,
     unit: Unit,
@@ -234,7 +239,7 @@ impl ListItem for CompositePeriod {
 }
 
 /// Appends a period of a composite schedule to the payload of GetCompositeSchedule.conf (OCPP 1.6,
-/// chapter 7, ChargingSchedulePeriod).
+/// chapter 7, ChargingSchedulePeriod), the answer to an operator.
 fn push_composite_period(out: &mut String, period: &CompositePeriod) -> Result<(), AllocError>
     ensures { Appends result (string_bytes out.old) (string_bytes out.new)
         (composite_period_text period.now) }
@@ -247,7 +252,7 @@ fn push_composite_period(out: &mut String, period: &CompositePeriod) -> Result<(
     Ok(())
 }
 
-/// Appends the CALLRESULT that answers PointStatus, an operator's action of our own.
+/// Appends the CALLRESULT that answers PointStatus, an operator's CALL of our own.
 fn push_point_status_result(
     out: &mut String,
     id: &str,
@@ -261,8 +266,8 @@ fn push_point_status_result(
     push_frame_end(out)
 }
 
-/// Appends the payload that answers PointStatus: the version of the site's book, the number of
-/// unconfirmed calls, and the last GetCompositeSchedule audit's outcome.
+/// Appends the payload that answers an operator's PointStatus: the version of the site's book, the
+/// number of unconfirmed calls, and the last GetCompositeSchedule audit's outcome.
 fn push_point_status(out: &mut String, status: PointStatus) -> Result<(), AllocError>
     ensures { Appends result (string_bytes out.old) (string_bytes out.new)
         (point_status_text status) }

@@ -45,8 +45,8 @@ pub fn read_said(alloc: Global, frame: &Frame<'_>) -> Result<Said, Refusal>
     }
 }
 
-/// Reads the payload of a point's reply to a GetCompositeSchedule: its composite schedule, or
-/// `Refused` if the status isn't `Accepted`.
+/// Reads the payload of a charge point's reply to a GetCompositeSchedule call, for an audit: its
+/// composite schedule, or `Refused` if the status isn't `Accepted`.
 fn read_payload(alloc: Global, payload: Node<'_, '_>) -> Result<Said, AllocError>
     ensures { IfOk result (λ said. said ≡ said_of_payload (tree_at payload.entry)) }
 {
@@ -57,7 +57,7 @@ fn read_payload(alloc: Global, payload: Node<'_, '_>) -> Result<Said, AllocError
     }
 }
 
-/// Returns whether the status in the payload of a point's reply is `Accepted`.
+/// Returns whether the status in the payload of a charge point's reply to a call is `Accepted`.
 #[tactic(auto, unfolding(crate::specs::Fields::text))]
 fn has_accepted(payload: Node<'_, '_>) -> bool
     ensures { result ≡ is_accepted (text (tree_at payload.entry) FieldName.Status).field }
@@ -65,7 +65,7 @@ fn has_accepted(payload: Node<'_, '_>) -> bool
     is_accepted_status(text_field(payload, Status.text()))
 }
 
-/// Returns whether the status field of a point's reply has the text `Accepted`.
+/// Returns whether the status field of a charge point's reply to a call has the text `Accepted`.
 fn is_accepted_status(status: Field<&str>) -> bool
     ensures { result ≡ is_accepted (field_map (λ text. text.now) status.entry) }
 {
@@ -75,8 +75,8 @@ fn is_accepted_status(status: Field<&str>) -> bool
     }
 }
 
-/// Reads a point's accepted reply to a GetCompositeSchedule. It is `Unread` if a field is missing
-/// or malformed.
+/// Reads a charge point's accepted reply to a GetCompositeSchedule call, for an audit. It is
+/// `Unread` if a field is missing or malformed.
 fn read_accepted(alloc: Global, payload: Node<'_, '_>) -> Result<Said, AllocError>
     ensures { IfOk result (λ said. said ≡ or_unread (schedule_said (tree_at payload.entry))) }
 {
@@ -88,8 +88,8 @@ fn read_accepted(alloc: Global, payload: Node<'_, '_>) -> Result<Said, AllocErro
     }
 }
 
-/// Reads the composite schedule in a point's accepted reply to a GetCompositeSchedule, or returns a
-/// fault of its fields.
+/// Reads the composite schedule in a charge point's accepted reply to a GetCompositeSchedule call,
+/// or returns a fault of its fields.
 #[tactic(auto, unfolding(crate::specs::Said::schedule_said))]
 fn read_schedule_said(alloc: Global, payload: Node<'_, '_>) -> Result<Said, CallFault>
     ensures { ReadsUnless is_memory (λ said. said) result (schedule_said (tree_at payload.entry)) }
@@ -108,8 +108,8 @@ fn read_schedule_said(alloc: Global, payload: Node<'_, '_>) -> Result<Said, Call
     })
 }
 
-/// Copies the starts and limits of the periods in a point's reply, as the periods of its composite
-/// schedule.
+/// Copies the starts and limits of the periods that were read from a charge point's reply to a
+/// GetCompositeSchedule call, as the periods of its composite schedule.
 fn composite_periods(alloc: Global, periods: &[Period]) -> Result<Vec<CompositePeriod>, AllocError>
     ensures { IfOk result (λ copies. copies.items ≡ map composite_period periods.now) }
 {

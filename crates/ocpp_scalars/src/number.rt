@@ -79,7 +79,8 @@ pub fn read_whole(text: &str) -> Result<i32, NumberFault>
     }
 }
 
-/// Reads a JSON number, for tenths or an OCPP integer, as its sign, its digits and a power of ten.
+/// Reads a JSON number, to become tenths of A or W or a whole number of OCPP, as its sign, its
+/// digits and a power of ten.
 #[tactic(auto, unfolding(crate::specs::ByCases::Number::number_in))]
 fn read_number(text: &str) -> Result<Number, NumberFault>
     ensures value { result ≡ number_in text.now }
@@ -102,8 +103,8 @@ fn read_number(text: &str) -> Result<Number, NumberFault>
     })
 }
 
-/// Returns the value of a JSON number's decimal digits `digits` appended to digits of the value
-/// `start`.
+/// Returns the value of decimal digits of a JSON number (tenths or a whole number of OCPP) appended
+/// to digits of the value `start`.
 fn read_digits(start: u128, digits: &[u8]) -> u128
     requires digits { AreDigits digits.now }
     requires room { (start + 1) * 10 ^ length digits.now ≤ 10 ^ 32 }
@@ -117,8 +118,8 @@ fn read_digits(start: u128, digits: &[u8]) -> u128
     value
 }
 
-/// Returns the power of ten that scales the digits of a JSON number. `places` of the digits are
-/// after the point.
+/// Returns the power of ten that scales the digits of a JSON number (tenths or a whole number of
+/// OCPP). `places` of the digits are after the point.
 fn power(negative: bool, exponent: u128, places: usize) -> i128
     requires exponent { exponent < 10 ^ 32 }
     requires places { places ≤ 32 }
@@ -132,8 +133,8 @@ fn power(negative: bool, exponent: u128, places: usize) -> i128
     }
 }
 
-/// Returns the value of a JSON number, its digits times the power of ten, if that is whole and at
-/// most `most`.
+/// Returns the digits of a JSON number (tenths or a whole number of OCPP) times its power of ten,
+/// if that is whole and at most `most`.
 #[tactic(auto, using(crate::proofs::Scaling::scaling))]
 fn times_power_at_most(most: u32, digits: u128, power: i128) -> Option<u32>
     requires { IsWithin (10 ^ 34) power }
@@ -152,7 +153,7 @@ fn times_power_at_most(most: u32, digits: u128, power: i128) -> Option<u32>
     }
 }
 
-/// Returns the value of a JSON number, as tenths or an OCPP integer, if it is at most `most`.
+/// Returns the value of a JSON number (tenths or a whole number of OCPP), if it is at most `most`.
 fn value_at_most(most: u32, value: u128) -> Option<u32>
     ensures { result ≡ at_most most (Some value) }
 {
@@ -163,8 +164,8 @@ fn value_at_most(most: u32, value: u128) -> Option<u32>
     }
 }
 
-/// Returns the digits of a JSON number with `zeros` zeros appended. `None` means that this exceeds
-/// `most`.
+/// Returns the digits of a JSON number (tenths or a whole number of OCPP) with `zeros` zeros
+/// appended. `None` means that this exceeds `most`.
 #[tactic(auto, using(crate::proofs::Scaling::scaling))]
 fn with_zeros(most: u32, digits: u128, zeros: u128) -> Option<u128>
     requires { 0 < digits }
@@ -181,8 +182,8 @@ fn with_zeros(most: u32, digits: u128, zeros: u128) -> Option<u128>
     Some(value)
 }
 
-/// Returns the digits of a JSON number without `zeros` zeros at their end, or `None` if they end in
-/// fewer.
+/// Returns the digits of a JSON number (tenths or a whole number of OCPP) without `zeros` zeros at
+/// their end, or `None` if they end in fewer.
 #[tactic(auto, using(crate::proofs::Scaling::scaling))]
 fn without_zeros(digits: u128, zeros: u128) -> Option<u128>
     requires digits { 0 < digits }

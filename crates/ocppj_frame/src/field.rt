@@ -104,8 +104,8 @@ pub fn object_field<'tree, 'memory>(
     }
 }
 
-/// Returns the field of this name in a JSON object, such as an OCPP payload, if it is present and
-/// not null.
+/// Returns the field of this name in a JSON object, such as the payload of an OCPP-J message, if it
+/// is present and not null.
 fn present_field<'tree, 'memory>(
     node: Node<'tree, 'memory>,
     name: &str,
@@ -118,8 +118,8 @@ fn present_field<'tree, 'memory>(
     }
 }
 
-/// Returns the field of an OCPP payload with the number or instant that was read, or as a wrong
-/// value if reading failed.
+/// Returns the field of a JSON object, such as an OCPP-J payload, with the number or instant that
+/// was read. If reading failed, it is a wrong value.
 fn value_or_fault<T, E: Drop>(read: Result<T, E>) -> Field<T>
     ensures { result ≡ value_or_fault read }
 {

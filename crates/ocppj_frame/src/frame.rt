@@ -58,8 +58,8 @@ pub fn read_frame<'a>(memory: &'a mut ReadingMemory, text: &str) -> Result<Frame
     frame_of_tree(alloc, tree)
 }
 
-/// Reads the JSON tree of a text as an OCPP-J message: a list with its type, its id and further
-/// elements.
+/// Reads the JSON tree of a text as an OCPP-J frame: a list with its message type, its id and
+/// further elements.
 fn frame_of_tree(alloc: Global, tree: Payload<'_>) -> Result<Frame<'_>, FrameFault>
     ensures message { ReadsUnless is_memory message_in result
         (message_of_tree (tree_in tree.entry)) }
@@ -76,8 +76,8 @@ fn frame_of_tree(alloc: Global, tree: Payload<'_>) -> Result<Frame<'_>, FrameFau
     frame_by(arena, kind, id, third, fourth)
 }
 
-/// Makes the OCPP-J message of this type and id from the third and fourth element of its list, or
-/// returns the message's fault.
+/// Makes the OCPP-J frame (CALL, CALLRESULT or CALLERROR) of this type and id from the third and
+/// fourth element of its list, or returns its fault.
 fn frame_by<'a>(
     arena: &'a Bump,
     kind: Option<MessageType>,
@@ -101,8 +101,8 @@ fn frame_by<'a>(
     }
 }
 
-/// Makes the CALL of this id from its action and payload, or returns `Formation` if either is
-/// malformed.
+/// Makes the OCPP-J frame of the CALL of this id from its action and payload, or returns
+/// `Formation` if either is malformed.
 fn call_of<'a>(
     arena: &'a Bump,
     id: MessageId,
@@ -127,7 +127,8 @@ fn call_of<'a>(
     })
 }
 
-/// Returns the name of the action in the third element of a CALL, if that is a text.
+/// Returns the name of the action in the third element of an OCPP-J frame that is a CALL, if that
+/// is a text.
 fn action_of(element: Option<Payload<'_>>) -> Option<ActionName<'_>>
     ensures { result ≡ option_and_then as_text (option_map tree_in element.entry) }
 {

@@ -18,8 +18,8 @@ pub fn mark_text<'a>(text: &str, room: &'a mut Vec<u8>) -> Result<&'a str, Alloc
     Ok(unsafe { std::str::from_utf8_unchecked(room.as_slice()) })
 }
 
-/// Writes a JSON text, such as an OCPP-J message, to `room` with each string and each number
-/// marked, so that numbers keep all digits.
+/// Writes a JSON text, such as an OCPP-J frame or a site file, to `room` with a mark in front of
+/// each string and each number. So numbers are read without rounding.
 fn mark_bytes(text: &[u8], room: &mut Vec<u8>) -> Result<(), AllocError>
     ensures { OnOk result (room.new.items ≡ marked_text text.now) }
 {
@@ -37,8 +37,9 @@ fn mark_bytes(text: &[u8], room: &mut Vec<u8>) -> Result<(), AllocError>
     Ok(())
 }
 
-/// Appends a byte outside strings and numbers of a JSON text, such as an OCPP-J message, with the
-/// marked string or number that it begins. Returns the bytes that are left.
+/// Appends a byte outside the strings and numbers of a JSON text (an OCPP-J frame or a file) that
+/// is being marked. The string or number that it begins comes with it. Returns the bytes that are
+/// left.
 fn push_outside<'a>(out: &mut Vec<u8>, byte: u8, others: &'a [u8]) -> &'a [u8]
     requires { vec_len out.old + 4 * (length others.now + 1) ≤ vec_capacity out.old }
     ensures marked { out.new.items ++ marked_from outside result.now
@@ -63,8 +64,8 @@ fn push_outside<'a>(out: &mut Vec<u8>, byte: u8, others: &'a [u8]) -> &'a [u8]
     }
 }
 
-/// Appends a string of a JSON text, such as an OCPP-J message, from after its opening quote to its
-/// closing quote. Returns the bytes that are left.
+/// Appends a string of a JSON text that is being marked, such as an OCPP-J frame, from after its
+/// opening quote to its closing quote. Returns the bytes that are left.
 fn push_string<'a>(out: &mut Vec<u8>, text: &'a [u8]) -> &'a [u8]
     requires { vec_len out.old + length text.now ≤ vec_capacity out.old }
     ensures marked { out.new.items ++ marked_from outside result.now
@@ -90,8 +91,8 @@ fn push_string<'a>(out: &mut Vec<u8>, text: &'a [u8]) -> &'a [u8]
     left
 }
 
-/// Appends a number of a JSON text, such as an OCPP-J message, from its second byte on, and its
-/// marked string's closing quote. Returns the bytes that are left.
+/// Appends a number of a JSON text that is being marked, such as an OCPP-J frame, from its second
+/// byte on. Closes the quote of its marked string, and returns the bytes that are left.
 fn push_number<'a>(out: &mut Vec<u8>, text: &'a [u8]) -> &'a [u8]
     requires { vec_len out.old + length text.now + 1 ≤ vec_capacity out.old }
     ensures marked { out.new.items ++ marked_from outside result.now
@@ -112,16 +113,16 @@ fn push_number<'a>(out: &mut Vec<u8>, text: &'a [u8]) -> &'a [u8]
     left
 }
 
-/// Returns whether a byte outside the strings of a JSON text, such as an OCPP-J message, begins a
-/// number, which is to be marked.
+/// Returns whether a byte outside the strings of a JSON text, such as an OCPP-J frame, begins a
+/// number. Numbers get a mark, so that they are read without rounding.
 fn begins_number(byte: u8) -> bool
     ensures { result ≡ begins_number byte }
 {
     matches!(byte, b'0'..=b'9' | b'-')
 }
 
-/// Returns whether a byte can continue a number of a JSON text, such as an OCPP-J message, which is
-/// to be marked.
+/// Returns whether a byte can continue a number of a JSON text, such as an OCPP-J frame. Numbers
+/// get a mark, so that they are read without rounding.
 fn continues_number(byte: u8) -> bool
     ensures { result ≡ continues_number byte }
 {

@@ -49,8 +49,8 @@ pub(crate) fn read_marked<'a>(
     Ok(value)
 }
 
-/// Reads the next JSON value of a marked text, such as an OCPP-J message, with at most `depth`
-/// nested arrays and objects.
+/// Reads the next value of a JSON text, such as an OCPP-J frame, whose strings and numbers have
+/// marks, with at most `depth` nested arrays and objects.
 #[cycle(read)]
 fn read_value<'a>(
     arena: &'a Bump,
@@ -89,8 +89,8 @@ fn read_value<'a>(
     }
 }
 
-/// Reads the items of a JSON array in a marked text, such as an OCPP-J message, up to its closing
-/// bracket.
+/// Reads the items of an array in a JSON text, such as an OCPP-J frame, whose strings and numbers
+/// have marks, up to its closing bracket.
 // This and `read_members` aren't inlined: `read_value` clears its variables on each entry, and
 // would have theirs as well.
 #[cycle(read)]
@@ -117,8 +117,8 @@ fn read_items<'a>(
     Ok(found)
 }
 
-/// Reads the members of a JSON object in a marked text, such as an OCPP-J message, up to its
-/// closing brace. The last of equal keys counts.
+/// Reads the members of an object in a JSON text, such as an OCPP-J frame, whose strings and
+/// numbers have marks, up to its closing brace. The last of equal keys counts.
 #[cycle(read)]
 #[inline(never)]
 fn read_members<'a>(

@@ -20,7 +20,7 @@ pub enum MessageType {
     Other,
 }
 
-/// Returns the message type in the first element of an OCPP-J message, if that is a whole number.
+/// Returns the message type in the first element of an OCPP-J frame, if that is a whole number.
 pub(crate) fn message_type(element: Option<Payload<'_>>) -> Option<MessageType>
     ensures { result ≡ message_type (option_map tree_in element.entry) }
 {
@@ -31,7 +31,7 @@ pub(crate) fn message_type(element: Option<Payload<'_>>) -> Option<MessageType>
     }
 }
 
-/// Returns the type of an OCPP-J message by its number: 2 is a CALL, 3 a CALLRESULT, 4 a CALLERROR.
+/// Returns the type of an OCPP-J frame by its number: 2 is a CALL, 3 a CALLRESULT, 4 a CALLERROR.
 fn type_of_number(number: i32) -> MessageType
     ensures { result ≡ type_of_number number }
 {
@@ -43,7 +43,7 @@ fn type_of_number(number: i32) -> MessageType
     }
 }
 
-/// Copies the id in the second element of an OCPP-J message. `None` if that isn't a text, or is too
+/// Copies the id in the second element of an OCPP-J frame. `None` if that isn't a text, or is too
 /// long for an id.
 pub(crate) fn message_id(
     alloc: Global,
@@ -60,8 +60,8 @@ pub(crate) fn message_id(
     MessageId::try_copy(alloc, text)
 }
 
-/// Returns the payload in an element of an OCPP-J message: the empty object if it is absent or
-/// null, `None` if it isn't an object. Allocates nothing.
+/// Returns the payload in an element of an OCPP-J frame: the empty object if it is absent or null,
+/// `None` if it isn't an object. Allocates nothing.
 pub(crate) fn payload_of<'a>(arena: &'a Bump, element: Option<Payload<'a>>) -> Option<Payload<'a>>
     ensures value { option_map tree_in result ≡ payload_of (option_map tree_in element.entry) }
     ensures object { IfSome result (λ payload. is_object (tree_in payload) ≡ true) }

@@ -9,7 +9,7 @@ use bumpalo::Bump;
 use ocpp_scalars::is_number_text;
 use std::collections::BTreeMap;
 
-/// Returns whether each string and key in a marked JSON text, such as an OCPP-J message, has its
+/// Returns whether each string and key in a marked JSON text, such as an OCPP-J frame, has its
 /// mark, and each number RFC 8259's grammar.
 #[cycle(tree)]
 pub(crate) fn is_tree(value: &MarkedValue<'_>) -> bool
@@ -23,7 +23,7 @@ pub(crate) fn is_tree(value: &MarkedValue<'_>) -> bool
     }
 }
 
-/// Returns whether each item of a JSON array in a marked text, such as an OCPP-J message, has its
+/// Returns whether each item of an array in a marked JSON text, such as an OCPP-J frame, has its
 /// marks and well-formed numbers.
 #[cycle(tree)]
 fn are_trees(values: &[MarkedValue<'_>]) -> bool
@@ -37,8 +37,8 @@ fn are_trees(values: &[MarkedValue<'_>]) -> bool
     true
 }
 
-/// Returns whether each member of a JSON object in a marked text, such as an OCPP-J message, has
-/// its marks and well-formed numbers.
+/// Returns whether each member of an object in a marked JSON text, such as an OCPP-J frame, has its
+/// marks and well-formed numbers.
 #[cycle(tree)]
 fn are_fields(members: &BTreeMap<&str, MarkedValue<'_>, &Bump>) -> bool
     ensures { result ≡ is_some (fields_of (members_view members.now.entries)) }
@@ -51,8 +51,8 @@ fn are_fields(members: &BTreeMap<&str, MarkedValue<'_>, &Bump>) -> bool
     true
 }
 
-/// Returns whether a string of a marked OCPP-J message or JSON file has the mark of a text, or that
-/// of a well-formed number.
+/// Returns whether a string of a marked JSON text, such as an OCPP-J frame, has the mark of a text,
+/// or that of a well-formed number.
 fn is_marked(text: &str) -> bool
     ensures { result ≡ is_some (tree_of_string text.now) }
 {
@@ -65,7 +65,7 @@ fn is_marked(text: &str) -> bool
     }
 }
 
-/// Returns whether a key of a JSON object in a marked text, such as an OCPP-J message, has the mark
+/// Returns whether a key of an object in a marked JSON text, such as an OCPP-J frame, has the mark
 /// of a text.
 fn is_key(key: &str) -> bool
     ensures { result ≡ is_some (name_of_key key.now) }

@@ -6,8 +6,9 @@ ghost use Rattle.point_book.specs.Changes.{transaction_refusal};
 use ocpp_scalars::Refusal;
 use profile::{Profile, Purpose};
 
-/// Returns the reason why a TxProfile isn't for the active transaction, if there is one, at its
-/// connector: `NoTransaction` or `OtherTransaction`. Profiles of other purposes have none.
+/// Returns the reason why the book of a charge point refuses a TxProfile: it isn't for the active
+/// transaction, if there is one, at its connector (`NoTransaction` or `OtherTransaction`). Other
+/// purposes have none.
 pub(crate) fn transaction_refusal(active: Option<i32>, profile: &Profile) -> Option<Refusal>
     ensures { result ≡ transaction_refusal active profile.now }
 {

@@ -21,8 +21,8 @@ pub fn is_candidate(purpose: Purpose, rows: &[Row], connector: usize, row: &Row)
     }
 }
 
-/// Whether a connector has a TxDefaultProfile of its own at a stack level, which replaces that of
-/// the whole charge point.
+/// Whether a connector has, among a charge point's installed profiles, its own TxDefaultProfile at
+/// a stack level. It replaces that of the whole point (connector 0).
 fn is_replaced_at(rows: &[Row], connector: usize, level: u32) -> bool
     ensures { result ≡ is_replaced_at rows.now connector level }
 {

@@ -141,8 +141,8 @@ impl Profile {
         self.has_keys_of(other) && self.has_times_of(other) && self.schedule.same(&other.schedule)
     }
 
-    /// Whether two charging profiles have the same chargingProfileId, transactionId, stack level
-    /// and purpose.
+    /// Whether two well-formed charging profiles have the same chargingProfileId, transactionId,
+    /// stack level and purpose, as one part of being the same.
     // Compared in groups: the prover doesn't decide one `&&` over all fields by itself.
     fn has_keys_of(&self, other: &Profile) -> bool
         ensures { IsTrue result ↔ HaveSameKeys self.now other.now }
@@ -153,7 +153,8 @@ impl Profile {
             && self.purpose == other.purpose
     }
 
-    /// Whether two charging profiles have the same kind, validFrom and validTo.
+    /// Whether two well-formed charging profiles have the same kind, validFrom and validTo, as one
+    /// part of being the same.
     fn has_times_of(&self, other: &Profile) -> bool
         ensures { IsTrue result ↔ HaveSameTimes self.now other.now }
     {
@@ -204,8 +205,8 @@ impl Profile {
             && self.valid_to.is_none_or(|to| instant < to)
     }
 
-    /// Returns the limit of a charging profile at an offset in its schedule, or `None` from the end
-    /// of the schedule's duration on.
+    /// Returns the limit of a well-formed charging profile at an offset in its own schedule, or
+    /// `None` from the end of the schedule's duration on.
     fn rate_within(&self, offset: u64) -> Option<u32>
         ensures { result ≡ rate_within self.now offset }
     {

@@ -4,7 +4,8 @@ ghost use Rattle.std.specs.Prelude.{◌≡◌, ◌==◌, ℕ};
 ghost use Rattle.recurrence.specs.ByCases.Sooner.{sooner};
 ghost use Rattle.recurrence.specs.ByCases.Next.{IsNext};
 
-/// Returns a second at which a charging profile's limit can change, if it is later than another.
+/// Returns a second at which a charging profile's limit can change next, if it is later than
+/// another.
 pub(crate) fn later(number: u64, than: u64) -> Option<u64>
     ensures next { IsNext (λ (k : ℕ). k == number) than result }
 {

@@ -27,8 +27,8 @@ pub(crate) struct Occurrence {
     pub is_live: bool,
 }
 
-/// Returns the occurrence of a charging profile's schedule at an instant. Before the anchor it has
-/// a fence at 0.
+/// Returns the occurrence of a (perhaps Recurring) charging profile's schedule at an instant, from
+/// which its next change is found at once. Before the anchor it has a fence at 0.
 pub(crate) fn occurrence_at(profile: &Profile, base: Instant, instant: Instant) -> Occurrence
     ensures { IsOccurrence profile.now base instant result }
 {
@@ -56,7 +56,7 @@ pub(crate) fn occurrence_at(profile: &Profile, base: Instant, instant: Instant) 
 }
 
 /// Whether a period of a charging profile that has begun sets the limit at an instant with this
-/// offset.
+/// offset, when its next change is looked for.
 fn is_live_at(profile: &Profile, offset: u64, instant: Instant) -> bool
     ensures { result ≡ is_live_at profile.now offset instant }
 {
@@ -68,7 +68,8 @@ fn is_live_at(profile: &Profile, offset: u64, instant: Instant) -> bool
     profile.is_valid_at(instant)
 }
 
-/// Returns the number of a charging schedule's periods that have begun by an offset.
+/// Returns the number of a charging schedule's periods that have begun by an offset, to find its
+/// next change.
 fn begun_by(periods: &[Period], offset: u64) -> usize
     requires ordered { IsTrue (are_in_order periods.now) }
     ensures { IsBegunUpTo periods.now offset result }
@@ -76,8 +77,8 @@ fn begun_by(periods: &[Period], offset: u64) -> usize
     periods.partition_point(|period| u64::from(period.start) <= offset)
 }
 
-/// Returns the first second after `second` at which a charging profile's limit may change other
-/// than by a period's start, in the occurrence from `begin`.
+/// Returns the fence of a charging profile's occurrence from `begin` on: the first second after
+/// `second` at which its limit may change other than by a period's start.
 fn fence_after(profile: &Profile, anchor: u64, begin: u64, second: u64) -> u64
     requires after { anchor ≤ second }
     requires in_calendar { second ≤ last_second }
@@ -92,7 +93,7 @@ fn fence_after(profile: &Profile, anchor: u64, begin: u64, second: u64) -> u64
 }
 
 /// Returns a charging profile's validFrom or validTo if it is later than a second, otherwise a
-/// number past every instant.
+/// number past every instant: its limit can change there next.
 fn bound_after(bound: Option<Instant>, second: u64) -> u64
     ensures { (k : ℕ) → second < k → k < result → is_at k bound ≡ false }
 {
@@ -103,7 +104,7 @@ fn bound_after(bound: Option<Instant>, second: u64) -> u64
 }
 
 /// Returns the end of a charging schedule that began at `begin` if it is later than `second`,
-/// otherwise a number past every instant.
+/// otherwise a number past every instant. A profile's limit can change there next.
 fn end_after(duration: Option<u32>, begin: u64, second: u64) -> u64
     requires begun { begin ≤ second }
     requires in_calendar { second ≤ last_second }
@@ -115,8 +116,8 @@ fn end_after(duration: Option<u32>, begin: u64, second: u64) -> u64
     }
 }
 
-/// Returns the second at which a Recurring charging schedule that began at `begin` begins again.
-/// For other kinds it is past every instant.
+/// Returns the second at which a Recurring charging schedule that began at `begin` begins again,
+/// where its limit can change next. For other kinds it is past every instant.
 fn next_recurrence(kind: Kind, anchor: u64, begin: u64, second: u64) -> u64
     requires after { anchor ≤ second }
     requires in_calendar { second ≤ last_second }
@@ -130,7 +131,7 @@ fn next_recurrence(kind: Kind, anchor: u64, begin: u64, second: u64) -> u64
     }
 }
 
-/// Returns the lesser of two seconds at which a charging profile's limit may change.
+/// Returns the lesser of two seconds at which a charging profile's limit may change next.
 fn lesser(a: u64, b: u64) -> u64
     ensures one { result ≤ a }
     ensures other { result ≤ b }
@@ -138,7 +139,8 @@ fn lesser(a: u64, b: u64) -> u64
     if a <= b { a } else { b }
 }
 
-/// Returns the start of a charging schedule's period, in seconds from the start of the schedule.
+/// Returns the start of a charging schedule's period, in seconds from the start of the schedule, to
+/// find the next change of the limit.
 fn start_of(period: &Period) -> u64
     ensures start { result ≡ period.now.start }
     ensures small { result < 2 ^ 32 }
@@ -146,15 +148,16 @@ fn start_of(period: &Period) -> u64
     u64::from(period.start)
 }
 
-/// Returns the limit of a charging profile's period that has begun, if it sets one.
+/// Returns the limit of a charging profile's period that has begun, if it sets one, from a change
+/// of the limit on.
 fn if_live(is_live: bool, limit: u32) -> Option<u32>
     ensures { result ≡ if_live is_live (Some limit) }
 {
     if is_live { Some(limit) } else { None }
 }
 
-/// Returns the next place of a charging profile and the occurrence from there on, if that place is
-/// a period's start before the fence.
+/// Returns the next change of a charging profile's limit, and its schedule's occurrence from there
+/// on, if that is a period's start. It must be before the fence, the next change of another kind.
 pub(crate) fn next_period(
     profile: &Profile,
     base: Instant,

@@ -87,7 +87,7 @@ impl Iterator for Places<'_> {
 }
 
 /// Returns the next place of a charging profile, at which its limit can change, and the occurrence
-/// of its schedule from there on.
+/// of its (perhaps Recurring) schedule from there on. For the schedule compiler's sweep.
 fn next_place(
     profile: &Profile,
     base: Instant,
@@ -114,7 +114,7 @@ fn next_place(
 }
 
 /// Returns the first place of a charging profile, at which its limit can change, later than an
-/// instant and up to a last one.
+/// instant and up to a last one. For the schedule compiler's sweep.
 fn first_place(profile: &Profile, base: Instant, instant: Instant, last: Instant) -> Option<Instant>
     ensures { IsFirstPlace profile.now base instant last result }
 {

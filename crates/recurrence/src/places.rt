@@ -41,15 +41,16 @@ fn next_place(profile: &Profile, base: Instant, instant: Instant) -> Option<u64>
     sooner(from, sooner(to, turn))
 }
 
-/// Returns a charging profile's validFrom or validTo, in seconds, if it is later than an instant.
+/// Returns a charging profile's validFrom or validTo, in seconds, if it is later than an instant:
+/// the profile's limit can change there next.
 fn next_bound(bound: Option<Instant>, instant: Instant) -> Option<u64>
     ensures { IsNext (λ (k : ℕ). is_at k bound) instant result }
 {
     later(bound?.seconds(), instant.seconds())
 }
 
-/// Returns the next second at which the schedule of a charging profile turns: its anchor, if that
-/// is still to come, otherwise the next turn after it.
+/// Returns the next second at which a charging profile's schedule turns (starts, ends or comes to a
+/// period): its anchor, if that is still to come, otherwise the next turn after it.
 fn next_turn(profile: &Profile, base: Instant, instant: Instant) -> Option<u64>
     ensures { IsNext
         (λ (k : ℕ). is_turn_at profile.now.schedule (offset profile.now base k))

@@ -11,7 +11,8 @@ ghost use Rattle.recurrence.specs.ByCases.Next.{IsNext, is_start};
 use crate::next::{later, sooner};
 use profile::{Kind, Period, Schedule};
 
-/// Returns the next turn of a charging schedule of a kind, in seconds after its anchor.
+/// Returns the next turn of a charging schedule of a kind, Recurring or not, in seconds after its
+/// anchor. A turn is a start, an end, or the start of a period.
 pub(crate) fn next_turn_after(kind: Kind, schedule: &Schedule, seconds: u64) -> Option<u64>
     requires in_calendar { seconds ≤ last_second }
     ensures next { IsNext (λ (k : ℕ). is_turn schedule.now (offset_after kind k)) seconds result }
@@ -25,8 +26,8 @@ pub(crate) fn next_turn_after(kind: Kind, schedule: &Schedule, seconds: u64) -> 
     }
 }
 
-/// Returns the next turn of a charging schedule that begins again after every `length` seconds, in
-/// seconds after its anchor: in the current occurrence, or otherwise the start of the next one.
+/// Returns the next turn of a charging schedule that begins again every `length` seconds, in
+/// seconds after its anchor: a start of a period, the end, or the start of the next occurrence.
 fn next_recurring_turn(schedule: &Schedule, length: u64, seconds: u64) -> u64
     requires some { 0 < length }
     requires short { length ≤ week }
@@ -44,8 +45,8 @@ fn next_recurring_turn(schedule: &Schedule, length: u64, seconds: u64) -> u64
     }
 }
 
-/// Returns the next turn of a charging schedule after an offset: the start of a period, or the end
-/// of the schedule.
+/// Returns the next turn of a charging schedule after an offset in one occurrence: the start of a
+/// period, or the end of the schedule. Its limit can change there.
 fn next_turn_in(schedule: &Schedule, offset: u64) -> Option<u64>
     ensures next { IsNext (is_turn schedule.now) offset result }
     ensures small { IfSome result (λ next. next < 2 ^ 32) }
@@ -54,7 +55,8 @@ fn next_turn_in(schedule: &Schedule, offset: u64) -> Option<u64>
     sooner(start, next_end(schedule.duration, offset))
 }
 
-/// Returns the end of a charging schedule, in seconds from its start, if it is after an offset.
+/// Returns the end of a charging schedule, in seconds from its start, if it is after an offset: its
+/// limit can change there next.
 fn next_end(duration: Option<u32>, offset: u64) -> Option<u64>
     ensures next { IsNext (λ (k : ℕ). is_at k duration) offset result }
     ensures small { IfSome result (λ next. next < 2 ^ 32) }
@@ -63,7 +65,7 @@ fn next_end(duration: Option<u32>, offset: u64) -> Option<u64>
 }
 
 /// Returns the first start of a charging schedule's period after an offset, in seconds from the
-/// schedule's start.
+/// schedule's start: its limit can change there next.
 fn next_start(periods: &[Period], offset: u64) -> Option<u64>
     requires ordered { IsTrue (are_in_order periods.now) }
     ensures next { IsNext (is_start periods.now) offset result }

@@ -59,8 +59,8 @@ enum Turn {
     End(Ended),
 }
 
-/// Reads the next WebSocket message to a simulated charge point, and answers it if it is a text
-/// message.
+/// Reads the next WebSocket message to the simulated charge point of `point`, and answers it if it
+/// is a text message.
 fn take_message<S: Read + Write + Drop, K: MaskKeys + Drop, M: Moments>(
     alloc: Global,
     socket: &mut WebSocket<S, K>,
@@ -79,7 +79,8 @@ fn take_message<S: Read + Write + Drop, K: MaskKeys + Drop, M: Moments>(
     }
 }
 
-/// Answers a message to a simulated charge point, and sends the point's next call.
+/// Answers the central system's message to the simulated charge point of `point`, and sends the
+/// point's next call.
 fn take_text<S: Read + Write + Drop, K: MaskKeys + Drop>(
     alloc: Global,
     socket: &mut WebSocket<S, K>,
@@ -97,7 +98,7 @@ fn take_text<S: Read + Write + Drop, K: MaskKeys + Drop>(
     }
 }
 
-/// Sends the next call of a simulated charge point, if one may go.
+/// Sends the next call of the simulated charge point of `point` over its WebSocket, if one may go.
 fn send_next<S: Read + Write + Drop, K: MaskKeys + Drop>(
     alloc: Global,
     socket: &mut WebSocket<S, K>,
@@ -115,7 +116,8 @@ fn send_next<S: Read + Write + Drop, K: MaskKeys + Drop>(
     }
 }
 
-/// Sends an OCPP message of a simulated charge point over its WebSocket.
+/// Sends an OCPP message of the simulated charge point of `point` over its WebSocket to the central
+/// system.
 fn send<S: Read + Write + Drop, K: MaskKeys + Drop>(
     alloc: Global,
     socket: &mut WebSocket<S, K>,
@@ -124,7 +126,8 @@ fn send<S: Read + Write + Drop, K: MaskKeys + Drop>(
     socket.send(Message::text(alloc, text)?)
 }
 
-/// Closes the connection of a simulated charge point, and waits for the central system to close it.
+/// Closes the WebSocket of the simulated charge point of `point`, and waits for the central system
+/// to close it.
 fn close<S: Read + Write + Drop, K: MaskKeys + Drop, R: Wait>(
     rt: &R,
     socket: &mut WebSocket<S, K>,
@@ -141,7 +144,8 @@ fn close<S: Read + Write + Drop, K: MaskKeys + Drop, R: Wait>(
     unreachable!()
 }
 
-/// Returns how the connection of a simulated charge point ended, by the error of its WebSocket.
+/// Returns how the connection of the simulated charge point of `point` ended, by the error of its
+/// WebSocket.
 fn ended_by(error: Error) -> Ended {
     match error {
         Error::ConnectionClosed | Error::AlreadyClosed => Ended::Closed,

@@ -53,8 +53,8 @@ pub fn answer_action(
     }
 }
 
-/// Returns a row with the charging profile of a SetChargingProfile to a simulated point, at this
-/// connector and moment, or its refusal.
+/// Returns a row (a charging profile at a connector) for the SetChargingProfile that a simulated
+/// point receives at this time, or its refusal.
 fn row_made(now: Instant, connector: u32, parts: ProfileParts) -> Result<Row, Refusal>
     ensures { result ≡ row_made now connector (profile_of_parts parts) }
 {
@@ -167,8 +167,8 @@ fn compose(
     }
 }
 
-/// Returns the request for a composite schedule of a simulated point from this moment on, or its
-/// refusal.
+/// Returns the request for a composite schedule that a GetCompositeSchedule makes of a simulated
+/// point, from the present time on, or its refusal.
 fn ask_at(
     unit: Unit,
     book: &PointBook,

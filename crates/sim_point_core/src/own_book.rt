@@ -128,8 +128,8 @@ impl OwnBook {
     }
 }
 
-/// Returns what the stop of a simulated point's transaction needs: the transactionId and the meter
-/// value of its start.
+/// Returns the part of a simulated point's transaction that its StopTransaction needs: the
+/// transactionId, and the meter value of its start.
 fn running_of(id: i32, begin: &Begin) -> ActiveTransaction
     ensures { result ≡ record { id = id; meter = begin.now.meter_start } }
 {

@@ -132,8 +132,8 @@ impl SimPoint {
         }
     }
 
-    /// Performs an action of the central system at a simulated point. Returns the message that
-    /// answers the CALL of this id.
+    /// Performs an action of the central system's CALL at a simulated point. Returns the message
+    /// that answers the CALL of this id.
     fn on_action(
         &mut self,
         now: Instant,
@@ -192,7 +192,8 @@ impl SimPoint {
         }
     }
 
-    /// Ends the simulated point's call in flight, if a reply of this id is its own.
+    /// Ends the simulated point's call in flight to the central system, if the reply of this id is
+    /// for it.
     fn on_reply(&mut self, id: &str, transaction: Option<i32>) -> Result<(), AllocError>
         ensures replied { OnOk result (self.new ≡ replied self.old id.now transaction) }
         ensures unchanged { OnErr result (self.new ≡ self.old) }
@@ -254,7 +255,8 @@ impl SimPoint {
     }
 }
 
-/// Returns whether the id of a reply is exactly the number of a simulated point's call in decimal.
+/// Returns whether the id of a reply of the central system is exactly the number of a simulated
+/// point's call in decimal.
 fn is_id_of(number: u64, id: &str) -> bool
     ensures { result ≡ bytes_eq id.now (decimal number) }
 {

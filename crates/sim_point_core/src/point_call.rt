@@ -60,7 +60,8 @@ pub fn first_call(
     Ok(None)
 }
 
-/// Returns the OCPP call that a step of a simulated point makes at a moment, if it makes one.
+/// Returns the OCPP call to the central system that a step of a simulated point makes at a given
+/// time, if it makes one.
 fn call_of(
     alloc: Global,
     book: &OwnBook,
@@ -94,8 +95,8 @@ fn call_of(
     }
 }
 
-/// Returns a simulated point's StartTransaction with a charging profile, if the point has its
-/// connector.
+/// Returns a simulated point's StartTransaction at a connector, with the charging profile of the
+/// remote start that led to it, if any. None if the point lacks the connector.
 fn start_of(
     book: &OwnBook,
     connector: u32,
@@ -123,7 +124,7 @@ pub(crate) fn has_connector(book: &PointBook, connector: u32) -> bool
 }
 
 /// Returns the data of a simulated point's StartTransaction: a copy of the idTag, the meter value
-/// and the moment.
+/// and the time.
 fn begin_of(alloc: Global, tag: &IdTag, meter: i32, now: Instant) -> Result<Begin, AllocError>
     ensures { IfOk result (λ begin. begin
         ≡ record { id_tag = tag.now; meter_start = meter; timestamp = now }) }

@@ -25,7 +25,7 @@ pub fn write_call(alloc: Global, number: u64, call: &PointCall) -> Result<String
     Ok(out)
 }
 
-/// Returns the name of the OCPP action in a simulated point's call.
+/// Returns the name of the OCPP action in a simulated point's call to the central system.
 fn action_name(call: &PointCall) -> &'static str
     ensures { result.now ≡ action_name call.now }
 {
@@ -36,7 +36,7 @@ fn action_name(call: &PointCall) -> &'static str
     }
 }
 
-/// Appends the JSON payload of a simulated point's call.
+/// Appends the JSON payload of a simulated point's call to the central system.
 #[tactic(auto, unfolding(messages::specs::ObjectText::fields_text, messages::specs::ObjectText::object_text))]
 fn push_payload(out: &mut String, call: &PointCall) -> Result<(), AllocError>
     ensures { Appends result (string_bytes out.old) (string_bytes out.new)
@@ -57,7 +57,8 @@ fn push_payload(out: &mut String, call: &PointCall) -> Result<(), AllocError>
     }
 }
 
-/// Appends the payload of a simulated point's StartTransaction.req (chapter 6).
+/// Appends the payload StartTransaction.req (chapter 6) to a simulated point's call to the central
+/// system.
 fn push_start(out: &mut String, connector: u32, begin: &Begin) -> Result<(), AllocError>
     ensures { Appends result (string_bytes out.old) (string_bytes out.new)
         (start_text connector begin.now) }
@@ -74,7 +75,8 @@ fn push_start(out: &mut String, connector: u32, begin: &Begin) -> Result<(), All
     Ok(())
 }
 
-/// Appends the payload of a simulated point's StopTransaction.req (chapter 6).
+/// Appends the payload StopTransaction.req (chapter 6) to a simulated point's call to the central
+/// system.
 fn push_stop(
     out: &mut String,
     transaction: i32,
@@ -94,8 +96,8 @@ fn push_stop(
     Ok(())
 }
 
-/// Appends a whole number to the payload of a simulated point's call. It is passed by reference, so
-/// that callers know that it keeps its sign.
+/// Appends a whole number to the payload of a simulated point's call to the central system. It is
+/// passed by reference, so that callers know that it keeps its sign.
 fn push_signed(out: &mut String, number: &i32) -> Result<(), AllocError>
     ensures { Appends result (string_bytes out.old) (string_bytes out.new)
         (signed_decimal number.now) }

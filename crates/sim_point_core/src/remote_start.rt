@@ -35,16 +35,16 @@ pub fn start_kept(unit: Unit, book: &PointBook, request: RemoteStartTransaction)
     }
 }
 
-/// Returns whether a simulated point has the connector of a remote start, and no transaction is
-/// active there.
+/// Returns whether a simulated point has the connector of a RemoteStartTransaction that it
+/// receives, and no transaction is active there.
 fn may_start(book: &PointBook, connector: u32) -> bool
     ensures { result ≡ may_start book.now connector }
 {
     has_connector(book, connector) && book.transaction_at(connector).is_none()
 }
 
-/// Returns the profile of a remote start, if it has one. `None` if it has one that the simulated
-/// point can't keep.
+/// Returns the profile of a RemoteStartTransaction to a simulated point, if it has one. `None` if
+/// it has one that the point can't keep.
 fn profile_kept(unit: Unit, parts: Option<ProfileParts>) -> Option<Option<Profile>>
     ensures { result ≡ profile_kept unit parts }
 {
@@ -63,8 +63,8 @@ fn profile_kept(unit: Unit, parts: Option<ProfileParts>) -> Option<Option<Profil
     }
 }
 
-/// Returns whether the profile of a remote start is a TxProfile, and has limits in the simulated
-/// point's unit.
+/// Returns whether the profile of a RemoteStartTransaction to a simulated point is a TxProfile, and
+/// has limits in the point's unit.
 fn fits(unit: Unit, profile: &Profile) -> bool
     ensures { result ≡ fits unit profile.now }
 {

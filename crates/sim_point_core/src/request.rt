@@ -58,8 +58,8 @@ pub fn request_of(
     }
 }
 
-/// Returns the request of a message to a simulated point. A CALL is answered, and a reply may end
-/// one of the point's own calls.
+/// Returns the request of the central system's message to a simulated point. A CALL is answered,
+/// and a reply may end one of the point's own calls.
 fn request_of_message(alloc: Global, frame: Frame<'_>) -> Result<Request, AllocError>
     ensures { IfOk result
         (λ request. request ≡ request_of_message (Ok (message_in frame.entry))) }
@@ -91,14 +91,16 @@ fn request_of_message(alloc: Global, frame: Frame<'_>) -> Result<Request, AllocE
     }
 }
 
-/// Returns the transactionId in a reply to a simulated point's call, if it has one.
+/// Returns the transactionId in the central system's reply to a simulated point's call, if it has
+/// one.
 fn transaction_in(payload: Node<'_, '_>) -> Option<i32>
     ensures { result ≡ transaction_in (tree_at payload.entry) }
 {
     whole_in(whole_field(payload, "transactionId"))
 }
 
-/// Returns the whole number of a field in a reply to a simulated point's call, if it has one.
+/// Returns the whole number of a field in the central system's reply to a simulated point's call,
+/// if it has one.
 fn whole_in(field: Field<i32>) -> Option<i32>
     ensures { result ≡ whole_in field }
 {
@@ -108,8 +110,8 @@ fn whole_in(field: Field<i32>) -> Option<i32>
     }
 }
 
-/// Returns the request of the CALL of this id to a simulated point: its action, or the answer that
-/// names its first fault.
+/// Returns the request of the central system's CALL of this id to a simulated point: its action, or
+/// the answer that names its first fault.
 fn request_by_fields(
     alloc: Global,
     id: MessageId,

@@ -9,9 +9,9 @@ use ocpp_scalars::Refusal;
 use point_book::PointBook;
 use profile::Unit;
 
-/// Returns the `Ask` of a Take (a request for a composite schedule) for a point with this book and
-/// a site in this unit. If there is none, the refusal is the first cause: `UnknownConnector`,
-/// `WrongUnit`, `BadDuration` or `PastCalendar`.
+/// Returns the `Ask` for which the machine keeps a Take (a request for a composite schedule), from
+/// its point's book and the site's unit. If there is none, the refusal is the first cause:
+/// `UnknownConnector`, `WrongUnit`, `BadDuration` or `PastCalendar`.
 pub(crate) fn ask_at(unit: Unit, book: &PointBook, take: &Take) -> Result<Ask, Refusal>
     ensures ask { result ≡ ask_at unit book.now take.now }
     ensures connector { IfOk result (λ ask. ask.connector ≤ length book.now.ceilings) }
@@ -25,7 +25,8 @@ pub(crate) fn ask_at(unit: Unit, book: &PointBook, take: &Take) -> Result<Ask, R
     Ask::try_new(take.connector, take.start, take.duration)
 }
 
-/// Whether a request for a composite schedule asks for another unit (A or W) than that of the site.
+/// Whether a Take (the machine's step for a request for a composite schedule) asks for another unit
+/// (A or W) than that of the site.
 fn is_other_unit(asked: Option<Unit>, unit: Unit) -> bool
     ensures { result ≡ is_other_unit asked unit }
 {

@@ -49,8 +49,8 @@ impl PointAudit {
         &self.asked
     }
 
-    /// Copies a charge point's audit, the comparison of the composite schedule that it reports with
-    /// its book. The copy shares the book.
+    /// Copies the audit that the machine keeps of a charge point: the comparison of the composite
+    /// schedule that the point reports with its book. The copy shares the book.
     pub(crate) fn copy(&self) -> Result<PointAudit, AllocError>
         ensures { IfOk result (λ copy. copy ≡ self.now) }
     {
@@ -83,8 +83,8 @@ impl PointAudit {
         }
     }
 
-    /// Whether the book with which the charge point's reported composite schedule is compared has
-    /// the same transactions as this one. Otherwise a verdict on the schedules becomes Unsettled.
+    /// Whether the book that the machine kept when an audit began has the same transactions as the
+    /// charge point's book now. Otherwise a verdict on the schedules becomes Unsettled.
     fn has_transactions_of(&self, now: &PointBook) -> bool
         ensures { result
             ≡ same_transactions self.now.asked.book.transactions now.now.transactions }

@@ -139,8 +139,8 @@ impl CallQueue {
     }
 }
 
-/// Appends copies of unconfirmed calls of a charge point's outbox to a list. These are in the part
-/// of the outbox that its copies share.
+/// Appends copies of unconfirmed calls to a charge point, which its outbox in the machine holds, to
+/// a list. These are in the part of the outbox that its copies share.
 fn copy_slice(
     alloc: Global,
     copies: &mut Vec<CallBody>,
@@ -154,8 +154,8 @@ fn copy_slice(
     Ok(())
 }
 
-/// Appends copies of unconfirmed calls of a charge point's outbox to a list. These are behind the
-/// part of the outbox that its copies share.
+/// Appends copies of unconfirmed calls to a charge point, which its outbox in the machine holds, to
+/// a list. These are behind the part of the outbox that its copies share.
 fn copy_list(
     alloc: Global,
     copies: &mut Vec<CallBody>,
@@ -169,8 +169,8 @@ fn copy_list(
     Ok(())
 }
 
-/// Copies the calls of a charge point's outbox that are behind the part that its copies share, for
-/// a copy of the outbox.
+/// Copies the calls to a charge point that are behind the part of its outbox that copies share, for
+/// a copy of the machine's outbox.
 fn copy_of_bodies(bodies: &LinkedList<CallBody>) -> Result<LinkedList<CallBody>, AllocError>
     ensures { IfOk result (λ copy. copy ≡ bodies.now) }
 {

@@ -232,8 +232,8 @@ impl ChargePoint {
 
     // ---- Install (chapter 5.16)
 
-    /// Decides a request to install a charging profile at a charge point, or returns the refusal.
-    /// Changes nothing.
+    /// Decides the machine's step Install, a request to install a charging profile at a charge
+    /// point, or returns the refusal. Changes nothing.
     fn decide_install(
         &self,
         site: &Site,
@@ -262,8 +262,8 @@ impl ChargePoint {
         }
     }
 
-    /// Installs a copy of a row (a charging profile at a connector) in the charge point's book, and
-    /// adds the SetChargingProfile call to its outbox.
+    /// Makes the step Install of the machine: installs a copy of a row (a charging profile at a
+    /// connector) in the charge point's book, and adds the SetChargingProfile call to its outbox.
     fn install(
         &mut self,
         site: &Site,
@@ -293,8 +293,8 @@ impl ChargePoint {
 
     // ---- Clear (chapter 5.5)
 
-    /// Decides a request to clear charging profiles of a charge point, or returns the refusal. If
-    /// no profile matches the criteria, the answer is Unknown.
+    /// Decides the machine's step Clear, a request to clear charging profiles of a charge point, or
+    /// returns the refusal. If no profile matches the criteria, the answer is Unknown.
     fn decide_clear(&self, numbers: &Numbers, criteria: &Criteria) -> Result<Decision, Refusal>
         ensures decision { result ≡ decision_of (clears numbers.now criteria.now self.now) }
         ensures comes { ComesTo (clears numbers.now criteria.now self.now) Reply.Accepted result }
@@ -311,8 +311,8 @@ impl ChargePoint {
         }
     }
 
-    /// Removes the profiles that match each given criterion from the charge point's book, and adds
-    /// the ClearChargingProfile call to its outbox.
+    /// Makes the step Clear of the machine: removes the profiles that match each given criterion
+    /// from the charge point's book, and adds the ClearChargingProfile call to its outbox.
     fn clear(
         &mut self,
         numbers: &Numbers,
@@ -337,8 +337,8 @@ impl ChargePoint {
 
     // ---- Start (chapter 4.8)
 
-    /// Decides the start of a transaction at a charge point's connector, or returns the refusal. A
-    /// retransmitted start is answered with its transaction's number.
+    /// Decides the machine's step Start, a charge point's StartTransaction at a connector, or
+    /// returns the refusal. A retransmitted start is answered with its transaction's number.
     fn decide_start(
         &self,
         numbers: &Numbers,
@@ -366,10 +366,9 @@ impl ChargePoint {
         }
     }
 
-    /// Begins a transaction at a charge point's connector with the next number and a copy of
-    /// `begin`, or answers a retransmitted start. A remote start that waits there ends, if its call
-    /// has gone out. If that remote start is for this idTag, the transaction begins with its
-    /// profile.
+    /// Makes the step Start of the machine: begins a transaction at a charge point's connector, or
+    /// answers a retransmitted start. A remote start that waits there ends, if its call has gone
+    /// out. If it is for this idTag, the transaction begins with its profile.
     fn start(
         &mut self,
         numbers: &Numbers,
@@ -397,8 +396,8 @@ impl ChargePoint {
         }
     }
 
-    /// Copies the profile with which a charge point's transaction begins. It is that of the remote
-    /// start which the transaction ends, if both have the same idTag.
+    /// Copies the profile with which the machine begins a charge point's transaction. It is that of
+    /// the remote start which the transaction ends, if both have the same idTag.
     fn profile_at_start(&self, connector: u32, begin: &Begin) -> Result<Option<Profile>, AllocError>
         ensures { IfOk result
             (λ profile. profile ≡ profile_at_start self.now connector begin.now) }
@@ -409,8 +408,8 @@ impl ChargePoint {
         }
     }
 
-    /// Returns the remote start that a transaction at a connector ends: it waits there, and its
-    /// call has gone out to the charge point.
+    /// Returns the remote start, requested by an operator, that a transaction which the machine
+    /// begins at a connector ends: it waits there, and its call has gone out to the charge point.
     fn ended_start(&self, connector: u32) -> Option<&WaitingStart>
         ensures { option_copied result
             ≡ ended_start self.now.outbox self.now.waiting connector }
@@ -422,9 +421,9 @@ impl ChargePoint {
         }
     }
 
-    /// Returns the charge point's deliveries, with that of the profile with which a transaction
-    /// begins at a connector. The profile came with the call of the remote start that the
-    /// transaction ends.
+    /// Returns the charge point's deliveries (which call brought which profile), with that of the
+    /// profile with which the machine begins a transaction at a connector. It came with the call of
+    /// the remote start that the transaction ends.
     fn with_started(
         &self,
         connector: u32,
@@ -439,7 +438,8 @@ impl ChargePoint {
         }
     }
 
-    /// Removes the waiting remote start that a transaction at a charge point's connector ends.
+    /// Removes the waiting remote start, requested by an operator, that a transaction which the
+    /// machine begins at a charge point's connector ends.
     fn end_start(&mut self, connector: u32)
         ensures { self.new ≡ record self.old {
           waiting = without_ended (ended_start self.old.outbox self.old.waiting connector)
@@ -452,8 +452,8 @@ impl ChargePoint {
         }
     }
 
-    /// Whether the call of this number, such as a RemoteStartTransaction, is in flight to the
-    /// charge point or confirmed.
+    /// Whether the call of this number in a charge point's outbox in the machine, such as a
+    /// RemoteStartTransaction, is in flight to the point or confirmed.
     fn has_gone_out(&self, call: u64) -> bool
         ensures { result ≡ has_gone_out self.now.outbox call }
     {
@@ -462,8 +462,8 @@ impl ChargePoint {
 
     // ---- Stop (chapter 4.10)
 
-    /// Decides the stop of a charge point's transaction by its number, or returns the refusal. If
-    /// no such transaction is active, the answer is NoSuch.
+    /// Decides the machine's step Stop, a charge point's StopTransaction by its number, or returns
+    /// the refusal. If no such transaction is active, the answer is NoSuch.
     fn decide_stop(&self, numbers: &Numbers, number: i32) -> Result<Decision, Refusal>
         ensures decision { result ≡ decision_of (stops numbers.now number self.now) }
         ensures comes { ComesTo (stops numbers.now number self.now) Reply.Ended result }
@@ -477,8 +477,8 @@ impl ChargePoint {
         }
     }
 
-    /// Ends the transaction of this number in the charge point's book, if it is active. Otherwise
-    /// the answer is NoSuch.
+    /// Makes the step Stop of the machine: ends the transaction of this number in the charge
+    /// point's book, if it is active. Otherwise the answer is NoSuch.
     fn stop(&mut self, numbers: &Numbers, point: &PointId, number: i32) -> Result<Reply, Refusal>
         ensures { IsMadeAt (stops numbers.now number self.old)
             (steps.Stop point.now number) self.old result self.new }
@@ -494,7 +494,8 @@ impl ChargePoint {
 
     // ---- links (OCPP-J 1.6, chapter 3)
 
-    /// Decides whether a charge point that connects gets a new link, or returns the refusal.
+    /// Decides the machine's step Attach, whether a charge point that connects gets a new link, or
+    /// returns the refusal.
     fn decide_attach(&self, numbers: &Numbers) -> Result<Decision, Refusal>
         ensures { result ≡ decision_of (attaches numbers.now self.now) }
     {
@@ -504,8 +505,8 @@ impl ChargePoint {
         }
     }
 
-    /// Gives a charge point that connects a new link. A call in flight over the link before it
-    /// waits in the outbox again.
+    /// Makes the step Attach of the machine: gives a charge point that connects a new link. A call
+    /// in flight over the link before it waits in the outbox again.
     fn attach(&mut self, numbers: &Numbers, point: &PointId) -> Result<Reply, Refusal>
         requires { AreNumbers numbers.now }
         ensures { IsMadeAt (attaches numbers.now self.old) (steps.Attach point.now)
@@ -521,7 +522,8 @@ impl ChargePoint {
         }
     }
 
-    /// Removes the lost link to the charge point. A call in flight waits in the outbox again.
+    /// Makes the step Lost of the machine: removes the lost link to the charge point. A call in
+    /// flight waits in the outbox again.
     fn lose(&mut self, point: &PointId, link: u64) -> Reply
         ensures { IsMadeAt (loses self.old) (steps.Lost point.now link)
             self.old (Ok result) self.new }
@@ -532,8 +534,8 @@ impl ChargePoint {
 
     // ---- calls (OCPP-J 1.6, chapter 4)
 
-    /// Decides whether the first call of the charge point's outbox can be sent now. Otherwise the
-    /// answer is Nothing.
+    /// Decides the machine's step Send: whether the first call of the charge point's outbox can be
+    /// sent now. Otherwise the answer is Nothing.
     fn decide_send(&self) -> Result<Decision, Refusal>
         ensures { result ≡ decision_of (sends self.now) }
     {
@@ -544,8 +546,8 @@ impl ChargePoint {
         }
     }
 
-    /// Sends the first call of the charge point's outbox, unless one is in flight. Only the copy of
-    /// the call needs memory.
+    /// Makes the step Send of the machine: hands the first call of the charge point's outbox to its
+    /// session, unless one is in flight. Only the copy of the call needs memory.
     fn send(&mut self, point: &PointId, link: u64) -> Result<Reply, Refusal>
         ensures { IsMadeAt (sends self.old) (steps.Send point.now link) self.old result self.new }
     {
@@ -555,8 +557,8 @@ impl ChargePoint {
         }
     }
 
-    /// Decides whether the charge point's answer to the call of this number is recorded. The
-    /// refusal is `NothingInFlight`.
+    /// Decides the machine's step Confirm: whether the charge point's answer to the call of this
+    /// number is recorded. The refusal is `NothingInFlight`.
     fn decide_confirm(&self, call: u64) -> Result<Decision, Refusal>
         ensures { result ≡ decision_of (confirms call self.now) }
     {
@@ -567,8 +569,9 @@ impl ChargePoint {
         }
     }
 
-    /// Removes the call of this number, which the charge point has answered, from its outbox. If
-    /// the answer isn't Accepted, a remote start that came with the call is dropped.
+    /// Makes the step Confirm of the machine: removes the call of this number, which the charge
+    /// point has answered, from its outbox. If the answer isn't Accepted, a remote start that came
+    /// with the call is dropped.
     fn confirm(
         &mut self,
         point: &PointId,
@@ -591,8 +594,8 @@ impl ChargePoint {
 
     // ---- audits
 
-    /// Decides a request to audit the composite schedule that a charge point reports of a
-    /// connector, or returns the refusal.
+    /// Decides the machine's step Audit, a request to audit the composite schedule that a charge
+    /// point reports of a connector, or returns the refusal.
     fn decide_audit(&self, site: &Site, connector: u32, duration: u32) -> Result<Decision, Refusal>
         ensures decision { result ≡ decision_of (audits site.now connector duration self.now) }
         ensures comes { ComesTo (audits site.now connector duration self.now)
@@ -616,9 +619,9 @@ impl ChargePoint {
         }
     }
 
-    /// Begins an audit of the charge point, in place of an earlier one. Adds the
-    /// GetCompositeSchedule call to its outbox, and keeps its present book to compare the reply
-    /// with.
+    /// Makes the step Audit of the machine: begins an audit of the charge point, in place of an
+    /// earlier one. Adds the GetCompositeSchedule call to its outbox, and keeps its present book to
+    /// compare the reply with.
     fn begin_audit(
         &mut self,
         site: &Site,
@@ -649,9 +652,9 @@ impl ChargePoint {
         }
     }
 
-    /// Checks whether the verdict on the audit whose call has this number can be kept. The refusals
-    /// are `UnknownRequest`, if that audit isn't the present one or has its verdict, and then
-    /// `StrangerInput`.
+    /// Checks whether the machine can keep the verdict on the audit whose call has this number. The
+    /// refusals are `UnknownRequest`, if that audit isn't the point's present one or has its
+    /// verdict, and then `StrangerInput`.
     fn check_judged(&self, call: u64, judged: &Judged) -> Result<(), Refusal>
         ensures kept { OnOk result (judges call judged.now self.now ≡ Ok Reply.VerdictKept) }
         ensures refused { IfErr result (λ refusal. judges call judged.now self.now ≡ Err refusal) }
@@ -667,8 +670,9 @@ impl ChargePoint {
         Ok(())
     }
 
-    /// Decides whether to keep the verdict on the audit whose call has this number, or returns the
-    /// refusal. The verdict judges the point's reply to that GetCompositeSchedule.
+    /// Decides the machine's step Judge: whether to keep the verdict on the audit whose call has
+    /// this number, or returns the refusal. The verdict judges the charge point's reply to that
+    /// GetCompositeSchedule.
     fn decide_judge(&self, call: u64, judged: &Judged) -> Result<Decision, Refusal>
         ensures { result ≡ decision_of (judges call judged.now self.now) }
     {
@@ -678,8 +682,9 @@ impl ChargePoint {
         }
     }
 
-    /// Keeps the verdict on the audit whose call has this number, or returns the refusal. The
-    /// verdict judges the point's reply to that GetCompositeSchedule.
+    /// Makes the step Judge of the machine: keeps the verdict on the audit whose call has this
+    /// number, or returns the refusal. The verdict judges the charge point's reply to that
+    /// GetCompositeSchedule.
     fn judge(&mut self, point: &PointId, call: u64, judged: &Judged) -> Result<Reply, Refusal>
         ensures made { IsMadeAt (judges call judged.now self.old)
             (steps.Judge point.now call judged.now) self.old result self.new }
@@ -695,9 +700,9 @@ impl ChargePoint {
         }
     }
 
-    /// Stores the verdict on a charge point's reply to its audit's GetCompositeSchedule. A verdict
-    /// on the schedules becomes Unsettled if the point's transactions have changed since the
-    /// request.
+    /// Stores the verdict on a charge point's reply to its audit's GetCompositeSchedule in the
+    /// machine. A verdict on the schedules becomes Unsettled if the point's transactions have
+    /// changed since the request.
     fn keep_verdict(&mut self, verdict: Verdict)
         ensures audit { self.new.audit
             ≡ judged_audit self.old.book.transactions verdict self.old.audit }
@@ -716,8 +721,8 @@ impl ChargePoint {
         }
     }
 
-    /// Returns the status of the charge point: the store's version, the number of its unconfirmed
-    /// calls, and the outcome of its audit.
+    /// Returns the machine's reply to the step Status of a charge point: the store's version, the
+    /// number of the point's unconfirmed calls, and the outcome of its audit.
     fn status(&self, numbers: &Numbers) -> PointStatus
         ensures { result ≡ status_of numbers.now self.now }
     {
@@ -732,7 +737,7 @@ impl ChargePoint {
     }
 
     /// Whether the GetCompositeSchedule call of the charge point's audit is still unconfirmed, so
-    /// that no other audit may begin.
+    /// that the machine refuses another audit.
     fn is_audit_open(&self) -> bool
         ensures { result ≡ is_open_among self.now.outbox.calls self.now.audit }
     {
@@ -761,8 +766,8 @@ impl ChargePoint {
 
     // ---- remote starts (chapter 5.11)
 
-    /// Decides an operator's request that the charge point start a transaction
-    /// (RemoteStartTransaction), or returns the refusal.
+    /// Decides the machine's step RemoteStart, an operator's request that the charge point start a
+    /// transaction (RemoteStartTransaction), or returns the refusal.
     fn decide_remote_start(
         &self,
         site: &Site,
@@ -788,8 +793,8 @@ impl ChargePoint {
         }
     }
 
-    /// Adds the RemoteStartTransaction call to the charge point's outbox. The start waits, in place
-    /// of an earlier one at its connector.
+    /// Makes the step RemoteStart of the machine: adds the RemoteStartTransaction call to the
+    /// charge point's outbox. The start waits, in place of an earlier one at its connector.
     fn remote_start(
         &mut self,
         site: &Site,
@@ -829,8 +834,8 @@ impl ChargePoint {
 
     // ---- deliveries, and boots (chapter 4.2)
 
-    /// Records that the charge point booted at a moment. It may have lost what came by the calls
-    /// that it has confirmed.
+    /// Makes the step Boot of the machine: records when the charge point booted. It may have lost
+    /// what came by the calls that it has confirmed.
     fn boot(&mut self, point: &PointId, moment: Instant) -> Reply
         ensures { IsMadeAt (boots self.old) (steps.Boot point.now moment)
             self.old (Ok result) self.new }
@@ -848,7 +853,8 @@ impl ChargePoint {
         self.booted
     }
 
-    /// Returns the charge point's deliveries with that of a profile by the call of a number.
+    /// Returns the deliveries that the machine keeps of a charge point (which call brought which
+    /// profile), with that of this profile by the call of this number.
     fn with_delivery(&self, profile: &Profile, call: u64) -> Result<Deliveries, AllocError>
         ensures { IfOk result (λ made. made ≡ brought_by self.now profile.now call) }
     {
@@ -880,7 +886,8 @@ impl ChargePoint {
 
     // ---- all calls
 
-    /// Returns the reason why no call can be added to the charge point's outbox, if there is one.
+    /// Returns the reason why the machine can't add a call to the charge point's outbox, if there
+    /// is one.
     fn refusal_to_add(&self) -> Option<Refusal>
         ensures refusal { result ≡ refusal_to_add self.now.outbox }
         ensures room { IfNone result (length self.now.outbox.calls < max_calls) }
@@ -895,8 +902,8 @@ impl ChargePoint {
         None
     }
 
-    /// Returns the reason why a call that changes profiles, such as SetChargingProfile, can't be
-    /// added to the charge point's outbox, if there is one.
+    /// Returns the reason why the machine can't add a call that changes profiles, such as
+    /// SetChargingProfile, to the charge point's outbox, if there is one.
     fn refusal_to_call(&self, numbers: &Numbers) -> Option<Refusal>
         ensures refusal { result ≡ refusal_to_call numbers.now self.now }
         ensures room { IfNone result (length self.now.outbox.calls < max_calls) }
@@ -909,8 +916,8 @@ impl ChargePoint {
     }
 }
 
-/// Makes the SetChargingProfile call that installs a row (a charging profile at a connector) at a
-/// charge point.
+/// Makes the SetChargingProfile call that the machine adds to a charge point's outbox when it
+/// installs a row (a charging profile at a connector).
 fn call_of(alloc: Global, row: &Row) -> Result<PreparedCall, AllocError>
     ensures { IfOk result (λ call. call ≡ CallBody.Set row.now.connector row.now.profile) }
 {
@@ -924,8 +931,8 @@ fn call_of(alloc: Global, row: &Row) -> Result<PreparedCall, AllocError>
     }
 }
 
-/// Makes the GetCompositeSchedule call of an audit, which compares the charge point's schedule with
-/// its book.
+/// Makes the GetCompositeSchedule call that the machine adds to a charge point's outbox for an
+/// audit, which compares the point's schedule with its book.
 fn audit_call(
     alloc: Global,
     connector: u32,
@@ -945,7 +952,8 @@ fn audit_call(
     }
 }
 
-/// Makes the RemoteStartTransaction call that asks a charge point to start a transaction.
+/// Makes the RemoteStartTransaction call that the machine adds to a charge point's outbox when an
+/// operator asks that the point start a transaction.
 fn remote_start_call(
     alloc: Global,
     connector: u32,
@@ -966,7 +974,7 @@ fn remote_start_call(
     }
 }
 
-/// Returns the reason why the transaction of a remote start can't begin with a profile:
+/// Returns the reason why the machine refuses an operator's remote start because of its profile:
 /// `WrongUnit`, or else `NotTxProfile`.
 fn refusal_of_profile(site: &Site, profile: &Option<Profile>) -> Option<Refusal>
     ensures { result ≡ refusal_of_profile site.now profile.now }
@@ -979,8 +987,8 @@ fn refusal_of_profile(site: &Site, profile: &Option<Profile>) -> Option<Refusal>
     }
 }
 
-/// Returns the first call whose profile a charge point can't have lost, after the verdict on its
-/// audit by the call of this number. `lost_before` is that call before the verdict.
+/// Returns the first call whose profile a charge point can't have lost, as the machine notes after
+/// the verdict on the audit of this number. `lost_before` is that call before the verdict.
 fn lost_by_verdict(number: u64, verdict: Verdict, lost_before: u64) -> u64
     ensures { result ≡ lost_by_verdict number (Some verdict) lost_before }
 {
@@ -992,8 +1000,8 @@ fn lost_by_verdict(number: u64, verdict: Verdict, lost_before: u64) -> u64
     }
 }
 
-/// Copies the audit of a charge point's reported composite schedule, if there is one, sharing the
-/// book with which it is compared.
+/// Copies the audit that the machine keeps of a charge point's reported composite schedule, if
+/// there is one, sharing the book with which it is compared.
 fn copy_of_audit(audit: &Option<PointAudit>) -> Result<Option<PointAudit>, AllocError>
     ensures { IfOk result (λ copy. copy ≡ audit.now) }
 {

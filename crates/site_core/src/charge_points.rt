@@ -8,8 +8,8 @@ use crate::charge_point::ChargePoint;
 use site_rules::Site;
 use std::alloc::{AllocError, Global};
 
-/// Makes the charge points of a site at its opening, with nothing installed, no active transaction
-/// and no link.
+/// Makes the charge points of the machine at the opening of a site, with nothing installed, no
+/// active transaction and no link.
 pub(crate) fn opening_points(alloc: Global, site: &Site) -> Result<Vec<ChargePoint>, AllocError>
     ensures { IfOk result (λ points. points.items ≡ map opening_point site.now.points) }
 {
@@ -20,7 +20,8 @@ pub(crate) fn opening_points(alloc: Global, site: &Site) -> Result<Vec<ChargePoi
     Ok(points)
 }
 
-/// Copies the states of a site's charge points, sharing their books.
+/// Copies the states of the machine's charge points, sharing their books, for a copy of the
+/// machine.
 pub(crate) fn copy_of_points(
     alloc: Global,
     points: &[ChargePoint],
@@ -34,8 +35,8 @@ pub(crate) fn copy_of_points(
     Ok(copies)
 }
 
-/// Gathers the calls in each charge point's outbox, if memory lasts, so that copies of the site's
-/// state share them.
+/// Gathers the calls in the outbox of each of the machine's charge points, if memory lasts, so that
+/// copies of the machine share them.
 pub(crate) fn gather_calls(points: &mut Vec<ChargePoint>)
     ensures { points.new.items ≡ points.old.items }
 {
@@ -44,7 +45,7 @@ pub(crate) fn gather_calls(points: &mut Vec<ChargePoint>)
     }
 }
 
-/// Returns the state of the charge point at a place in the site file.
+/// Returns the state that the machine keeps of the charge point at a place in the site file.
 pub(crate) fn point_at(points: &Vec<ChargePoint>, place: usize) -> &ChargePoint
     requires { place < length points.now.items }
     ensures { result.now ≡ point_in points.now.items place }

@@ -107,14 +107,16 @@ impl Deliveries {
     }
 }
 
-/// Removes the deliveries to a charge point that don't stay beside a new one.
+/// Removes the deliveries to a charge point (the machine's notes of which call brought which
+/// profile) that don't stay beside a new one.
 fn keep_beside(deliveries: &mut Vec<Delivery>, rows: &[Row], new: Delivery)
     ensures { deliveries.new.items ≡ filter (remains_beside rows.now new) deliveries.old.items }
 {
     deliveries.retain(|delivery| remains_beside(rows, new, delivery));
 }
 
-/// Records that a charge point didn't accept the profile that came with the call of a number.
+/// Records in the machine's deliveries that a charge point didn't accept the profile that came with
+/// the call of a number.
 fn reject_all(deliveries: &mut Vec<Delivery>, call: u64)
     ensures { deliveries.new.items ≡ map (rejected_by call) deliveries.old.items }
 {
@@ -123,36 +125,40 @@ fn reject_all(deliveries: &mut Vec<Delivery>, call: u64)
     }
 }
 
-/// Whether a charge point's delivery stays beside a new one: it is of another profile, which is
-/// among these rows.
+/// Whether a delivery (the machine's note of which call brought a charge point which profile) stays
+/// beside a new one: it is of another profile, which is among these rows (installed profiles).
 fn remains_beside(rows: &[Row], new: Delivery, delivery: &Delivery) -> bool
     ensures { result ≡ remains_beside rows.now new delivery.now }
 {
     is_among(rows, delivery) && !is_replaced(new, delivery)
 }
 
-/// Whether the profile of a delivery to a charge point is among these rows.
+/// Whether the profile of a delivery (the machine's note of which call brought a charge point which
+/// profile) is among these rows (installed profiles).
 fn is_among(rows: &[Row], delivery: &Delivery) -> bool
     ensures { result ≡ is_among rows.now delivery.now }
 {
     rows.iter().any(|row| is_delivery_of(row, delivery))
 }
 
-/// Whether a delivery to a charge point is of this row's profile.
+/// Whether a delivery (the machine's note of which call brought a charge point which profile) is of
+/// the profile of this row (an installed profile).
 fn is_delivery_of(row: &Row, delivery: &Delivery) -> bool
     ensures { result ≡ is_delivery_of row.now delivery.now }
 {
     row.profile.id == delivery.profile
 }
 
-/// Whether a delivery to a charge point is of the profile that a new one brings.
+/// Whether a delivery (the machine's note of which call brought a charge point which profile) is of
+/// the profile that a new one brings.
 fn is_replaced(new: Delivery, delivery: &Delivery) -> bool
     ensures { result ≡ is_replaced new delivery.now }
 {
     delivery.profile == new.profile
 }
 
-/// Records that a charge point rejects a delivery, if it came with the call of this number.
+/// Records that a charge point rejected the profile of a delivery, if it came with the call of this
+/// number. A delivery is the machine's note of which call brought which profile.
 fn reject_by(call: u64, delivery: &mut Delivery)
     ensures { delivery.new ≡ rejected_by call delivery.old }
 {
@@ -161,7 +167,8 @@ fn reject_by(call: u64, delivery: &mut Delivery)
     }
 }
 
-/// Returns the index of the delivery of a row's profile among those to a charge point.
+/// Returns the index of the delivery of a row's profile among the machine's deliveries to a charge
+/// point (which call brought which installed profile).
 fn place_of(deliveries: &[Delivery], row: &Row) -> Option<usize>
     ensures { result ≡ position (is_delivery_of row.now) deliveries.now }
 {

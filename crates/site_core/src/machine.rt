@@ -332,7 +332,7 @@ impl Machine {
         }
     }
 
-    /// Makes a step of the central system at its charge point: decides it there, and does it.
+    /// Makes a step of the machine at its charge point: decides it there, and does it.
     #[inline(never)]
     fn make_at_point(&mut self, step: &Step) -> Result<Reply, Refusal>
         requires { IsAtPoint (work step.now) }
@@ -355,8 +355,8 @@ impl Machine {
         }
     }
 
-    /// Returns the outlook of a step at its charge point, without making it: whether it would be an
-    /// event, or the refusal.
+    /// Returns the outlook of a step of the machine at its charge point, without making it: whether
+    /// it would be an event, or the refusal.
     fn outlook_at_point(&self, step: &Step) -> Result<bool, Refusal>
         requires { IsAtPoint (work step.now) }
         ensures { result ≡ outlook self.now step.now }
@@ -385,8 +385,7 @@ impl Machine {
         Ok(outcomes)
     }
 
-    /// Makes or refuses a step of the central system, and returns its outcome, for a run of several
-    /// steps.
+    /// Makes or refuses a step of the machine, and returns its outcome, for a run of several steps.
     fn outcome_of(&mut self, step: Step) -> Outcome
         ensures { HasOutcome self.old step result self.new }
     {
@@ -396,10 +395,9 @@ impl Machine {
         }
     }
 
-    /// Returns the place in the site file of the charge point of an identity, unless the central
-    /// system is stopped. By a link, that must be the point's present one. The refusals are
-    /// `Stopped`, `UnknownPoint`, `Superseded` and, for an audit at an unknown point,
-    /// `UnknownRequest`.
+    /// Returns the place in the site file of the charge point that a step of the machine names. A
+    /// link must be the point's present one. The refusals are `Stopped`, `UnknownPoint`,
+    /// `Superseded` and, for an audit at an unknown point, `UnknownRequest`.
     fn place_for(&self, point: &PointId, via: Via) -> Result<usize, Refusal>
         ensures place { result ≡ place_for self.now point.now via }
         ensures here { IfOk result (λ place. place_of self.now.site point.now ≡ Some place) }
@@ -426,8 +424,8 @@ impl Machine {
     }
 }
 
-/// Returns the outlook of a step that a charge point decided: whether it would be an event of the
-/// central system, or the refusal.
+/// Returns the outlook of a step of the machine that a charge point decided: whether it would be an
+/// event, or the refusal.
 fn outlook_by(decided: Result<Decision, Refusal>) -> Result<bool, Refusal>
     ensures { result ≡ outlook_by decided }
 {
@@ -438,7 +436,7 @@ fn outlook_by(decided: Result<Decision, Refusal>) -> Result<bool, Refusal>
     }
 }
 
-/// Returns the reply to a step of the central system, or its refusal with the step.
+/// Returns the reply to a step of the machine, or its refusal with the step.
 fn with_step(made: Result<Reply, Refusal>, step: Step) -> Result<Reply, Refused>
     ensures { MatchResult result (λ reply. made ≡ Ok reply)
         (λ refused. (made ≡ Err refused.refusal) × (refused.step ≡ step)) }

@@ -26,7 +26,7 @@ pub struct Numbers {
 }
 
 impl Numbers {
-    /// Returns the reason why no change of a charge point's book can be made, if there is one: the
+    /// Returns the reason why the machine can't change a charge point's book, if there is one: the
     /// store's versions are exhausted.
     pub(crate) fn version_refusal(&self) -> Option<Refusal>
         ensures { result ≡ version_refusal self.now }
@@ -38,8 +38,8 @@ impl Numbers {
         }
     }
 
-    /// Returns the reason why no transaction can begin, if there is one: the store's versions or
-    /// the transactions' numbers are exhausted.
+    /// Returns the reason why the machine can't begin a transaction, if there is one: the store's
+    /// versions or the transactions' numbers are exhausted.
     pub(crate) fn refusal_to_start(&self) -> Option<Refusal>
         ensures { result ≡ refusal_to_start self.now }
     {
@@ -52,8 +52,8 @@ impl Numbers {
         None
     }
 
-    /// Returns the reason why no charge point can get a new link, if there is one: the links'
-    /// numbers are exhausted.
+    /// Returns the reason why the machine can't give a charge point a new link, if there is one:
+    /// the links' numbers are exhausted.
     pub(crate) fn refusal_to_attach(&self) -> Option<Refusal>
         ensures { result ≡ refusal_to_attach self.now }
     {
@@ -64,8 +64,8 @@ impl Numbers {
         }
     }
 
-    /// Returns the number (transactionId) of the next transaction at the site, which must be within
-    /// the limit.
+    /// Returns the number (transactionId) that the machine gives the next transaction at the site,
+    /// which must be within the limit.
     pub(crate) fn next_transaction(&self) -> i32
         requires numbers { AreNumbers self.now }
         requires last { refusal_to_start self.now ≡ None }

@@ -119,8 +119,8 @@ impl Reply {
         }
     }
 
-    /// Returns the numbers of versions, requests, transactions and links that the central system
-    /// drew last, after a step with this reply.
+    /// Returns the numbers of versions, requests, transactions and links that the machine drew
+    /// last, after a step with this reply.
     pub(crate) fn drawn(&self, numbers: Numbers) -> Numbers
         requires { AreNumbers numbers }
         ensures { result ≡ drawn self.now numbers }

@@ -77,15 +77,16 @@ impl KeptRequest {
     }
 }
 
-/// Whether two requests for composite schedules have the same connector, start and duration.
+/// Whether two requests for composite schedules that the machine keeps or answers have the same
+/// connector, start and duration.
 fn is_same(one: &Ask, other: &Ask) -> bool
     ensures { IsTrue result ↔ (one.now ≡ other.now) }
 {
     one.connector == other.connector && one.start == other.start && one.duration == other.duration
 }
 
-/// Copies the answer to a kept request for a composite schedule, if it has one: the schedule or a
-/// refusal.
+/// Copies the answer to a request for a composite schedule that the machine keeps, if it has one:
+/// the schedule or a refusal.
 fn copy_of_answer(
     answer: &Option<Result<Composite, Refusal>>,
 ) -> Result<Option<Result<Composite, Refusal>>, AllocError>

@@ -16,8 +16,8 @@ use ocpp_scalars::Refusal;
 use std::alloc::{AllocError, Global};
 use sweep_compiler::{Compiled, Turns, compile};
 
-/// Returns the `Ask` of the kept request for a composite schedule of this number, and its point's
-/// place in the site file.
+/// Returns the `Ask` of the machine's kept request for a composite schedule of this number, and its
+/// point's place in the site file.
 pub(crate) fn request_asked(requests: &[KeptRequest], number: u64) -> Option<(usize, Ask)>
     ensures { result
         ≡ option_map (λ (kept : Kept). (kept.place, kept.ask)) (request_of number requests.now) }
@@ -29,14 +29,15 @@ pub(crate) fn request_asked(requests: &[KeptRequest], number: u64) -> Option<(us
     Some((request.place, request.ask))
 }
 
-/// Returns the index of the kept request for a composite schedule with this number.
+/// Returns the index of the request with this number among those for composite schedules that the
+/// machine keeps.
 fn place_of(requests: &[KeptRequest], number: u64) -> Option<usize>
     ensures { result ≡ position (λ (kept : Kept). kept.number == number) requests.now }
 {
     requests.iter().position(|request| request.number == number)
 }
 
-/// Compiles the composite schedule of the kept request with this number. The refusals are
+/// Compiles the composite schedule of the machine's kept request with this number. The refusals are
 /// `UnknownRequest` and `AlreadyAnswered`. If memory runs out, `OutOfMemory` is the request's
 /// answer.
 pub(crate) fn compile_request(
@@ -63,9 +64,9 @@ pub(crate) fn compile_request(
     Ok(())
 }
 
-/// Answers a kept request for a composite schedule with an answer compiled elsewhere, and returns a
-/// second copy of it. The refusals are `UnknownRequest`, `AlreadyAnswered` and `StrangerInput`;
-/// then the compiled answer comes back.
+/// Answers the machine's kept request for a composite schedule with an answer compiled elsewhere,
+/// and returns a second copy of it. The refusals are `UnknownRequest`, `AlreadyAnswered` and
+/// `StrangerInput`; then the compiled answer comes back.
 pub(crate) fn post_answer(
     requests: &mut Vec<KeptRequest>,
     number: u64,
@@ -92,7 +93,8 @@ pub(crate) fn post_answer(
     Ok(again)
 }
 
-/// Copies the kept requests for composite schedules, sharing the books.
+/// Copies the requests for composite schedules that the machine keeps, sharing the books, for a
+/// copy of the machine.
 pub(crate) fn copy_of_requests(
     alloc: Global,
     requests: &[KeptRequest],
@@ -106,8 +108,8 @@ pub(crate) fn copy_of_requests(
     Ok(copies)
 }
 
-/// Hands out the answer to the request for a composite schedule with this number, and removes the
-/// request. Replies NotYet if it has no answer. The refusal is `UnknownRequest`.
+/// Hands out the answer to the machine's kept request for a composite schedule with this number,
+/// and removes the request. Replies NotYet if it has no answer. The refusal is `UnknownRequest`.
 pub(crate) fn hand_out(requests: &mut Vec<KeptRequest>, number: u64) -> Result<Reply, Refusal>
     ensures made { MatchResult result
         (λ reply. handed_out number requests.old.items ≡ Ok (reply, requests.new.items))
@@ -127,15 +129,15 @@ pub(crate) fn hand_out(requests: &mut Vec<KeptRequest>, number: u64) -> Result<R
     Ok(reply_of(request))
 }
 
-/// Whether a kept request for a composite schedule has its answer.
+/// Whether a request for a composite schedule that the machine keeps has its answer.
 fn is_answered(request: &KeptRequest) -> bool
     ensures { result ≡ is_some request.now.answer }
 {
     request.answer.is_some()
 }
 
-/// Makes the reply that hands out the answer to a request for a composite schedule, with its book
-/// and `Ask`.
+/// Makes the machine's reply that hands out the answer to a request for a composite schedule, with
+/// its book and `Ask`.
 fn reply_of(request: KeptRequest) -> Reply
     requires { is_some request.answer ≡ true }
     ensures reply { Some result
@@ -149,8 +151,8 @@ fn reply_of(request: KeptRequest) -> Reply
     }
 }
 
-/// Answers by `Stopped` each kept request for a composite schedule that has no answer, as the
-/// central system stops.
+/// Answers by `Stopped` each request for a composite schedule that the machine keeps without an
+/// answer, as the machine stops.
 pub(crate) fn stop_all(requests: &mut Vec<KeptRequest>)
     ensures { requests.new.items ≡ all_stopped requests.old.items }
 {
@@ -159,7 +161,8 @@ pub(crate) fn stop_all(requests: &mut Vec<KeptRequest>)
     }
 }
 
-/// Answers a kept request for a composite schedule by `Stopped`, unless it has its answer.
+/// Answers a request for a composite schedule that the machine keeps by `Stopped`, unless it has
+/// its answer.
 fn stop(request: &mut KeptRequest)
     ensures { request.new ≡ stopped_request request.old }
 {
@@ -168,8 +171,8 @@ fn stop(request: &mut KeptRequest)
     }
 }
 
-/// Returns the outlook of compiling the kept request for a composite schedule with this number: an
-/// event, or the refusal.
+/// Returns the outlook of the machine's step Compile for the kept request for a composite schedule
+/// with this number: an event, or the refusal.
 pub(crate) fn compile_outlook(requests: &[KeptRequest], number: u64) -> Result<bool, Refusal>
     ensures { result ≡ compile_outlook (request_of number requests.now) }
 {
@@ -182,8 +185,8 @@ pub(crate) fn compile_outlook(requests: &[KeptRequest], number: u64) -> Result<b
     Ok(true)
 }
 
-/// Returns the outlook of handing out the answer to a request for a composite schedule: whether it
-/// has one, or the refusal.
+/// Returns the outlook of the machine's step Answer, which hands out the answer to a request for a
+/// composite schedule: whether it has one, or the refusal.
 pub(crate) fn hand_out_outlook(requests: &[KeptRequest], number: u64) -> Result<bool, Refusal>
     ensures { result ≡ hand_out_outlook (request_of number requests.now) }
 {

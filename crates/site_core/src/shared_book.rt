@@ -62,8 +62,9 @@ impl SharedBook {
         self.book
     }
 
-    /// Installs a row (a charging profile at a connector) in a charge point's book, which is copied
-    /// first if it is shared. The row must be one that may be installed (chapter 5.16).
+    /// Installs a row (a charging profile at a connector) in the machine's book of a charge point.
+    /// Copies the book first if it is shared. The row must be one that may be installed (chapter
+    /// 5.16).
     pub(crate) fn install(&mut self, row: Row) -> Result<(), AllocError>
         requires connector { row.connector ≤ length self.old.ceilings }
         requires allowed { install_refusal self.old row ≡ None }
@@ -76,8 +77,8 @@ impl SharedBook {
         }
     }
 
-    /// Removes the profiles that match each given criterion (chapter 5.5) from a charge point's
-    /// book, which is copied first if it is shared.
+    /// Removes the profiles that match each given criterion (chapter 5.5) from the machine's book
+    /// of a charge point. Copies the book first if a request or an audit shares it.
     pub(crate) fn clear(&mut self, criteria: &Criteria) -> Result<(), AllocError>
         ensures book { OnOk result (self.new ≡ book_cleared self.old criteria.now) }
         ensures kept { OnErr result (self.new ≡ self.old) }
@@ -86,8 +87,9 @@ impl SharedBook {
         Ok(())
     }
 
-    /// Begins a transaction of this number at a connector (chapter 4.8) in a charge point's book,
-    /// with a profile if one is given (chapter 5.11).
+    /// Begins a transaction of this number at a connector (chapter 4.8) in the machine's book of a
+    /// charge point, with a profile if one is given (chapter 5.11). Copies the book first if it is
+    /// shared.
     pub(crate) fn start(
         &mut self,
         connector: u32,
@@ -107,8 +109,8 @@ impl SharedBook {
         }
     }
 
-    /// Ends the transaction of this number, if it is active (chapter 4.10), in a charge point's
-    /// book, which is copied first if it is shared.
+    /// Ends the transaction of this number, if it is active (chapter 4.10), in the machine's book
+    /// of a charge point. Copies the book first if a request or an audit shares it.
     pub(crate) fn stop(&mut self, number: i32) -> Result<(), AllocError>
         ensures book { OnOk result (self.new ≡ book_stopped self.old number) }
         ensures kept { OnErr result (self.new ≡ self.old) }

@@ -109,7 +109,8 @@ pub struct Take {
 }
 
 impl Step {
-    /// Returns the charge point that a step of the central system names, and the way to it.
+    /// Returns the charge point that a step of the machine names, and how it names the point: by
+    /// its identity, its link or its audit.
     pub(crate) fn target(&self) -> (&PointId, Via)
         requires { IsAtPoint (work self.now) }
         ensures { IsFor (work self.now) result.0.now result.1 }

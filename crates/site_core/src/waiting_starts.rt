@@ -24,7 +24,8 @@ pub struct WaitingStart {
 }
 
 impl WaitingStart {
-    /// Copies a remote start that waits at a charge point's connector.
+    /// Copies a remote start, requested by an operator, that the machine keeps waiting at a charge
+    /// point's connector.
     pub(crate) fn copy(&self, alloc: Global) -> Result<WaitingStart, AllocError>
         ensures { IfOk result (λ copy. copy ≡ self.now) }
     {
@@ -36,8 +37,8 @@ impl WaitingStart {
         })
     }
 
-    /// Copies the profile that a remote start has for a transaction of this idTag. `None` if it has
-    /// no profile, or is for another idTag.
+    /// Copies the profile that an operator's remote start, which the machine keeps, has for a
+    /// transaction of this idTag. `None` if it has no profile, or is for another idTag.
     pub(crate) fn profile_for(&self, id_tag: &IdTag) -> Result<Option<Profile>, AllocError>
         ensures { IfOk result (λ profile. profile ≡ profile_for id_tag.now (Some self.now)) }
     {
@@ -125,7 +126,8 @@ impl WaitingStarts {
     }
 }
 
-/// Removes the remote start that waits at a charge point's connector.
+/// Removes the remote start, requested by an operator, that the machine keeps waiting at a charge
+/// point's connector.
 fn drop_at(starts: &mut Vec<WaitingStart>, connector: u32)
     ensures starts { starts.new.items ≡ without_waiting starts.old.items connector }
     ensures bound { vec_len starts.new ≤ vec_len starts.old }
@@ -134,21 +136,24 @@ fn drop_at(starts: &mut Vec<WaitingStart>, connector: u32)
     starts.retain(|start| !is_at_connector(connector, start));
 }
 
-/// Whether a remote start waits at this connector of a charge point.
+/// Whether a remote start that the machine keeps for an operator waits at this connector of a
+/// charge point.
 fn is_at_connector(connector: u32, start: &WaitingStart) -> bool
     ensures { result ≡ is_at_connector connector start.now }
 {
     start.connector == connector
 }
 
-/// Whether a waiting remote start came with the RemoteStartTransaction call of this number.
+/// Whether a remote start that the machine keeps for an operator came with the
+/// RemoteStartTransaction call of this number.
 fn is_of_call(call: u64, start: &WaitingStart) -> bool
     ensures { result ≡ is_of_call call start.now }
 {
     start.call == call
 }
 
-/// Returns the index of the remote start that waits at a charge point's connector.
+/// Returns the index of the remote start at this connector among those that the machine keeps for
+/// an operator at a charge point.
 fn place_of(starts: &[WaitingStart], connector: u32) -> Option<usize>
     ensures { result ≡ position (is_at_connector connector) starts.now }
 {
@@ -157,7 +162,8 @@ fn place_of(starts: &[WaitingStart], connector: u32) -> Option<usize>
         .position(|start| is_at_connector(connector, start))
 }
 
-/// Copies the remote starts that wait at a charge point.
+/// Copies the remote starts, requested by an operator, that the machine keeps waiting at a charge
+/// point.
 fn copy_of_starts(alloc: Global, starts: &[WaitingStart]) -> Result<Vec<WaitingStart>, AllocError>
     ensures { IfOk result (λ copies. copies.items ≡ starts.now) }
 {

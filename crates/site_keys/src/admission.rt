@@ -21,7 +21,8 @@ pub enum Admission {
     Forbidden,
 }
 
-/// Decides by the keys of a site whether the client with this Authorization header is admitted.
+/// Decides by the keys of a site whether the server admits the client with this Authorization
+/// header to the URL of a charge point.
 pub(crate) fn decide(
     alloc: Global,
     keys: &[Key],
@@ -38,8 +39,8 @@ pub(crate) fn decide(
     }
 }
 
-/// Decides whether a client is admitted, by the user and the password in the decoded bytes of its
-/// Authorization header.
+/// Decides by the keys of a site whether the server admits a client, from the user and the password
+/// in the decoded bytes of its Authorization header.
 fn decide_decoded(
     alloc: Global,
     keys: &[Key],
@@ -60,8 +61,8 @@ fn decide_decoded(
     }
 }
 
-/// Decides whether a user with right credentials is admitted to the URL of the charge point of this
-/// identity.
+/// Decides whether a user with a right key is admitted to the URL of the charge point of this
+/// identity: a point only to its own.
 fn decide_identity(
     alloc: Global,
     role: Role,
@@ -78,8 +79,8 @@ fn decide_identity(
     }
 }
 
-/// Returns whether a user of this role may connect to the URL of this charge point: a point only to
-/// its own.
+/// Returns whether a user of a key, in this role, may connect to the URL of this charge point: a
+/// point only to its own, an operator to each.
 fn is_own(role: Role, identity: &str, user: &str) -> bool
     ensures { result ≡ is_own role identity.now user.now }
 {

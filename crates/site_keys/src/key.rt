@@ -31,14 +31,14 @@ impl Model for Key {
 }
 
 impl Key {
-    /// Returns whether it is a key of this user in this role, point or operator.
+    /// Returns whether a key of the site is for this user in this role, point or operator.
     fn is_of(&self, role: Role, user: &str) -> bool
         ensures { result ≡ is_of role user.now self.now }
     {
         is_same_role(self.role, role) && self.user.as_str() == user
     }
 
-    /// Returns whether a client's password is the one of this key, by its salted digest.
+    /// Returns whether a client's password is that of this key of the site, by its salted digest.
     fn opens(&self, password: &[u8]) -> bool
         ensures { result ≡ opens password.now self.now }
     {
@@ -46,7 +46,7 @@ impl Key {
     }
 }
 
-/// Returns whether two roles of a key's user are the same, point or operator.
+/// Returns whether two roles of a key's user in the key file are the same, point or operator.
 fn is_same_role(one: Role, other: Role) -> bool
     ensures { result ≡ is_same_role one other }
 {
@@ -56,9 +56,9 @@ fn is_same_role(one: Role, other: Role) -> bool
     }
 }
 
-/// Returns whether this is a password of this user in this role, by the keys of a site. Tries each
-/// key of the user. For an unknown user it computes and compares a digest all the same, so that the
-/// time reveals less of which users exist. It may still reveal something.
+/// Returns whether the keys of a site have this password for this user in this role. Tries each key
+/// of the user. For an unknown user it compares a digest all the same, so that the time reveals
+/// less of which users exist.
 pub(crate) fn has_right_key(keys: &[Key], role: Role, user: &str, password: &[u8]) -> bool
     ensures { result ≡ has_right_key role user.now password.now keys.now }
 {

@@ -39,8 +39,8 @@ pub fn admit(site: &Site, point: &str, connector: u32, profile: &Profile) -> Res
     Ok(())
 }
 
-/// Returns the charge point of this identity in a site, to check whether a profile may be installed
-/// at it.
+/// Returns the charge point of this identity in a site file, by whose rules a profile may or may
+/// not be installed there.
 fn point_named<'a>(site: &'a Site, id: &str) -> Option<SitePoint<'a>>
     ensures { option_map point_entry result ≡ entry_of site.now id.now }
 {
@@ -48,15 +48,16 @@ fn point_named<'a>(site: &'a Site, id: &str) -> Option<SitePoint<'a>>
     site.point(place)
 }
 
-/// Whether the purpose of a charging profile is ChargePointMaxProfile, which may be installed at
-/// connector 0 only.
+/// Whether the purpose of a charging profile is ChargePointMaxProfile, which the site's rules admit
+/// at connector 0 only.
 fn is_charge_point_max(purpose: Purpose) -> bool
     ensures { result ≡ is_charge_point_max purpose }
 {
     matches!(purpose, Purpose::ChargePointMaxProfile)
 }
 
-/// Whether a charging profile's purpose is TxProfile, which may not be installed at connector 0.
+/// Whether a charging profile's purpose is TxProfile, which the site's rules don't admit at
+/// connector 0.
 fn is_tx(purpose: Purpose) -> bool
     ensures { result ≡ is_tx purpose }
 {

@@ -38,7 +38,8 @@ impl Site {
         }
     }
 
-    /// Adds a charge point of a new identity to a site, after the others.
+    /// Adds a charge point of a new identity to a site, after the others, as it is read from the
+    /// site file.
     pub(crate) fn add(&mut self, id: String, limits: PointLimits) -> Result<(), AllocError>
         requires { place_of self.old (string_bytes id) ≡ None }
         ensures unit { self.new.unit ≡ self.old.unit }

@@ -42,7 +42,8 @@ pub(crate) fn drop_cleared(rows: &mut Vec<Row>, criteria: &Criteria)
     rows.retain(|row| !matches(criteria, row));
 }
 
-/// Removes the TxProfile rows of a charge point's connector, whose transaction has ended.
+/// Removes the rows (installed charging profiles) of a charge point that are TxProfiles at this
+/// connector, whose transaction has ended.
 pub(crate) fn drop_transaction_profiles(rows: &mut Vec<Row>, connector: u32)
     ensures rows { rows.new.items ≡ without_transaction_profiles rows.old.items connector }
     ensures bound { vec_len rows.new ≤ vec_len rows.old }
@@ -51,8 +52,8 @@ pub(crate) fn drop_transaction_profiles(rows: &mut Vec<Row>, connector: u32)
     rows.retain(|row| !is_tx_profile_at(connector, row));
 }
 
-/// Whether a newly installed row replaces a row of its charge point: they share the
-/// chargingProfileId, or the connector, purpose and stack level.
+/// Whether a newly installed row (a charging profile at a connector) replaces a row of its charge
+/// point: they share the chargingProfileId, or the connector, purpose and stack level.
 fn is_replaced_by(new: &Row, row: &Row) -> bool
     ensures { result ≡ is_replaced_by new.now row.now }
 {
@@ -69,15 +70,16 @@ fn has_key_of(new: &Row, row: &Row) -> bool
         && row.profile.stack_level == new.profile.stack_level
 }
 
-/// Whether two purposes of charging profiles are equal, as rows of a charge point are compared.
+/// Whether two purposes of charging profiles are equal. So are installed profiles compared at an
+/// install, a clear, a transaction's end, or a look-up by stack level.
 pub(crate) fn is_purpose(purpose: Purpose, other: Purpose) -> bool
     ensures { result ≡ is_purpose purpose other }
 {
     purpose == other
 }
 
-/// Whether a row (an installed charging profile) matches each given criterion of a
-/// ClearChargingProfile.
+/// Whether a charge point's row (an installed charging profile) matches each given criterion of a
+/// ClearChargingProfile, and so is cleared.
 fn matches(criteria: &Criteria, row: &Row) -> bool
     ensures { result ≡ matches criteria.now row.now }
 {
@@ -93,8 +95,8 @@ fn matches(criteria: &Criteria, row: &Row) -> bool
             .is_none_or(|level| row.profile.stack_level == level)
 }
 
-/// Whether a row is a TxProfile at this connector, to be removed when the connector's transaction
-/// ends.
+/// Whether a row (an installed charging profile) is a TxProfile at this connector, to be removed
+/// when the connector's transaction ends.
 fn is_tx_profile_at(connector: u32, row: &Row) -> bool
     ensures { result ≡ is_tx_profile_at connector row.now }
 {

@@ -68,7 +68,8 @@ impl InForce {
     }
 }
 
-/// Gives a level a rate in the sorted list of `InForce`, which the sweep of a schedule uses.
+/// Gives a stack level a limit in `InForce`, the sorted list of levels whose profiles have a limit
+/// at the current instant of the schedule compiler's sweep.
 fn set_rate(rates: &mut Vec<(u32, u32)>, level: u32, rate: u32) -> Result<(), Refusal>
     requires rising { AreRising rates.old.items }
     ensures set { OnOk result (IsSet rates.old.items level (Some rate) rates.new.items) }
@@ -87,8 +88,8 @@ fn set_rate(rates: &mut Vec<(u32, u32)>, level: u32, rate: u32) -> Result<(), Re
     }
 }
 
-/// Removes the rate of a level from the sorted list of `InForce`, if it has one. The sweep of a
-/// schedule does this where a profile's limit ends.
+/// Removes the limit of a stack level from `InForce`, the sorted list of levels with a limit, if it
+/// has one. The schedule compiler's sweep does this where a profile's limit ends.
 fn remove_rate(rates: &mut Vec<(u32, u32)>, level: u32)
     requires rising { AreRising rates.old.items }
     ensures set { IsSet rates.old.items level None rates.new.items }
@@ -100,8 +101,8 @@ fn remove_rate(rates: &mut Vec<(u32, u32)>, level: u32)
     }
 }
 
-/// Returns the index, in the sorted list of `InForce`, of the first level that isn't below this
-/// one.
+/// Returns the index of the first stack level that isn't below this one in `InForce`. That is the
+/// sorted list of levels with a limit in the schedule compiler's sweep.
 fn place_of(rates: &[(u32, u32)], level: u32) -> usize
     requires rising { AreRising rates.now }
     ensures { IsPlaceOf rates.now level result }
@@ -113,8 +114,8 @@ fn place_of(rates: &[(u32, u32)], level: u32) -> usize
     rates.partition_point(|entry| entry.0 < level)
 }
 
-/// Returns a level's index in the sorted list of `InForce`, if each level from the lowest up to it
-/// has a rate. This saves the search.
+/// Returns a stack level's index in `InForce`, the schedule compiler's list of levels with a limit,
+/// if each level from the lowest on has one. This saves the search.
 fn likely_place(rates: &[(u32, u32)], level: u32) -> usize {
     match rates.first() {
         Some(lowest) => level.saturating_sub(lowest.0) as usize,
@@ -122,7 +123,8 @@ fn likely_place(rates: &[(u32, u32)], level: u32) -> usize {
     }
 }
 
-/// Whether the entry at an index of the sorted list of `InForce` has this level.
+/// Whether the entry at an index of `InForce`, the schedule compiler's sorted list of stack levels
+/// with a limit, has this level.
 fn has_level_at(rates: &[(u32, u32)], level: u32, place: usize) -> bool
     ensures { result ≡ has_level_at rates.now level place }
 {

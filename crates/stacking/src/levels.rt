@@ -61,7 +61,7 @@ fn add_first_places(places: &mut RowIndexes, rows: &[Row], purpose: Purpose, con
 }
 
 /// Stores the index of a charge point's row (installed profile) in the table of stack levels,
-/// unless its level has one.
+/// unless its level has one. The table leads from a level to the row that applies there.
 fn add_place(places: &mut RowIndexes, rows: &[Row], place: usize)
     requires few { length rows.now ≤ 255 }
     requires inside { place < length rows.now }
@@ -73,7 +73,8 @@ fn add_place(places: &mut RowIndexes, rows: &[Row], place: usize)
     }
 }
 
-/// Returns a table of stack levels in which no level has a row of a charge point.
+/// Returns the table that has, for each stack level, the index of an installed profile of a charge
+/// point, with no profile at any level.
 fn no_places() -> RowIndexes
     ensures { (level : ℕ) → level < 100 → slice_index result level ≡ 255 }
 {
@@ -81,7 +82,7 @@ fn no_places() -> RowIndexes
 }
 
 /// Stores the index of a charge point's row (installed profile) at its stack level in the table of
-/// levels.
+/// levels. The table leads from a level to the row that applies there.
 fn set_place(places: &mut RowIndexes, level: usize, place: u8)
     requires level { level < 100 }
     ensures here { slice_index places.new level ≡ place }
@@ -91,8 +92,8 @@ fn set_place(places: &mut RowIndexes, level: usize, place: u8)
     places[level] = place;
 }
 
-/// Whether a row (an installed charging profile) is of a purpose and at a connector of a charge
-/// point.
+/// Whether a charge point's row (an installed charging profile) is of a purpose and at a connector,
+/// to be found by its stack level.
 fn is_row_at(purpose: Purpose, connector: u32, row: &Row) -> bool
     ensures { result ≡ is_row_at purpose connector row.now }
 {
@@ -100,7 +101,7 @@ fn is_row_at(purpose: Purpose, connector: u32, row: &Row) -> bool
 }
 
 /// Returns the row (installed profile) that applies to a connector at a stack level, from the table
-/// of levels.
+/// that has its index for each level.
 pub(crate) fn row_at<'a>(rows: &'a [Row], places: &RowIndexes, level: u32) -> Option<&'a Row>
     requires { level < 100 }
     ensures { option_copied result ≡ slice_get rows.now (slice_index places.now level) }
@@ -108,7 +109,8 @@ pub(crate) fn row_at<'a>(rows: &'a [Row], places: &RowIndexes, level: u32) -> Op
     rows.get(places[level as usize] as usize)
 }
 
-/// Returns the connector whose charging profiles of a purpose apply to this connector only.
+/// Returns the connector at which those charging profiles of a purpose are installed that apply to
+/// this connector only. For the look-up by stack level.
 fn own_connector(purpose: Purpose, connector: u32) -> u32
     ensures { result ≡ own_connector purpose connector }
 {
@@ -118,8 +120,8 @@ fn own_connector(purpose: Purpose, connector: u32) -> u32
     }
 }
 
-/// Returns the connector whose charging profiles of a purpose apply to this connector and to
-/// others.
+/// Returns the connector at which those charging profiles of a purpose are installed that apply to
+/// this connector and to others. For the look-up by stack level.
 fn shared_connector(purpose: Purpose, connector: u32) -> u32
     ensures { result ≡ shared_connector purpose connector }
 {
@@ -129,8 +131,8 @@ fn shared_connector(purpose: Purpose, connector: u32) -> u32
     }
 }
 
-/// Returns the lowest stack level above those of all rows (installed profiles) of a charge point: 0
-/// if there are no rows.
+/// Returns the lowest stack level above those of all rows (installed profiles) of a charge point,
+/// from which a look-up goes down: 0 if there are no rows.
 pub(crate) fn level_above(rows: &[Row]) -> u32
     ensures above { All (λ row. row.profile.stack_level < result) rows.now }
     ensures level { result ≤ 100 }

@@ -186,7 +186,8 @@ impl Rows {
     }
 }
 
-/// Copies the rows of a charge point, its installed charging profiles.
+/// Copies the rows of a charge point, which are its installed charging profiles (each with its
+/// connector), for a copy of the point's book.
 fn copy_of_rows(alloc: Global, rows: &[Row]) -> Result<Vec<Row>, AllocError>
     ensures { IfOk result (λ copy. copy.items ≡ rows.now) }
 {

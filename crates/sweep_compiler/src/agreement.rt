@@ -45,8 +45,8 @@ struct PeriodInterval {
 }
 
 impl PeriodInterval {
-    /// Makes the interval of a period, up to the next one or the end, to compare two composite
-    /// schedules in an audit.
+    /// Makes the interval of a period, up to the next one or the end. An audit compares those of
+    /// the schedule compiler's schedule and of the one that a charge point reports.
     fn of(schedule: &Composite, start: Instant, place: usize) -> PeriodInterval
         requires inside { place < length schedule.now.periods }
         ensures { IsPeriodInterval schedule.now start place result }
@@ -59,8 +59,8 @@ impl PeriodInterval {
         }
     }
 
-    /// Whether an interval of another composite schedule shares an instant with this one and has
-    /// another limit. Then the two schedules of an audit don't agree.
+    /// Whether an interval of the other composite schedule that an audit compares shares an instant
+    /// with this one and has another limit. Then the two schedules don't agree.
     fn contradicts(&self, other: &PeriodInterval) -> bool
         ensures { result ≡ contradict self.now other.now }
     {
@@ -68,8 +68,8 @@ impl PeriodInterval {
     }
 }
 
-/// Returns the second at which a period of a compared composite schedule begins, or the schedule's
-/// end for the index after the last period.
+/// Returns the second at which a period of a composite schedule begins, or the schedule's end for
+/// the index after the last period. For an audit's comparison of two.
 fn begin_of(schedule: &Composite, place: usize) -> u32
     ensures { result ≡ begin_of schedule.now place }
 {

@@ -36,8 +36,8 @@ impl<'a> Model for Bounded<'a> {
 }
 
 impl<'a> Bounded<'a> {
-    /// Makes a connector's or the point's bound in a composite schedule's sweep from a ceiling and
-    /// profiles' rows, and puts their limits in force.
+    /// Makes the bound (ceiling and profiles, by rank) of a connector or of the whole point, from
+    /// which the schedule compiler's sweep starts. Puts the profiles' limits in force.
     pub(crate) fn new(
         alloc: Global,
         connector: u32,
@@ -61,32 +61,32 @@ impl<'a> Bounded<'a> {
         })
     }
 
-    /// Returns the number of charging profiles' rows in the bound of a connector or the point, in
-    /// the sweep of a composite schedule.
+    /// Returns the number of installed profiles in the bound of a connector or of the whole point,
+    /// in the schedule compiler's sweep.
     pub(crate) fn len(&self) -> usize
         ensures { result ≡ length self.now.runs }
     {
         self.runs.len()
     }
 
-    /// Returns a connector's or the point's limit at the instant of a composite schedule's sweep:
-    /// the lesser of its ceiling and the prevailing profile's.
+    /// Returns the limit of a connector or of the whole point at the current instant of the
+    /// schedule compiler's sweep: the lesser of its ceiling and the prevailing profile's limit.
     pub(crate) fn limit(&self) -> u32
         ensures { result ≡ bound_now self.now }
     {
         at_most(self.ceiling, self.in_force.top())
     }
 
-    /// Returns the charging profile that prevails for a connector or the point, with its limit, at
-    /// the instant of a composite schedule's sweep.
+    /// Returns the charging profile that prevails for a connector or the whole point, with its
+    /// limit, at the current instant of the schedule compiler's sweep.
     fn prevailing(&self) -> Option<ProfileLimit>
         ensures { result ≡ first_profile_limit self.now.runs }
     {
         first_profile_limit(self.runs.as_slice())
     }
 
-    /// Returns a connector's own limit at the instant of a composite schedule's sweep, with its
-    /// cause: the prevailing charging profile or the ceiling.
+    /// Returns a connector's own limit at the current instant of the schedule compiler's sweep,
+    /// with its cause: the prevailing charging profile or the ceiling.
     pub(crate) fn own_bound(&self) -> Bound
         ensures { result ≡ own_bound_now self.now }
     {
@@ -97,8 +97,8 @@ impl<'a> Bounded<'a> {
         lesser_of(self.prevailing(), ceiling)
     }
 
-    /// Returns the connector's share in the sum of the active connectors' limits, at the instant of
-    /// a composite schedule's sweep.
+    /// Returns the connector's share in the sum of the active connectors' limits, at the current
+    /// instant of the schedule compiler's sweep.
     pub(crate) fn share(&self) -> Share
         ensures { result ≡ share_now self.now }
     {
@@ -110,8 +110,8 @@ impl<'a> Bounded<'a> {
         }
     }
 
-    /// Returns the lesser of the whole charge point's bound and a given one, with its cause, at the
-    /// instant of a composite schedule's sweep.
+    /// Returns the lesser of the whole charge point's limit and a given one, with its cause, at the
+    /// current instant of the schedule compiler's sweep.
     pub(crate) fn or_below(&self, other: Bound) -> Bound
         ensures { result ≡ below_now self.now other }
     {
@@ -122,8 +122,8 @@ impl<'a> Bounded<'a> {
         lesser_of(self.prevailing(), other.or_less(ceiling))
     }
 
-    /// Returns the lesser of the whole charge point's bound and the sum of the connectors' limits,
-    /// at the instant of a composite schedule's sweep. The sum may not fit a limit's 32 bits.
+    /// Returns the lesser of the whole charge point's limit and the connectors' sum, with its
+    /// cause, at the current instant of the schedule compiler's sweep.
     pub(crate) fn or_sum(&self, sum: u64) -> Bound
         ensures { result ≡ below_now self.now (bound_of Sum sum) }
     {
@@ -142,8 +142,8 @@ impl<'a> Bounded<'a> {
         self.or_below(shared)
     }
 
-    /// Returns the instant of the next place of a charging profile's row in a composite schedule's
-    /// sweep, at which its limit can change.
+    /// Returns the next instant at which the limit of an installed profile can change, where the
+    /// schedule compiler's sweep stops next for it.
     pub(crate) fn due(&self, index: usize) -> Option<Instant>
         requires within { index < length self.now.runs }
         ensures { result ≡ due_at self.now.runs index }
@@ -151,8 +151,8 @@ impl<'a> Bounded<'a> {
         self.runs[index].due()
     }
 
-    /// Moves a charging profile's row past its next place in a composite schedule's sweep, and puts
-    /// its limit there in force.
+    /// Moves an installed profile past the next instant of the schedule compiler's sweep at which
+    /// its limit can change, and puts the new limit in force.
     pub(crate) fn pass(&mut self, index: usize) -> Result<(), Refusal>
         requires within { index < length self.old.runs }
         ensures passed { IfOk result (λ _. self.new ≡ bound_passed index self.old) }
@@ -166,8 +166,8 @@ impl<'a> Bounded<'a> {
     }
 }
 
-/// Returns the first charging profile, by falling rank, that has a limit at the instant of a
-/// composite schedule's sweep, with that limit.
+/// Returns the first installed profile, by falling rank, that has a limit at the current instant of
+/// the schedule compiler's sweep, with that limit.
 fn first_profile_limit(runs: &[Run<'_>]) -> Option<ProfileLimit>
     ensures { result ≡ first_profile_limit runs.now }
 {
@@ -180,8 +180,8 @@ fn first_profile_limit(runs: &[Run<'_>]) -> Option<ProfileLimit>
     None
 }
 
-/// Returns the limits of charging profiles' rows at the instant of a composite schedule's sweep,
-/// each at its rank by purpose and stack level.
+/// Returns the limits of installed profiles at the current instant of the schedule compiler's
+/// sweep, each at its rank by purpose and stack level.
 fn rates_of(alloc: Global, runs: &[Run<'_>]) -> Result<InForce, Refusal>
     requires falling { AreFalling runs.now }
     ensures rates { IfOk result (λ rates. AreInForce runs.now rates) }
@@ -200,7 +200,7 @@ fn rates_of(alloc: Global, runs: &[Run<'_>]) -> Result<InForce, Refusal>
 }
 
 /// Returns the lesser of a ceiling and the prevailing charging profile's limit, if there is one, in
-/// the sweep of a composite schedule.
+/// the schedule compiler's sweep.
 fn at_most(limit: u32, other: Option<u32>) -> u32
     ensures { result ≡ at_most limit other }
 {

@@ -80,8 +80,8 @@ impl Compiled {
         }
     }
 
-    /// Makes the answer to a request for a composite schedule with this schedule, or that there is
-    /// no memory to hold it twice.
+    /// Makes the schedule compiler's answer to a request for a composite schedule with this
+    /// schedule, or that there is no memory to hold it twice.
     fn of_schedule(book: Arc<PointBook>, ask: Ask, schedule: Composite) -> Compiled
         requires right { IsCompiledFor (arc_value book) ask (Ok schedule) }
         ensures book { result.book ≡ arc_value book }

@@ -51,8 +51,9 @@ pub fn explain(
     }
 }
 
-/// Explains the limits of a requested composite schedule along its curve, in intervals of one
-/// reason each. It takes one turn at the first second and at each place.
+/// Explains a schedule's limits in intervals of one reason each, by a sweep of the schedule
+/// compiler: for `explain`, `check`, `call` and the status page. It takes one turn (an evaluation)
+/// at the first second and at each place.
 fn explain_along(
     alloc: Global,
     curve: &mut LimitCurve<'_>,

@@ -26,8 +26,8 @@ impl Model for Explanation {
 }
 
 impl Explanation {
-    /// Makes the explanation of a requested composite schedule's limits from these intervals, over
-    /// a number of seconds.
+    /// Makes the schedule compiler's explanation of a requested schedule's limits from these
+    /// intervals of one reason each, over a number of seconds.
     pub(crate) fn new(duration: u32, intervals: Vec<Interval>) -> Explanation
         requires adjoin { Adjoin 0 duration intervals.items }
         ensures lasts { result.duration ≡ duration }

@@ -37,7 +37,7 @@ pub(crate) struct Gathering<'a> {
 
 impl<'a> Gathering<'a> {
     /// Returns the limit of a connector at the start of a request for a composite schedule, from
-    /// where a sweep begins.
+    /// where the schedule compiler's sweep goes on.
     pub(crate) fn curve(&self, connector: u32) -> Result<LimitCurve<'a>, Refusal>
         requires has_connector { connector ≤ length self.now.view.ceilings.now }
         requires short { self.now.last < self.now.asked + 2 ^ 32 }
@@ -60,8 +60,8 @@ impl<'a> Gathering<'a> {
         })
     }
 
-    /// Returns the bound of the whole charge point, followed by that of each connector that a
-    /// request for a composite schedule covers.
+    /// Returns the bound (ceiling and profiles) of the whole charge point, followed by that of each
+    /// connector that a request to the schedule compiler covers.
     fn bounds(&self, connector: u32) -> Result<Vec<Bounded<'a>>, Refusal>
         requires has_connector { connector ≤ length self.now.view.ceilings.now }
         ensures bounds { IfOk result (λ bounds. AreAtStart (point_state self.now.view) connector
@@ -73,8 +73,8 @@ impl<'a> Gathering<'a> {
         Ok(bounds)
     }
 
-    /// Returns the bound of each connector that a request for a composite schedule covers: the
-    /// given one, or for 0 all active ones.
+    /// Returns the bound (ceiling and profiles) of each connector that a request to the schedule
+    /// compiler covers: the given one, or for 0 all active ones.
     fn looked(&self, connector: u32) -> Result<Vec<Bounded<'a>>, Refusal>
         requires has_connector { connector ≤ length self.now.view.ceilings.now }
         ensures looked { IfOk result (λ looked. AreConnectorsAtStart (point_state self.now.view)
@@ -90,8 +90,8 @@ impl<'a> Gathering<'a> {
         Ok(looked)
     }
 
-    /// Returns the bound of each connector with an active transaction, for a composite schedule of
-    /// the whole charge point.
+    /// Returns the bound (ceiling and profiles) of each connector with an active transaction, for
+    /// the schedule compiler's schedule of the whole charge point.
     fn active(&self) -> Result<Vec<Bounded<'a>>, Refusal>
         ensures looked { IfOk result (λ looked. AreConnectorsAtStart (point_state self.now.view)
             self.now.asked self.now.last (active_connectors (point_state self.now.view))
@@ -105,8 +105,8 @@ impl<'a> Gathering<'a> {
         Ok(looked)
     }
 
-    /// Adds the bound of the connector after the first `before`, if it has an active transaction,
-    /// for the whole charge point's composite schedule.
+    /// Adds the bound (ceiling and profiles) of the connector after the first `before`, if it has
+    /// an active transaction. For the schedule compiler's schedule of the whole charge point.
     fn add_active(&self, looked: &mut Vec<Bounded<'a>>, before: usize) -> Result<(), Refusal>
         requires has_connector { before < length self.now.view.ceilings.now }
         ensures added { IfOk result (λ _. IsWithConnector
@@ -122,8 +122,8 @@ impl<'a> Gathering<'a> {
         Ok(())
     }
 
-    /// Returns the bound of the whole charge point at the start of a composite schedule: its
-    /// ceiling, and its ChargePointMaxProfile rows.
+    /// Returns the bound of the whole charge point from which the schedule compiler's sweep starts:
+    /// its ceiling, and its ChargePointMaxProfiles.
     fn point(&self) -> Result<Bounded<'a>, Refusal>
         ensures bound { IfOk result (λ bound.
             IsPointAtStart (point_state self.now.view) self.now.asked self.now.last bound) }
@@ -133,8 +133,8 @@ impl<'a> Gathering<'a> {
         Bounded::new(self.alloc, 0, runs, self.view.ceiling)
     }
 
-    /// Returns the bound of a connector at the start of a composite schedule: its ceiling, and the
-    /// TxProfile and TxDefaultProfile rows that apply to it.
+    /// Returns the bound of a connector from which the schedule compiler's sweep starts: its
+    /// ceiling, and the TxProfiles and TxDefaultProfiles that apply to it.
     fn connector(&self, connector: u32) -> Result<Bounded<'a>, Refusal>
         requires above { 0 < connector }
         requires has_connector { connector ≤ length self.now.view.ceilings.now }
@@ -149,8 +149,8 @@ impl<'a> Gathering<'a> {
         Bounded::new(self.alloc, connector, runs, ceiling)
     }
 
-    /// Returns the charging profiles' rows of a purpose that count for a connector, by falling
-    /// stack level, each at the start of a composite schedule.
+    /// Returns the installed profiles of a purpose that count for a connector, by falling stack
+    /// level, each as it is where the schedule compiler's sweep starts.
     fn runs_of(&self, purpose: Purpose, connector: u32) -> Result<Vec<Run<'a>>, AllocError>
         ensures { IfOk result (λ runs. AreRunsOf purpose (point_state self.now.view) connector
             self.now.asked self.now.last runs.items) }
@@ -164,8 +164,8 @@ impl<'a> Gathering<'a> {
         Ok(runs)
     }
 
-    /// Adds the charging profiles' rows that an iterator yields to those that count for a connector
-    /// in a composite schedule.
+    /// Adds the installed profiles that an iterator yields to those that count for a connector in
+    /// the schedule compiler's sweep.
     fn add(
         &self,
         runs: &mut Vec<Run<'a>>,
@@ -182,8 +182,8 @@ impl<'a> Gathering<'a> {
         Ok(())
     }
 
-    /// Returns a charging profile's row that counts for a connector, as it is at the start of a
-    /// composite schedule.
+    /// Returns an installed profile that counts for a connector, as it is where the schedule
+    /// compiler's sweep starts.
     fn run(&self, row: &'a Row, connector: usize) -> Run<'a>
         ensures { result ≡ running_from (point_state self.now.view) connector
             self.now.asked self.now.last row.now }
@@ -193,8 +193,8 @@ impl<'a> Gathering<'a> {
     }
 }
 
-/// Returns the sum of the connectors' limits at the start of a composite schedule. Their bounds
-/// follow the first one, which is the whole charge point's.
+/// Returns the sum of the connectors' limits where the schedule compiler's sweep starts. Their
+/// bounds (ceiling and profiles) follow the first one, which is the whole charge point's.
 fn shared(bounds: &[Bounded<'_>]) -> u64
     requires small { AllByRecursion (λ (bound : RunningBound). bound.ceiling < 2 ^ 32) bounds.now }
     requires few { length bounds.now ≤ 2 ^ 32 }
@@ -207,8 +207,8 @@ fn shared(bounds: &[Bounded<'_>]) -> u64
     sum
 }
 
-/// Makes the queue for the sweep of a composite schedule: the next place of each charging profile's
-/// row in some bounds.
+/// Makes the queue of the schedule compiler's sweep: the next place (change of its limit) of each
+/// installed profile in some bounds.
 fn queue_of(alloc: Global, bounds: &[Bounded<'_>]) -> Result<Queue, AllocError>
     ensures { IfOk result (λ queue. AreWaiting bounds.now (length bounds.now) 0 queue) }
 {
@@ -219,8 +219,8 @@ fn queue_of(alloc: Global, bounds: &[Bounded<'_>]) -> Result<Queue, AllocError>
     Ok(queue)
 }
 
-/// Adds the next place of each charging profile's row in a bound to the queue for the sweep of a
-/// composite schedule.
+/// Adds the next place (change of its limit) of each installed profile in a connector's or the
+/// point's bound to the queue of the schedule compiler's sweep.
 fn add_rows(queue: &mut Queue, bounds: &[Bounded<'_>], bound: usize) -> Result<(), AllocError>
     requires has_bound { bound < length bounds.now }
     requires before { AreWaiting bounds.now bound 0 queue.old }
@@ -232,8 +232,8 @@ fn add_rows(queue: &mut Queue, bounds: &[Bounded<'_>], bound: usize) -> Result<(
     Ok(())
 }
 
-/// Adds the next place of a charging profile's row, if it has one, to the queue for the sweep of a
-/// composite schedule.
+/// Adds the next place (change of its limit) of an installed profile, if it has one, to the queue
+/// of the schedule compiler's sweep.
 fn add_row(
     queue: &mut Queue,
     bounds: &[Bounded<'_>],

@@ -97,8 +97,8 @@ impl Judged {
     }
 }
 
-/// Returns an audit's verdict on a point's reply to GetCompositeSchedule: whether its schedule
-/// agrees with the one that the point should have.
+/// Returns an audit's verdict on a charge point's reply to GetCompositeSchedule: whether its
+/// schedule agrees with the one that the schedule compiler makes of the point's book.
 fn verdict_of(alloc: Global, job: &AuditJob, said: Said) -> Result<Verdict, AllocError>
     ensures verdict { IfOk result (λ verdict. IsVerdict job.now said verdict) }
     ensures short { OnErr result (MayNeedMemory job.now said) }
@@ -122,7 +122,7 @@ fn verdict_of(alloc: Global, job: &AuditJob, said: Said) -> Result<Verdict, Allo
 }
 
 /// Returns the composite schedule that a charge point reports to an audit's GetCompositeSchedule,
-/// if its periods make one in the requested unit.
+/// if its periods make one in the requested unit. The schedule compiler's is compared with it.
 fn comparable(job: &AuditJob, duration: u32, unit: Unit, periods: SaidPeriods) -> Option<Composite>
     ensures said { IfSome result
         (λ schedule. schedule ≡ record { duration = duration; periods = periods }) }
@@ -139,7 +139,7 @@ fn comparable(job: &AuditJob, duration: u32, unit: Unit, periods: SaidPeriods) -
 }
 
 /// Returns an audit's verdict on the composite schedule that a charge point reports from a start
-/// on, by comparison with the exact one.
+/// on, by comparison with the schedule compiler's.
 fn compared(
     alloc: Global,
     job: &AuditJob,

@@ -41,8 +41,8 @@ pub(crate) struct LimitCurve<'a> {
 }
 
 impl LimitCurve<'_> {
-    /// Returns the limit of the requested connector at the instant of a composite schedule's sweep,
-    /// in tenths.
+    /// Returns the limit of the requested connector at the current instant of the schedule
+    /// compiler's sweep, in tenths.
     pub(crate) fn limit_here(&self) -> u32
         requires ready { IsReadyCurve self.now }
         requires within { self.now.at ≤ self.now.last }
@@ -54,8 +54,8 @@ impl LimitCurve<'_> {
         u64::from(point).min(self.sum) as u32
     }
 
-    /// Returns the limit of the requested connector at the instant of a composite schedule's sweep,
-    /// with its cause.
+    /// Returns the limit of the requested connector at the current instant of the schedule
+    /// compiler's sweep, with its cause.
     fn bound_here(&self) -> Bound
         requires ready { IsReadyCurve self.now }
         requires within { self.now.at ≤ self.now.last }
@@ -70,8 +70,9 @@ impl LimitCurve<'_> {
         }
     }
 
-    /// Returns the requested connector's limit at the instant of the sweep, with its cause, for
-    /// `explain`. If the limit is a sum, the connectors' shares come with it.
+    /// Returns the requested connector's limit at the current instant of the schedule compiler's
+    /// sweep, with its cause, and the connectors' shares if it is a sum. For `explain`, `check`,
+    /// `call` and the status page.
     pub(crate) fn reason_here(&self, alloc: Global) -> Result<Reason, AllocError>
         requires ready { IsReadyCurve self.now }
         requires within { self.now.at ≤ self.now.last }
@@ -90,8 +91,8 @@ impl LimitCurve<'_> {
         })
     }
 
-    /// Returns each active connector's share in the sum at the instant of a composite schedule's
-    /// sweep, in a request for the whole charge point.
+    /// Returns each active connector's share in the sum at the current instant of the schedule
+    /// compiler's sweep, in a request for the whole charge point.
     fn shares_here(&self, alloc: Global) -> Result<Shares, AllocError>
         requires ready { IsReadyCurve self.now }
         requires within { self.now.at ≤ self.now.last }
@@ -102,8 +103,8 @@ impl LimitCurve<'_> {
         shares_of(alloc, &self.bounds)
     }
 
-    /// Moves a composite schedule's sweep to its next place, and returns that. Up to there the
-    /// limit and its reason are the same. Returns `None` if they are the same to the end.
+    /// Moves the schedule compiler's sweep to its next place, and returns that second. Up to there
+    /// the limit and its reason are the same. Returns `None` if they are the same to the end.
     pub(crate) fn go_to_next(&mut self) -> Result<Option<u32>, Refusal>
         requires ready { IsReadyCurve self.old }
         requires within { self.old.at ≤ self.old.last }
@@ -129,8 +130,8 @@ impl LimitCurve<'_> {
         Ok(Some(second as u32))
     }
 
-    /// Moves the sweep of a composite schedule to its next place: each charging profile's row that
-    /// is due there passes it.
+    /// Moves the schedule compiler's sweep to its next place: each installed profile whose limit
+    /// can change there passes it.
     fn go_to(&mut self, next: Instant) -> Result<(), Refusal>
         requires ready { IsReadyCurve self.old }
         requires soonest { IsSoonestOf self.old.queue next }
@@ -146,8 +147,8 @@ impl LimitCurve<'_> {
         Ok(())
     }
 
-    /// Moves the first charging profile's row that is due at the instant of a composite schedule's
-    /// sweep past its place, and updates the queue.
+    /// Moves the first installed profile whose limit can change at the current instant of the
+    /// schedule compiler's sweep past that place, and updates the queue.
     fn pass_soonest(&mut self) -> Result<(), Refusal>
         requires swept { IsSweptCurve self.old }
         requires here { IsSoonestOf self.old.queue self.old.at }
@@ -179,8 +180,9 @@ impl LimitCurve<'_> {
     }
 }
 
-/// Returns each connector's share in the sum that limits the whole charge point in a composite
-/// schedule. The connectors' bounds follow the first one, which is the point's.
+/// Returns each connector's share in the sum that limits the whole charge point, at the current
+/// instant of the schedule compiler's sweep. The connectors' bounds follow the first one, which is
+/// the point's.
 fn shares_of(alloc: Global, bounds: &[Bounded<'_>]) -> Result<Shares, AllocError>
     ensures { IfOk result (λ shares. shares ≡ shares_now bounds.now) }
 {
@@ -191,8 +193,8 @@ fn shares_of(alloc: Global, bounds: &[Bounded<'_>]) -> Result<Shares, AllocError
     Ok(Shares::new(shares))
 }
 
-/// Moves a charging profile's row past its next place in a composite schedule's sweep, and updates
-/// the sum of the connectors' limits. Returns the instant at which the row is due again.
+/// Moves an installed profile past its next place in the schedule compiler's sweep, and updates the
+/// sum of the connectors' limits. Returns the instant at which its limit can change again.
 fn pass_row(
     bounds: &mut Vec<Bounded<'_>>,
     sum: &mut u64,

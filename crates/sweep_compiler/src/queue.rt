@@ -130,8 +130,8 @@ impl Queue {
         }
     }
 
-    /// Replaces the row that is due the soonest in the queue of a composite schedule's sweep.
-    /// Allocates nothing.
+    /// Replaces the installed profile that is due the soonest in the queue of the schedule
+    /// compiler's sweep. Allocates nothing.
     pub(crate) fn replace_first(&mut self, due: Due)
         requires some { 0 < length self.old }
         ensures { IsPermutation (due ∷ drop 1 self.old) self.new }
@@ -141,7 +141,8 @@ impl Queue {
         *first = due;
     }
 
-    /// Removes the row that is due the soonest from the queue of a composite schedule's sweep.
+    /// Removes the installed profile that is due the soonest from the queue of the schedule
+    /// compiler's sweep.
     pub(crate) fn remove_first(&mut self)
         requires some { 0 < length self.old }
         ensures { IsPermutation (drop 1 self.old) self.new }

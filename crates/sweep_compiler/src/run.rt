@@ -41,8 +41,8 @@ impl<'a> Model for Run<'a> {
 }
 
 impl<'a> Run<'a> {
-    /// Makes a charging profile's row of a composite schedule's sweep at an instant, counted from a
-    /// base, with its places up to a last one.
+    /// Makes the run of an installed profile through the schedule compiler's sweep, from an instant
+    /// on and counted from a base: its places (changes of its limit) up to a last one.
     pub(crate) fn new(row: &'a Row, base: Instant, start: Instant, last: Instant) -> Run<'a>
         ensures { result ≡ record { row = row.now; base = base; since = start; last = last } }
     {
@@ -59,8 +59,8 @@ impl<'a> Run<'a> {
         }
     }
 
-    /// Returns the rank of the row's charging profile: a TxProfile comes before any
-    /// TxDefaultProfile, and of one purpose the higher stack level first (chapter 3.13).
+    /// Returns the rank of an installed profile in the schedule compiler's sweep: a TxProfile comes
+    /// before any TxDefaultProfile, and of one purpose the higher stack level first (chapter 3.13).
     pub(crate) fn rank(&self) -> u32
         ensures { result ≡ rank_running self.now }
     {
@@ -71,16 +71,16 @@ impl<'a> Run<'a> {
         }
     }
 
-    /// Returns the limit of the row's charging profile since the last of its places that the sweep
-    /// of a composite schedule passed.
+    /// Returns the limit of an installed profile since the last of its places (changes of its
+    /// limit) that the schedule compiler's sweep passed.
     pub(crate) fn rate(&self) -> Option<u32>
         ensures { result ≡ rate_running self.now }
     {
         self.rate
     }
 
-    /// Returns the row's charging profile with its limit, if it has one, at the instant of a
-    /// composite schedule's sweep.
+    /// Returns an installed profile with its limit, if it has one, at the current instant of the
+    /// schedule compiler's sweep.
     pub(crate) fn profile_limit(&self) -> Option<ProfileLimit>
         ensures { result ≡ option_map profile_limit_of (row_running self.now) }
     {
@@ -88,8 +88,8 @@ impl<'a> Run<'a> {
         Some(ProfileLimit::of(self.row, limit))
     }
 
-    /// Returns the limit of the row's charging profile from its next place in a composite
-    /// schedule's sweep on, or its present limit without one.
+    /// Returns the limit of an installed profile from its next place in the schedule compiler's
+    /// sweep on, or its present limit without one.
     pub(crate) fn next_rate(&self) -> Option<u32>
         ensures { result ≡ rate_running (passed self.now) }
     {
@@ -99,16 +99,16 @@ impl<'a> Run<'a> {
         }
     }
 
-    /// Returns the instant of the row's next place in a composite schedule's sweep, at which its
-    /// charging profile's limit can change.
+    /// Returns the instant of an installed profile's next place in the schedule compiler's sweep,
+    /// at which its limit can change.
     pub(crate) fn due(&self) -> Option<Instant>
         ensures { result ≡ due self.now }
     {
         Some(self.next?.instant)
     }
 
-    /// Moves a charging profile's row past its next place in the sweep of a composite schedule, if
-    /// there is one.
+    /// Moves an installed profile past its next place in the schedule compiler's sweep, if there is
+    /// one.
     pub(crate) fn pass(&mut self)
         ensures { self.new ≡ passed self.old }
     {

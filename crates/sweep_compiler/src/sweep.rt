@@ -10,9 +10,9 @@ use meaning::{Composite, CompositePeriod, add_second};
 use ocpp_scalars::Refusal;
 use std::alloc::Global;
 
-/// Returns the exact composite schedule along a curve, found at its first second and then from
-/// place to place: one turn for each. The refusals are `ResultTooLong`, if it has more than
-/// `MAX_COMPOSITE_PERIODS` periods, and `OutOfMemory`.
+/// Returns the schedule compiler's exact composite schedule along a curve, found at its first
+/// second and then from place to place: one turn (evaluation) for each. The refusals are
+/// `ResultTooLong`, past `MAX_COMPOSITE_PERIODS` periods, and `OutOfMemory`.
 pub(crate) fn sweep_along<C: Curve>(
     alloc: Global,
     curve: &mut C,

@@ -41,7 +41,7 @@ impl Turns {
         self.count
     }
 
-    /// Counts one evaluation of a limit in the sweep of a composite schedule.
+    /// Counts one evaluation of a limit in the schedule compiler's sweep.
     fn count_one(&mut self)
         requires room { self.old + 1 < 2 ^ 64 }
         ensures { self.new ≡ self.old + 1 }
@@ -49,8 +49,8 @@ impl Turns {
         self.count += 1;
     }
 
-    /// Evaluates the requested limit at the instant of a composite schedule's sweep, in tenths,
-    /// which is one turn.
+    /// Evaluates the requested limit at the current instant of the schedule compiler's sweep, in
+    /// tenths, which is one turn.
     // The counter evaluates the limit itself, so that a caller can't forget to count.
     pub(crate) fn limit_of(&mut self, curve: &LimitCurve<'_>) -> u32
         requires room { self.old + 1 < 2 ^ 64 }
@@ -64,8 +64,8 @@ impl Turns {
         curve.limit_here()
     }
 
-    /// Evaluates the requested limit with its cause at the instant of a composite schedule's sweep,
-    /// which is one turn.
+    /// Evaluates the requested limit with its cause at the current instant of the schedule
+    /// compiler's sweep, which is one turn.
     pub(crate) fn reason_of(
         &mut self,
         alloc: Global,

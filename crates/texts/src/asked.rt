@@ -120,8 +120,8 @@ pub fn hold_of(
     }
 }
 
-/// Returns whether a message is a CALL of GetCompositeSchedule, the only one that a `hold` line of
-/// a script for `replay` may have.
+/// Returns whether a message's frame is a CALL of GetCompositeSchedule, the only one that a `hold`
+/// line of a script for `replay` may have.
 fn asks_schedule(frame: &Frame<'_>) -> bool
     ensures { result ≡ asks_schedule (Ok (message_in frame.now)) }
 {
@@ -139,8 +139,8 @@ fn is_schedule_kind(kind: Option<ActionKind>) -> bool
     matches!(kind, Some(ActionKind::GetCompositeSchedule))
 }
 
-/// Returns the request that a message makes of the central system: only a CALL is answered, and a
-/// reply may confirm a call.
+/// Returns the request that a message makes of the central system, from its frame: only a CALL is
+/// answered, and a charge point's reply may confirm a call to it.
 fn asked_of_message(
     alloc: Global,
     text: &SentText<'_>,
@@ -176,8 +176,8 @@ fn asked_of_message(
     }
 }
 
-/// Returns the request that a reply to the central system makes: a point's reply confirms the call
-/// of which it has the number as id.
+/// Returns the request that a reply (CALLRESULT or CALLERROR) makes of the central system: that of
+/// a charge point confirms the call of which it has the number as id.
 fn asked_of_reply(
     alloc: Global,
     text: &SentText<'_>,
@@ -195,8 +195,8 @@ fn asked_of_reply(
     }
 }
 
-/// Returns the confirmation of the call to a point with this number, which the point's reply names,
-/// or nothing without a number.
+/// Returns the request to confirm the call to a charge point of this number, which the point's
+/// reply has as id, or nothing without a number.
 fn asked_confirm(
     alloc: Global,
     point: &str,
@@ -219,7 +219,8 @@ fn asked_confirm(
     }
 }
 
-/// Returns the number of the call to a point whose decimal text is the id of a point's reply.
+/// Returns the number of the call to a charge point whose decimal text is the message id of the
+/// point's reply.
 fn call_numbered(id: &str) -> Option<u64>
     ensures { result ≡ call_numbered id.now }
 {
@@ -227,8 +228,8 @@ fn call_numbered(id: &str) -> Option<u64>
     if id == "0" { Some(0) } else { number_of(id) }
 }
 
-/// Returns the request of the CALL of this id to the central system, by the step, the answer or the
-/// boot that its action leads to.
+/// Returns the request that the CALL of this id makes of the central system, by the step, the
+/// answer or the boot that its action leads to.
 fn asked_with(id: MessageId, kind: ActionKind, wanted: Wanted) -> Asked
     ensures { result ≡ asked_with id kind wanted }
 {
@@ -239,8 +240,8 @@ fn asked_with(id: MessageId, kind: ActionKind, wanted: Wanted) -> Asked
     }
 }
 
-/// Reads the fields of a CALL's action, and returns the step of the central system that it
-/// requests, or its answer.
+/// Reads the fields of a CALL's action. Returns the step of the machine that the message requests,
+/// or its answer.
 fn wanted_by_fields(
     alloc: Global,
     text: &SentText<'_>,
@@ -257,7 +258,8 @@ fn wanted_by_fields(
     }
 }
 
-/// Returns the step of the central system that a CALL's action requests, or its answer.
+/// Returns the step of the machine that the action of an operator's or charge point's CALL
+/// requests, or its answer.
 fn wanted_by(alloc: Global, text: &SentText<'_>, action: Action) -> Result<Wanted, AllocError>
     ensures { IfOk result (λ wanted. wanted ≡ wanted_by text.now action) }
 {
@@ -302,7 +304,8 @@ fn wanted_by(alloc: Global, text: &SentText<'_>, action: Action) -> Result<Wante
     Ok(Wanted::Response(response))
 }
 
-/// Returns the step that takes an operator's GetCompositeSchedule request with these fields.
+/// Returns the step of the machine that an operator's GetCompositeSchedule message with these
+/// fields requests: a Take.
 fn step_of_ask(
     alloc: Global,
     text: &SentText<'_>,
@@ -321,8 +324,8 @@ fn step_of_ask(
     }))
 }
 
-/// Returns the step that an operator's AuditPoint with these fields requests: an audit of the point
-/// by GetCompositeSchedule.
+/// Returns the step of the machine that an operator's AuditPoint message with these fields
+/// requests: an audit of the point by GetCompositeSchedule.
 fn step_of_audit(
     alloc: Global,
     text: &SentText<'_>,
@@ -338,8 +341,8 @@ fn step_of_audit(
     })
 }
 
-/// Returns the step that a point's StartTransaction with these fields requests: a transaction
-/// begins.
+/// Returns the step of the machine that a charge point's StartTransaction message with these fields
+/// requests: a transaction begins.
 fn step_of_start(
     alloc: Global,
     text: &SentText<'_>,
@@ -359,8 +362,8 @@ fn step_of_start(
     })
 }
 
-/// Returns the step that an operator's SetChargingProfile requests, the install of its profile, or
-/// the rejection if its fields make none.
+/// Returns the step of the machine that an operator's SetChargingProfile message requests, the
+/// install of its profile, or the rejection if its fields make none.
 fn wanted_by_parts(
     alloc: Global,
     text: &SentText<'_>,
@@ -385,8 +388,8 @@ fn wanted_by_parts(
     }
 }
 
-/// Returns the step that an operator's RemoteStartTransaction requests, or the rejection if its
-/// profile's fields make none.
+/// Returns the step of the machine that an operator's RemoteStartTransaction message requests, or
+/// the rejection if its profile's fields make none.
 fn wanted_by_remote_start(
     alloc: Global,
     text: &SentText<'_>,
@@ -406,9 +409,9 @@ fn wanted_by_remote_start(
     }
 }
 
-/// Returns the profile of a remote start, if it has one, or the refusal if its fields make none.
-/// The transactionId is dropped: the profile comes into force with the transaction that the start
-/// begins.
+/// Returns the profile of an operator's RemoteStartTransaction message, if it has one, or the
+/// refusal if its fields make none. The transactionId is dropped: the profile comes into force with
+/// the transaction that the start begins.
 fn remote_profile(parts: Option<ProfileParts>) -> Result<Option<Profile>, Refusal>
     ensures { result ≡ remote_profile parts }
 {

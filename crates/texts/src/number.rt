@@ -26,8 +26,8 @@ pub fn number_of(word: &str) -> Option<u64>
     Some(number)
 }
 
-/// Returns whether a request's or call's number in a script or message id begins above the digit 0,
-/// without a leading zero or sign.
+/// Returns whether a number begins above the digit 0, without a leading zero or sign. It is that of
+/// a request or a call, in a script, the journal or a message id.
 fn begins_above_zero(word: &str) -> bool
     ensures { result ≡ begins_above_zero word.now }
 {

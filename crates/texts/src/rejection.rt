@@ -27,8 +27,8 @@ pub fn rejection_in(alloc: Global, frame: &str) -> Result<String, AllocError> {
     }
 }
 
-/// Returns the beginning of a point's reply that rejects a call, of at most `MAX_REJECTION_BYTES`
-/// bytes. It is the reason if no status was read.
+/// Returns the beginning of a charge point's reply that rejects a call, of at most
+/// `MAX_REJECTION_BYTES` bytes. It is the reason that the server notes if no status was read.
 fn beginning_of(alloc: Global, text: &str) -> Result<String, AllocError> {
     let mut beginning = String::new(alloc);
     for character in text.chars() {

@@ -99,7 +99,7 @@ impl ActiveTable {
     }
 
     /// Stores a connector's transaction, or that it has none, in the table of a charge point's
-    /// active transactions.
+    /// active transactions, with its start.
     fn put(&mut self, place: usize, slot: Option<Transaction>)
         requires { place < length self.old }
         ensures { self.new ≡ slice_set self.old place slot }
@@ -152,8 +152,8 @@ impl ActiveTable {
     }
 }
 
-/// Returns the start that a point's `ActiveTable` keeps beside a connector's slot: the timestamp of
-/// its active transaction, if it has one. Limits are computed from these starts.
+/// Returns the start that the table of a point's active transactions keeps beside a connector's
+/// slot: the timestamp of its transaction, if it has one. Limits are computed from these starts.
 fn start_of(slot: &Option<Transaction>) -> Option<Instant>
     ensures { result ≡ start_of slot.now }
 {
@@ -163,8 +163,8 @@ fn start_of(slot: &Option<Transaction>) -> Option<Instant>
     }
 }
 
-/// Returns the active transaction at a connector of a charge point; connector 0 and connectors
-/// without a slot have none.
+/// Returns the active transaction at a connector of a charge point, from the table of these;
+/// connector 0 and connectors without a slot have none.
 fn active_at(slots: &[Option<Transaction>], connector: u32) -> Option<&Transaction>
     ensures { option_copied result ≡ active_at slots.now connector }
 {
@@ -177,8 +177,8 @@ fn active_at(slots: &[Option<Transaction>], connector: u32) -> Option<&Transacti
     }
 }
 
-/// Returns the effect of a StartTransaction at a connector: a new transaction, or the number of the
-/// active one, if it is retransmitted.
+/// Returns the effect of a charge point's StartTransaction at a connector on the table of its
+/// active transactions: a new transaction, or the number of the active one, if it is retransmitted.
 fn what_began(slots: &[Option<Transaction>], connector: u32, begin: &Begin) -> Began
     ensures { result ≡ began slots.now connector begin.now }
 {
@@ -200,7 +200,8 @@ fn empty_slots<T: Drop>(alloc: Global, count: usize) -> Result<Vec<Option<T>>, A
     Ok(slots)
 }
 
-/// Returns the index of the connector's slot whose active transaction has this number.
+/// Returns the index of the connector's slot in the table of a point's active transactions whose
+/// transaction has this number.
 fn place_of(slots: &[Option<Transaction>], id: i32) -> Option<usize>
     ensures { result ≡ position (has_id id) slots.now }
 {
@@ -209,7 +210,7 @@ fn place_of(slots: &[Option<Transaction>], id: i32) -> Option<usize>
         .position(|slot| slot.as_ref().is_some_and(|active| active.id == id))
 }
 
-/// Copies the slots of a charge point's active transactions, one for each connector.
+/// Copies the slots of the table of a charge point's active transactions, one for each connector.
 fn copy_of_slots(
     alloc: Global,
     slots: &[Option<Transaction>],
@@ -223,7 +224,8 @@ fn copy_of_slots(
     Ok(copies)
 }
 
-/// Copies the active transaction in a connector's slot, if it has one.
+/// Copies the transaction in a connector's slot of the table of a charge point's active
+/// transactions, if it has one.
 fn copy_of_slot(
     alloc: Global,
     slot: &Option<Transaction>,
@@ -236,7 +238,8 @@ fn copy_of_slot(
     }
 }
 
-/// Whether two tables of active transactions have equal transactions at each connector.
+/// Whether two tables of a charge point's active transactions have equal transactions at each
+/// connector.
 fn same_slots(slots: &[Option<Transaction>], others: &[Option<Transaction>]) -> bool
     ensures { IsTrue result ↔ (slots.now ≡ others.now) }
 {
@@ -251,7 +254,8 @@ fn same_slots(slots: &[Option<Transaction>], others: &[Option<Transaction>]) -> 
     true
 }
 
-/// Whether the slots of two connectors have equal active transactions, or both none.
+/// Whether the slots of a connector in two tables of a charge point's active transactions have
+/// equal transactions, or both none.
 fn same_slot(slot: &Option<Transaction>, other: &Option<Transaction>) -> bool
     ensures { IsTrue result ↔ (slot.now ≡ other.now) }
 {

@@ -29,8 +29,8 @@ impl Begin {
             && self.timestamp == earlier.timestamp
     }
 
-    /// Whether this StartTransaction has the idTag of an earlier one, in which the case of ASCII
-    /// letters doesn't count.
+    /// Whether a charge point's StartTransaction has the idTag of an earlier one, of which it may
+    /// be a retransmission. The case of ASCII letters doesn't count.
     fn has_tag_of(&self, earlier: &Begin) -> bool
         ensures { result ≡ str_eq_ignore_ascii_case self.now.id_tag earlier.now.id_tag }
     {

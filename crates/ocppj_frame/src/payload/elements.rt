@@ -24,13 +24,14 @@ impl<'memory> Elements<'memory> {
     ghost use Rattle.std.specs.Prelude.{◌≡◌, drop, option_map, slice_get};
     ghost use Rattle.ocppj_frame.specs.Payload.{elements_left, tree_in};
 
-    /// Returns the arena of the list that an OCPP-J message is, in which an empty payload can be
+    /// Returns the arena of the list that an OCPP-J frame is, in which an empty payload can be
     /// made.
     pub(crate) fn arena(&self) -> &'memory Bump {
         self.arena
     }
 
-    /// Returns the next element of an OCPP-J message's list, if there is one, and moves past it.
+    /// Returns the next element of the list that an OCPP-J frame is, if there is one, and moves
+    /// past it.
     pub(crate) fn next(&mut self) -> Option<Payload<'memory>>
         ensures element { option_map tree_in result ≡ slice_get (elements_left self.old) 0 }
         ensures left { elements_left self.new ≡ drop 1 (elements_left self.old) }
@@ -47,7 +48,7 @@ impl<'memory> Payload<'memory> {
     ghost use Rattle.ocppj_frame.specs.Payload.{elements_left, tree_in};
     ghost use Rattle.ocppj_frame.specs.Tree.{as_list, as_text, no_fields, object};
 
-    /// Returns the object without fields, the payload of an OCPP-J message that has none. Allocates
+    /// Returns the object without fields, the payload of an OCPP-J frame that has none. Allocates
     /// nothing.
     pub(crate) fn empty(arena: &'memory Bump) -> Payload<'memory>
         ensures { tree_in result ≡ object no_fields }
@@ -57,7 +58,7 @@ impl<'memory> Payload<'memory> {
         }
     }
 
-    /// Returns the elements of an OCPP-J message, if its tree is a list.
+    /// Returns the elements of an OCPP-J frame, if its JSON tree is a list.
     pub(crate) fn into_elements(self) -> Option<Elements<'memory>>
         ensures { option_map elements_left result ≡ as_list (tree_in self.entry) }
     {
@@ -71,7 +72,7 @@ impl<'memory> Payload<'memory> {
         }
     }
 
-    /// Returns the text in an element of an OCPP-J message, if the element is a text.
+    /// Returns the text in an element of an OCPP-J frame, if the element is a text.
     pub(crate) fn into_text(self) -> Option<&'memory str>
         ensures { option_map (λ t. t.now) result ≡ as_text (tree_in self.entry) }
     {

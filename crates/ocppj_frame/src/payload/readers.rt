@@ -85,8 +85,8 @@ impl<'tree, 'memory> Node<'tree, 'memory> {
     }
 }
 
-/// Returns the value of the field of this name in a JSON object, such as an OCPP payload, whose
-/// keys are marked as texts.
+/// Returns the value of the field of this name in a JSON object that was read with marks, such as
+/// the payload of an OCPP-J frame.
 fn find_member<'tree, 'memory>(
     members: &'tree BTreeMap<&'memory str, MarkedValue<'memory>, &'memory Bump>,
     name: &str,
@@ -104,8 +104,8 @@ fn find_member<'tree, 'memory>(
     None
 }
 
-/// Returns whether this marked key, in a JSON object such as an OCPP payload, is the name of a
-/// field.
+/// Returns whether this key with its mark, in a JSON object such as the payload of an OCPP-J frame,
+/// is the name of a field.
 fn is_key_of(name: &str, key: &str) -> bool
     ensures { result ≡ is_key_of name.now key.now }
 {

@@ -26,8 +26,8 @@ pub fn remove_held(held: &mut Vec<Held>, number: u64) -> Option<MessageId>
     Some(held.remove(place).id)
 }
 
-/// Returns the index of the schedule request of this number among those that `hold` lines of a
-/// replayed script hold.
+/// Returns the index of the schedule request of this number among those that the `hold` lines of a
+/// replayed script hold until a `release` line.
 fn place_of(held: &Vec<Held>, number: u64) -> Option<usize>
     ensures { result ≡ position (has_number number) held.now.items }
 {

@@ -57,8 +57,9 @@ pub fn skim_take(
     Ok(outcome)
 }
 
-/// Returns whether the answer to a replayed script's schedule request makes no difference: no other
-/// request is kept, and nothing of the answer is wanted.
+/// Returns whether the answer to a schedule request in a replayed script makes no difference: no
+/// other request is kept, and its reader (`show`, `check`, `explain` or `call`) wants nothing of
+/// the answer.
 fn makes_no_difference(machine: &Machine, take: &Take, wanted: NeededResult) -> bool
     ensures { IsTrue result → MayBeSkimmed machine.now take.now }
 {
@@ -74,8 +75,9 @@ fn makes_no_difference(machine: &Machine, take: &Take, wanted: NeededResult) -> 
     is_unwanted(machine, take.point.as_str(), &ask, wanted)
 }
 
-/// Returns whether nothing of the answer to a replayed script's schedule request is wanted. Its
-/// refusal is known without it if the schedule can't exceed the limit of periods.
+/// Returns whether the reader of a replayed script (`show`, `check`, `explain` or `call`) wants
+/// nothing of the answer to a schedule request. Its refusal is known without it if the schedule
+/// can't exceed the limit of periods.
 fn is_unwanted(machine: &Machine, point: &str, ask: &Ask, wanted: NeededResult) -> bool {
     match (wanted, machine.book_of(point)) {
         (NeededResult::State, _) => true,
@@ -86,8 +88,8 @@ fn is_unwanted(machine: &Machine, point: &str, ask: &Ask, wanted: NeededResult) 
     }
 }
 
-/// Returns a replayed script's request for a schedule, a Take, cut to its first second: quick to
-/// compile when the answer isn't wanted.
+/// Returns a schedule request (a Take) of a replayed script cut to its first second: quick to
+/// compile when `show`, `check`, `explain` or `call` doesn't want the answer.
 fn first_second(take: Take) -> Take
     ensures { result ≡ record take { duration = 1 } }
 {
@@ -154,8 +156,8 @@ pub fn send_first(
     }
 }
 
-/// Returns the call to a point that went out in a Send with this outcome in a script's replay, if
-/// one went out.
+/// Returns the call to a point that went out by a Send step with this outcome, as a script is
+/// replayed, if one went out.
 fn call_sent(outcome: StepOutcome) -> Option<Call>
     ensures { result ≡ call_sent outcome }
 {

@@ -15,7 +15,7 @@ pub fn most_periods(view: &View<'_>, ask: &Ask) -> u64 {
     most
 }
 
-/// Returns an upper bound on the limit's changes that an installed profile makes in a replayed
+/// Returns an upper bound on the changes of the limit that an installed profile makes in a replayed
 /// script's requested schedule, over the request's connectors.
 fn places_of_row(view: &View<'_>, ask: &Ask, row: &Row) -> u64 {
     if row.profile.purpose == Purpose::ChargePointMaxProfile {
@@ -60,8 +60,8 @@ fn turn_count(schedule: &Schedule) -> u64 {
         .saturating_add(u64::from(schedule.duration.is_some()))
 }
 
-/// Returns whether a profile's schedule begins, ends or changes its period at an instant, to bound
-/// the periods of a replayed script's schedule.
+/// Returns whether a profile's schedule begins, ends or changes its period at an instant, for the
+/// upper bound on the periods of a replayed script's schedule.
 fn is_turn(profile: &Profile, base: Instant, instant: Instant) -> bool {
     let Some(offset) = profile.offset(base, instant) else {
         return false;

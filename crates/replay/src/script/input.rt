@@ -32,15 +32,16 @@ impl From<AllocError> for InputFault {
     }
 }
 
-/// Allocates room for the bytes of one read of a script for `replay` or another input file.
+/// Allocates room for the bytes of one read of an input file: a script that is replayed, or a site,
+/// key or zone file.
 fn new_piece(alloc: Global) -> Result<Vec<u8>, AllocError>
     ensures { IfOk result (λ piece. vec_len piece ≡ PIECE) }
 {
     vec![in alloc; 0u8; PIECE]
 }
 
-/// Reads once from a script for `replay` or another input file, and appends the bytes that came.
-/// Returns their number.
+/// Reads once from an input file, a script that is replayed or a site, key or zone file, and
+/// appends the bytes that came. Returns their number.
 fn read_onto<R: Read>(
     reader: &mut R,
     piece: &mut [u8],

@@ -75,8 +75,8 @@ pub fn read_outcome(
     }
 }
 
-/// Plays a line of a replayed script with these contents, a message or a release. Returns what the
-/// line prints and changes.
+/// Plays a line of a replayed script, a message or a `release` line. Returns its outcome: what the
+/// line prints, and what it changes.
 fn said_outcome(
     player: &mut Player,
     number: u64,

@@ -120,7 +120,7 @@ impl<'a> Playing<'a> {
     }
 
     /// Moves past a line of a replayed script that was played with this outcome, and counts its
-    /// fault or refusal.
+    /// fault or refusal, for `show`, `check`, `explain` and `call`.
     fn pass(&mut self, outcome: &LineOutcome, others: &'a [u8])
         requires shorter { length others.now < length self.old.rest }
         ensures rest { self.new.rest ≡ others.entry.now }
@@ -137,8 +137,8 @@ impl<'a> Playing<'a> {
         self.rest = others;
     }
 
-    /// Returns whether the next line of a replayed script is at most the last one that is to be
-    /// played.
+    /// Returns whether the next line of a replayed script is at most the last one that `show`,
+    /// `check`, `explain` or `call` plays.
     fn is_up_to(&self, last_line: Option<u64>) -> bool
         ensures { result ≡ is_up_to last_line self.now.number }
     {

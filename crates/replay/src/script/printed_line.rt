@@ -55,7 +55,8 @@ pub fn print_lines(alloc: Global, lines: &[PrintedLine]) -> Result<String, Alloc
     Ok(text)
 }
 
-/// Appends the text of a line that a replayed script prints.
+/// Appends the text of a line that `replay` prints for a script's line: an answer, a call, the
+/// number of a held request or a fault.
 fn push_line(text: &mut String, line: &PrintedLine) -> Result<(), AllocError>
     ensures { OnOk result
         (string_bytes text.new ≡ string_bytes text.old ++ printed_text line.now) }

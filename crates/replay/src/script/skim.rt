@@ -48,7 +48,8 @@ pub fn skim_line<'a>(
     })
 }
 
-/// Returns whether a line that a replayed script prints is an answer with a schedule.
+/// Returns whether a line that a replayed script prints is an answer with a schedule, which `show`,
+/// `check`, `explain` and `call` don't need.
 fn has_schedule(line: &PrintedLine) -> bool {
     matches!(
         line,
@@ -59,8 +60,8 @@ fn has_schedule(line: &PrintedLine) -> bool {
     )
 }
 
-/// Plays a replayed script's message for its effect, and returns its outcome apart from schedules.
-/// Only an operator requests these.
+/// Plays a replayed script's message for its effect, for `show`, `check`, `explain` and `call`.
+/// Returns its outcome apart from schedules, which only an operator requests.
 fn skim_text(
     player: &mut Player,
     text: &SentText<'_>,
@@ -78,8 +79,8 @@ fn skim_text(
     }
 }
 
-/// Plays the request of a replayed script's message for its effect, and returns its outcome apart
-/// from schedules.
+/// Plays the request of a replayed script's message for its effect, for `show`, `check`, `explain`
+/// and `call`. Returns its outcome apart from schedules.
 fn skim_asked(
     player: &mut Player,
     text: &SentText<'_>,

@@ -25,8 +25,8 @@ use ocpp_scalars::Refusal;
 use sweep_compiler::Compiled;
 
 impl Machine {
-    /// Keeps a request for a composite schedule of a charge point (chapter 5.7), until its answer
-    /// is handed out.
+    /// Makes the step Take of the machine: keeps a request for a composite schedule of a charge
+    /// point (chapter 5.7), until its answer is handed out.
     #[inline(never)]
     pub(super) fn take(&mut self, take: &Take) -> Result<Reply, Refusal>
         ensures made { IfOk result (λ reply. IsMade (takes self.old take.now) reply self.new) }
@@ -53,8 +53,8 @@ impl Machine {
         Ok(reply)
     }
 
-    /// Returns the outlook of a request for a composite schedule, as if memory always lasted: that
-    /// it is kept, or the refusal.
+    /// Returns the outlook of the machine's step Take, a request for a composite schedule, as if
+    /// memory always lasted: that it is kept, or the refusal.
     pub(super) fn take_outlook(&self, take: &Take) -> Result<bool, Refusal>
         ensures { result ≡ outlook_of self.now (takes self.now take.now) }
     {
@@ -62,9 +62,9 @@ impl Machine {
         Ok(true)
     }
 
-    /// Returns the place in the site file of the point that a request for a composite schedule
-    /// names, and its `Ask`. Otherwise returns the reason why the request isn't kept, as if memory
-    /// always lasted.
+    /// Returns the place in the site file of the point that a Take (the machine's step for a
+    /// request for a composite schedule) names, and its `Ask`. Otherwise returns the reason why the
+    /// request isn't kept, as if memory always lasted.
     fn asked(&self, take: &Take) -> Result<(usize, Ask), Refusal>
         ensures taking { IfOk result (λ found.
             takes self.now take.now ≡ Ok (taking self.now found.0 found.1)) }
@@ -82,8 +82,8 @@ impl Machine {
         }
     }
 
-    /// Returns the reason why a request for a composite schedule with an `Ask` isn't kept, as if
-    /// memory always lasted.
+    /// Returns the reason why the machine doesn't keep a request for a composite schedule with an
+    /// `Ask`, as if memory always lasted.
     fn refusal_to_take(&self, take: &Take) -> Option<Refusal>
         ensures { result ≡ refusal_to_take self.now take.now }
     {
@@ -104,8 +104,8 @@ impl Machine {
         None
     }
 
-    /// Compiles the composite schedule of the kept request with this number, and keeps it as the
-    /// request's answer.
+    /// Makes the step Compile of the machine: compiles the composite schedule of the kept request
+    /// with this number, and keeps it as the request's answer.
     #[inline(never)]
     pub(super) fn compile(&mut self, number: u64) -> Result<Reply, Refusal>
         ensures made { IfOk result (λ reply. Compiles self.old number reply self.new) }
@@ -140,7 +140,8 @@ impl Machine {
         Ok(again)
     }
 
-    /// Hands out the answer to the kept request for a composite schedule with this number.
+    /// Makes the step Answer of the machine: hands out the answer to the kept request for a
+    /// composite schedule with this number.
     #[inline(never)]
     pub(super) fn answer(&mut self, number: u64) -> Result<Reply, Refusal>
         ensures made { IfOk result (λ reply. IsMade (answers self.old number) reply self.new) }
@@ -151,8 +152,8 @@ impl Machine {
         hand_out(&mut self.requests, number)
     }
 
-    /// Stops the central system, and answers by `Stopped` each kept request for a composite
-    /// schedule that has no answer.
+    /// Makes the step Finish: stops the machine, and answers by `Stopped` each kept request for a
+    /// composite schedule that has no answer.
     #[inline(never)]
     pub(super) fn finish(&mut self) -> Reply
         ensures made { finishes self.old ≡ record { reply = result; after = self.new } }
@@ -166,8 +167,8 @@ impl Machine {
     }
 }
 
-/// Makes the reply to a request for a composite schedule that is kept, with its number, its point's
-/// book and its `Ask`.
+/// Makes the machine's reply to a request for a composite schedule that it keeps, with its number,
+/// its point's book and its `Ask`.
 fn taken(number: u64, book: SharedBook, ask: &Ask) -> Reply
     ensures { result ≡ Reply.Taken number book ask.now }
 {

@@ -115,7 +115,7 @@ fn glance_of_string(marked: &str) -> Glance<'_>
     }
 }
 
-/// Reads a field of a site file with this value as a text.
+/// Reads a field of a site file that has this value as a text.
 pub(crate) fn text_in(glance: Glance<'_>) -> Field<&str>
     ensures { field_map (λ t. t.now) result
         ≡ of_kind as_text (unless_null (glance_tree glance.entry)) }
@@ -127,7 +127,7 @@ pub(crate) fn text_in(glance: Glance<'_>) -> Field<&str>
     }
 }
 
-/// Reads a field of a site file, such as a ceiling, with this value as a number of tenths.
+/// Reads a field of a site file that has this value, such as a ceiling, as a number of tenths.
 pub(crate) fn tenths_in(glance: Glance<'_>) -> Field<u32>
     ensures { result ≡ of_scalar as_number tenths_of (unless_null (glance_tree glance.entry)) }
 {

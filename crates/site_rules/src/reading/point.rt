@@ -64,14 +64,14 @@ fn is_point_id(id: &str) -> bool
     !bytes.is_empty() && bytes.len() <= MAX_ID_CHARACTERS && are_id_bytes(bytes)
 }
 
-/// Whether the identity of a charge point may consist of these bytes.
+/// Whether the identity of a charge point in a site file may consist of these bytes.
 fn are_id_bytes(bytes: &[u8]) -> bool
     ensures { result ≡ list_all is_id_byte bytes.now }
 {
     bytes.iter().all(|b| is_id_byte(*b))
 }
 
-/// Whether the identity of a charge point may contain this byte.
+/// Whether the identity of a charge point in a site file may contain this byte.
 fn is_id_byte(b: u8) -> bool
     ensures { result ≡ is_id_byte b }
 {

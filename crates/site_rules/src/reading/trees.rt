@@ -19,8 +19,8 @@ use ocppj_frame::after_mark;
 use std::alloc::{AllocError, Global};
 use std::collections::BTreeSet;
 
-/// Returns whether the marked text of a site file can be read and its value has a tree. Otherwise
-/// the file isn't JSON.
+/// Returns whether the marked text of a site file (each string and number has its mark) can be read
+/// and its value has a tree. Otherwise the file isn't JSON.
 pub(crate) fn has_tree(
     alloc: Global,
     marked: &str,
