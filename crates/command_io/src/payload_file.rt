@@ -34,8 +34,8 @@ pub fn read_payload_file<R: Files<File = File> + Eprint + AllocGlobal>(
     }
 }
 
-/// Prints to standard error why the file of a message's payload can't be used, and returns the
-/// fault.
+/// Prints to standard error why the file of an option can't be used, and returns the fault:
+/// `--set-profile` or `--remote-start` of `call`, or `--login` of `call` or `point`.
 fn unusable<R: Eprint>(rt: &R, path: &str, why: &str) -> Result<String, ProgramFault> {
     let _ = eprintln!(rt; "central: {path}: {why}");
     Err(ProgramFault::File)

@@ -128,7 +128,7 @@ pub fn read_fields(
     }
 }
 
-/// Returns the action of a CALL to the central system whose fields aren't read, such as Heartbeat,
+/// Returns the action of a CALL whose fields the central system doesn't read, such as Heartbeat,
 /// with its fixed answer.
 fn answered(answer: Option<FixedAnswer>) -> Result<Action, CallFault>
     ensures { result ≡ action_answered answer }
@@ -141,8 +141,9 @@ fn answered(answer: Option<FixedAnswer>) -> Result<Action, CallFault>
 
 // ---- the fields of operators' actions
 
-/// Reads SetChargingProfile.req (OCPP 1.6, chapter 6) from the payload of an operator's CALL to the
-/// central system, or returns its first fault.
+/// Reads SetChargingProfile.req (OCPP 1.6, chapter 6) from the payload of a CALL, or returns its
+/// first fault. The CALL is an operator's to the central system, or that system's to a simulated
+/// point.
 #[tactic(auto, unfolding(crate::specs::Action::set_charging_profile_of))]
 fn read_set_charging_profile(alloc: Global, payload: Node<'_, '_>) -> Result<Action, CallFault>
     ensures { ReadsUnless is_memory (λ action. action) result
@@ -154,8 +155,9 @@ fn read_set_charging_profile(alloc: Global, payload: Node<'_, '_>) -> Result<Act
     Ok(Action::SetChargingProfile { connector, profile })
 }
 
-/// Reads ClearChargingProfile.req (OCPP 1.6, chapter 6) from the payload of an operator's CALL to
-/// the central system, or returns its first fault.
+/// Reads ClearChargingProfile.req (OCPP 1.6, chapter 6) from the payload of a CALL, or returns its
+/// first fault. The CALL is an operator's to the central system, or that system's to a simulated
+/// point.
 #[tactic(auto, unfolding(crate::specs::Action::clear_charging_profile_of))]
 fn read_clear_charging_profile(payload: Node<'_, '_>) -> Result<Action, CallFault>
     ensures { result ≡ clear_charging_profile_of (tree_at payload.entry) }
@@ -172,8 +174,9 @@ fn read_clear_charging_profile(payload: Node<'_, '_>) -> Result<Action, CallFaul
     }))
 }
 
-/// Reads GetCompositeSchedule.req (OCPP 1.6, chapter 6) from the payload of an operator's CALL to
-/// the central system, or returns its first fault.
+/// Reads GetCompositeSchedule.req (OCPP 1.6, chapter 6) from the payload of a CALL, or returns its
+/// first fault. The CALL is an operator's to the central system, or that system's to a simulated
+/// point.
 #[tactic(auto, unfolding(crate::specs::Action::get_composite_schedule_of))]
 fn read_get_composite_schedule(payload: Node<'_, '_>) -> Result<Action, CallFault>
     ensures { result ≡ get_composite_schedule_of (tree_at payload.entry) }
@@ -188,8 +191,9 @@ fn read_get_composite_schedule(payload: Node<'_, '_>) -> Result<Action, CallFaul
     }))
 }
 
-/// Reads RemoteStartTransaction.req (OCPP 1.6, chapter 6) from the payload of an operator's CALL to
-/// the central system, or returns its first fault.
+/// Reads RemoteStartTransaction.req (OCPP 1.6, chapter 6) from the payload of a CALL, or returns
+/// its first fault. The CALL is an operator's to the central system, or that system's to a
+/// simulated point.
 #[tactic(auto, unfolding(crate::specs::Action::remote_start_of))]
 fn read_remote_start(alloc: Global, payload: Node<'_, '_>) -> Result<Action, CallFault>
     ensures { ReadsUnless is_memory (λ action. action) result
@@ -220,8 +224,8 @@ fn read_audit_point(payload: Node<'_, '_>) -> Result<Action, CallFault>
     })
 }
 
-/// Reads the idTag in the payload of a point's StartTransaction or an operator's
-/// RemoteStartTransaction CALL: at most 20 characters (OCPP 1.6, chapter 7, IdToken).
+/// Reads the idTag in the payload of a StartTransaction or RemoteStartTransaction CALL, a charge
+/// point's or an operator's: at most 20 characters (OCPP 1.6, chapter 7, IdToken).
 #[tactic(auto, unfolding(crate::specs::Action::id_tag_of))]
 fn read_id_tag(alloc: Global, payload: Node<'_, '_>) -> Result<IdTag, CallFault>
     ensures { ReadsUnless is_memory (λ id_tag. id_tag) result (id_tag_of (tree_at payload.entry)) }

@@ -83,8 +83,8 @@ pub fn read_schedule(alloc: Global, fields: Node<'_, '_>) -> Result<SchedulePart
     })
 }
 
-/// Reads the periods of a chargingSchedule, in order, from the payload of an operator's CALL or a
-/// charge point's reply, or returns the first fault.
+/// Reads the periods of a chargingSchedule, in order, from the payload of a CALL or of a charge
+/// point's reply to one, or returns the first fault.
 fn read_periods(alloc: Global, entries: Entries<'_, '_>) -> Result<PeriodList, CallFault>
     ensures { ReadsUnless is_memory (λ periods. periods) result
         (periods_of (entries_in entries.entry)) }
@@ -100,8 +100,8 @@ fn read_periods(alloc: Global, entries: Entries<'_, '_>) -> Result<PeriodList, C
     }
 }
 
-/// Reads a ChargingSchedulePeriod (OCPP 1.6, chapter 7) from the payload of an operator's CALL or a
-/// charge point's reply, or returns the first fault.
+/// Reads a ChargingSchedulePeriod (OCPP 1.6, chapter 7) from the payload of a CALL or of a charge
+/// point's reply to one, or returns the first fault.
 #[tactic(auto, unfolding(crate::specs::ProfileFields::period_of))]
 fn read_period(fields: Node<'_, '_>) -> Result<Period, CallFault>
     ensures { result ≡ period_of (tree_at fields.entry) }

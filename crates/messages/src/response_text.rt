@@ -33,8 +33,8 @@ pub fn write_response(alloc: Global, id: &str, response: &Response) -> Result<St
     Ok(out)
 }
 
-/// Estimates the length of the central system's answer to a CALL in bytes, so that the text of a
-/// long schedule isn't copied as it grows.
+/// Estimates the length in bytes of the answer to a CALL, the central system's or a simulated
+/// point's. So the text of a long schedule isn't copied as it grows.
 fn room(response: &Response) -> usize {
     match response {
         Response::Schedule(response) => {
@@ -72,8 +72,8 @@ pub fn push_response(out: &mut String, id: &str, response: &Response) -> Result<
     }
 }
 
-/// Appends the CALLRESULT with which the central system answers the CALL of this id, with this
-/// payload.
+/// Appends the CALLRESULT with which the central system or a simulated point answers the CALL of
+/// this id, with this payload.
 fn push_result(out: &mut String, id: &str, payload: &str) -> Result<(), AllocError>
     ensures { Appends result (string_bytes out.old) (string_bytes out.new)
         (call_result_text id.now payload.now) }
@@ -83,8 +83,8 @@ fn push_result(out: &mut String, id: &str, payload: &str) -> Result<(), AllocErr
     push_frame_end(out)
 }
 
-/// Appends the central system's answer to a CALL whose install or request is refused, such as a
-/// SetChargingProfile. `OutOfMemory` is a CALLERROR, as for every action.
+/// Appends the answer of the central system or a simulated point to a CALL whose install or request
+/// is refused, such as a SetChargingProfile. `OutOfMemory` is a CALLERROR, as for every action.
 fn push_rejected(out: &mut String, id: &str, refusal: Refusal) -> Result<(), AllocError>
     ensures { Appends result (string_bytes out.old) (string_bytes out.new)
         (refusal_text id.now refusal) }
@@ -97,16 +97,16 @@ fn push_rejected(out: &mut String, id: &str, refusal: Refusal) -> Result<(), All
     push_frame_end(out)
 }
 
-/// Returns whether the central system refuses a CALL for lack of memory, and so answers it by a
-/// CALLERROR.
+/// Returns whether a CALL is refused for lack of memory, and so answered by a CALLERROR of the
+/// central system or a simulated point.
 fn is_out_of_memory(refusal: Refusal) -> bool
     ensures { result ≡ is_out_of_memory refusal }
 {
     matches!(refusal, Refusal::OutOfMemory)
 }
 
-/// Appends the payload of a CALLRESULT with which the central system rejects a CALL, with the
-/// refusal's name as the reason.
+/// Appends the payload of a CALLRESULT with which the central system or a simulated point rejects a
+/// CALL, with the refusal's name as the reason.
 fn push_rejection(out: &mut String, refusal: Refusal) -> Result<(), AllocError>
     ensures { Appends result (string_bytes out.old) (string_bytes out.new) (rejected_text refusal) }
 {
@@ -179,8 +179,8 @@ fn push_transaction(out: &mut String, transaction: i32) -> Result<(), AllocError
     Ok(())
 }
 
-/// Appends the CALLRESULT that answers an operator's GetCompositeSchedule, with the composite
-/// schedule.
+/// Appends the CALLRESULT that answers a GetCompositeSchedule, with the composite schedule: to an
+/// operator, or a simulated point's to the central system.
 fn push_schedule_result(
     out: &mut String,
     id: &str,
@@ -194,8 +194,8 @@ fn push_schedule_result(
     push_frame_end(out)
 }
 
-/// Appends the payload GetCompositeSchedule.conf (OCPP 1.6, chapter 6) of the answer to an
-/// operator, with the composite schedule.
+/// Appends the payload GetCompositeSchedule.conf (OCPP 1.6, chapter 6) of an answer, to an operator
+/// or a simulated point's, with the composite schedule.
 fn push_composite(out: &mut String, response: &ScheduleResponse) -> Result<(), AllocError>
     ensures { Appends result (string_bytes out.old) (string_bytes out.new)
         (composite_text response.now) }
@@ -210,8 +210,8 @@ fn push_composite(out: &mut String, response: &ScheduleResponse) -> Result<(), A
     Ok(())
 }
 
-/// Appends a composite schedule to the payload of GetCompositeSchedule.conf (OCPP 1.6, chapter 7,
-/// ChargingSchedule), the answer to an operator.
+/// Appends a composite schedule (OCPP 1.6, chapter 7, ChargingSchedule) to the payload of
+/// GetCompositeSchedule.conf, the answer to an operator or a simulated point's.
 fn push_composite_schedule(
     out: &mut String,
     unit: Unit,
@@ -238,8 +238,8 @@ impl ListItem for CompositePeriod {
     }
 }
 
-/// Appends a period of a composite schedule to the payload of GetCompositeSchedule.conf (OCPP 1.6,
-/// chapter 7, ChargingSchedulePeriod), the answer to an operator.
+/// Appends a ChargingSchedulePeriod (OCPP 1.6, chapter 7) to the composite schedule in
+/// GetCompositeSchedule.conf, the answer to an operator or a simulated point's.
 fn push_composite_period(out: &mut String, period: &CompositePeriod) -> Result<(), AllocError>
     ensures { Appends result (string_bytes out.old) (string_bytes out.new)
         (composite_period_text period.now) }

@@ -115,8 +115,8 @@ fn keep_beside(deliveries: &mut Vec<Delivery>, rows: &[Row], new: Delivery)
     deliveries.retain(|delivery| remains_beside(rows, new, delivery));
 }
 
-/// Records in the machine's deliveries that a charge point didn't accept the profile that came with
-/// the call of a number.
+/// Records in the machine's deliveries (which call brought which profile) that a charge point
+/// didn't accept the profile that came with the call of a number.
 fn reject_all(deliveries: &mut Vec<Delivery>, call: u64)
     ensures { deliveries.new.items ≡ map (rejected_by call) deliveries.old.items }
 {

@@ -68,8 +68,8 @@ impl InForce {
     }
 }
 
-/// Gives a stack level a limit in `InForce`, the sorted list of levels whose profiles have a limit
-/// at the current instant of the schedule compiler's sweep.
+/// Gives a level (a profile's rank by purpose and stack level) a limit in `InForce`. That is the
+/// schedule compiler's sorted list of the levels with a limit.
 fn set_rate(rates: &mut Vec<(u32, u32)>, level: u32, rate: u32) -> Result<(), Refusal>
     requires rising { AreRising rates.old.items }
     ensures set { OnOk result (IsSet rates.old.items level (Some rate) rates.new.items) }
@@ -88,8 +88,9 @@ fn set_rate(rates: &mut Vec<(u32, u32)>, level: u32, rate: u32) -> Result<(), Re
     }
 }
 
-/// Removes the limit of a stack level from `InForce`, the sorted list of levels with a limit, if it
-/// has one. The schedule compiler's sweep does this where a profile's limit ends.
+/// Removes the limit of a level (a profile's rank by purpose and stack level) from `InForce`, the
+/// sorted list of levels with a limit. The schedule compiler's sweep does this where a profile's
+/// limit ends.
 fn remove_rate(rates: &mut Vec<(u32, u32)>, level: u32)
     requires rising { AreRising rates.old.items }
     ensures set { IsSet rates.old.items level None rates.new.items }
@@ -101,8 +102,8 @@ fn remove_rate(rates: &mut Vec<(u32, u32)>, level: u32)
     }
 }
 
-/// Returns the index of the first stack level that isn't below this one in `InForce`. That is the
-/// sorted list of levels with a limit in the schedule compiler's sweep.
+/// Returns the index of the first level (rank by purpose and stack level) that isn't below this one
+/// in `InForce`. That is the schedule compiler's sorted list of levels with a limit.
 fn place_of(rates: &[(u32, u32)], level: u32) -> usize
     requires rising { AreRising rates.now }
     ensures { IsPlaceOf rates.now level result }
@@ -114,8 +115,8 @@ fn place_of(rates: &[(u32, u32)], level: u32) -> usize
     rates.partition_point(|entry| entry.0 < level)
 }
 
-/// Returns a stack level's index in `InForce`, the schedule compiler's list of levels with a limit,
-/// if each level from the lowest on has one. This saves the search.
+/// Returns the index of a level (rank by purpose and stack level) in `InForce`, if each from the
+/// lowest on has a limit. This saves the schedule compiler the search.
 fn likely_place(rates: &[(u32, u32)], level: u32) -> usize {
     match rates.first() {
         Some(lowest) => level.saturating_sub(lowest.0) as usize,
@@ -123,8 +124,8 @@ fn likely_place(rates: &[(u32, u32)], level: u32) -> usize {
     }
 }
 
-/// Whether the entry at an index of `InForce`, the schedule compiler's sorted list of stack levels
-/// with a limit, has this level.
+/// Whether the entry at an index of `InForce`, the schedule compiler's sorted list of levels with a
+/// limit, has this level (rank by purpose and stack level).
 fn has_level_at(rates: &[(u32, u32)], level: u32, place: usize) -> bool
     ensures { result ≡ has_level_at rates.now level place }
 {

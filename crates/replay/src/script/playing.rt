@@ -137,8 +137,8 @@ impl<'a> Playing<'a> {
         self.rest = others;
     }
 
-    /// Returns whether the next line of a replayed script is at most the last one that `show`,
-    /// `check`, `explain` or `call` plays.
+    /// Returns whether the next line of a replayed script is at most the last one that `explain`
+    /// plays.
     fn is_up_to(&self, last_line: Option<u64>) -> bool
         ensures { result ≡ is_up_to last_line self.now.number }
     {

@@ -129,7 +129,8 @@ fn with_entry(
     }
 }
 
-/// Returns the charge points found in a site file, or `BadPoints` if there are none or too many.
+/// Returns the charge points that the reading of a site file found, or `BadPoints` if there are
+/// none or too many.
 fn unless_many(found: FoundPoints) -> Result<Site, SiteFault>
     ensures { (all : List Tree) → AreFound found all → result ≡ few_points all }
 {

@@ -27,7 +27,7 @@ pub(crate) fn some_or<T: Drop>(fault: SiteFault, value: Option<T>) -> Result<T, 
     }
 }
 
-/// Returns a part of a site file's tree if it is an object, or else the fault.
+/// Returns a part of a site file's JSON tree if it is an object, or else the fault.
 pub(crate) fn object_or<'tree, 'memory>(
     fault: SiteFault,
     part: Node<'tree, 'memory>,

@@ -37,8 +37,8 @@ pub(crate) fn has_tree(
     }
 }
 
-/// Reads the next value of a site file, and returns whether it has a tree. `Unsure` if there is no
-/// value.
+/// Reads the next value of a site file, and returns whether it has a JSON tree. `Unsure` if there
+/// is no value.
 #[cycle(trees)]
 fn value_has_tree(alloc: Global, reader: &mut Reader<'_>, depth: usize) -> Result<bool, PartFault>
     requires { HaveNoNumber reader.old }
@@ -73,7 +73,7 @@ fn value_has_tree(alloc: Global, reader: &mut Reader<'_>, depth: usize) -> Resul
     }
 }
 
-/// Returns whether a marked string of a site file has a tree: a text always, a number by its
+/// Returns whether a marked string of a site file has a JSON tree: a text always, a number by its
 /// grammar.
 fn string_has_tree(marked: &str) -> bool
     ensures { result ≡ is_some (tree_of_string marked.now) }
@@ -87,7 +87,7 @@ fn string_has_tree(marked: &str) -> bool
     }
 }
 
-/// Reads the items of a list in a site file, and returns whether each has a tree.
+/// Reads the items of a list in a site file, and returns whether each has a JSON tree.
 #[cycle(trees)]
 fn items_have_trees(alloc: Global, reader: &mut Reader<'_>, depth: usize) -> Result<bool, PartFault>
     requires { HaveNoNumber reader.old }
@@ -109,8 +109,8 @@ fn items_have_trees(alloc: Global, reader: &mut Reader<'_>, depth: usize) -> Res
     Ok(have)
 }
 
-/// Reads the members of an object in a site file, and returns whether they have trees. Of several
-/// with one key only the last must have one.
+/// Reads the members of an object in a site file, and returns whether they have JSON trees. Of
+/// several with one key only the last must have one.
 #[cycle(trees)]
 fn members_have_trees(
     alloc: Global,
@@ -137,8 +137,8 @@ fn members_have_trees(
     Ok(broken.is_empty())
 }
 
-/// Records a key of an object in a site file whose last member has no tree, or drops one whose last
-/// member has a tree.
+/// Records a key of an object in a site file whose last member has no JSON tree, or drops one whose
+/// last member has one.
 fn update_key<'a>(broken: &mut BTreeSet<&'a str>, key: &'a str, has: bool) -> Result<(), AllocError>
     ensures { OnOk result ((other : List ℕ) → has_key other broken.new
         ≡ (if bytes_eq key.now other then not (has && is_some (name_of_key key.now))
