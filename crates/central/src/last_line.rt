@@ -46,7 +46,7 @@ pub fn say_fault<
     }
 }
 
-/// Writes to standard error on a thread of its own that the journal is broken, for at most
+/// Writes to standard error on a thread of its own that the journal of `run` is broken, for at most
 /// LONGEST_WAIT seconds. Returns None if no thread can be made.
 fn say_in_time<
     R: Eprint + AllocGlobal + Clock + Threads + Wait + Copy + Send + Sync + Drop + 'static,

@@ -39,8 +39,8 @@ fn main(rt: HostRuntime) -> ExitCode {
     ExitCode::from(run(&rt, screen))
 }
 
-/// Does the job of the program's command line, and prints to standard error why it failed, if it
-/// did. Returns the program's exit status.
+/// Does the job of the command line of the program `central`, and prints to standard error why it
+/// failed, if it did. Returns the program's exit status.
 fn run<
     R: Runtime
         + Files<File = File>
@@ -64,7 +64,7 @@ fn run<
     }
 }
 
-/// Does the job that the program's command line names, or prints why there is none.
+/// Does the job that the command line of the program `central` names, or prints why there is none.
 fn do_job<
     R: Runtime
         + Files<File = File>
@@ -157,8 +157,8 @@ fn run_site<
     }
 }
 
-/// Prints to standard error the name of the site file that a job couldn't read, if that is why it
-/// stopped.
+/// Prints to standard error the name of the site file that couldn't be read, if `run`, `call`,
+/// `point`, `explain`, `check` or `show` stopped because of that.
 fn naming_site_file<T, R: Files<File = File> + Eprint>(
     rt: &R,
     path: &str,
@@ -171,7 +171,7 @@ fn naming_site_file<T, R: Files<File = File> + Eprint>(
 }
 
 /// Prints to standard error the name of the site's folder that another `central run` uses, if that
-/// is why a job stopped.
+/// is why the job of `run` stopped.
 fn naming_folder<T, R: Eprint>(
     rt: &R,
     path: &str,
@@ -183,7 +183,7 @@ fn naming_folder<T, R: Eprint>(
     done
 }
 
-/// Returns the words of the command line, the program's name first.
+/// Returns the words of the command line of the program `central`, the program's name first.
 fn command_words<R: Env + AllocGlobal>(rt: &R) -> Result<Vec<String>, ProgramFault> {
     let words = match env::args(rt) {
         Ok(words) => words,
@@ -198,8 +198,8 @@ fn command_words<R: Env + AllocGlobal>(rt: &R) -> Result<Vec<String>, ProgramFau
     Ok(words)
 }
 
-/// Prints why the program's command line has no job, or the help that it requests. Returns the exit
-/// status.
+/// Prints why the command line of the program `central` has no job, or the help that it requests.
+/// Returns the exit status.
 fn refuse<R: Print + Eprint>(rt: &R, error: clap::Error) -> Result<u8, ProgramFault> {
     if error.kind() == ErrorKind::OutOfMemory {
         return Err(ProgramFault::OutOfMemory);

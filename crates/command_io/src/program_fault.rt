@@ -171,8 +171,8 @@ impl ProgramFault {
     }
 }
 
-/// Returns the program's exit status if a command stops because it can't use the journal in a
-/// site's folder.
+/// Returns the exit status of `run`, `journal`, `replay`, `check`, `show`, `explain` or `call`, if
+/// it stops because the journal in a site's folder can't be used.
 fn folder_status(fault: &FolderFault) -> u8
     ensures { result ≡ folder_status fault.now }
 {

@@ -243,8 +243,8 @@ impl ActionKind {
     }
 }
 
-/// Returns the first of these actions, of those that the central system knows, with this name, as a
-/// CALL writes it.
+/// Returns the first action with this name, as a CALL writes it, among these actions that the
+/// central system knows.
 fn kind_in(kinds: &[ActionKind], text: &str) -> Option<ActionKind>
     ensures { result ≡ kind_in kinds.now text.now }
 {

@@ -5,7 +5,7 @@ use std::time::{SystemTime, UNIX_EPOCH};
 
 /// A source of the present moment.
 pub trait Moments {
-    /// Returns the present moment, by which messages and journal lines are dated, in whole seconds.
+    /// Returns the present time, by which messages and journal lines are dated, in whole seconds.
     /// `None` if the clock can't be read.
     fn now(&self) -> Option<Instant>;
 }

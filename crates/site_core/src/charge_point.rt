@@ -368,7 +368,7 @@ impl ChargePoint {
 
     /// Makes the step Start of the machine: begins a transaction at a charge point's connector, or
     /// answers a retransmitted start. A remote start that waits there ends, if its call has gone
-    /// out. If it is for this idTag, the transaction begins with its profile.
+    /// out. If that is for this idTag, its profile is the transaction's.
     fn start(
         &mut self,
         numbers: &Numbers,
@@ -422,8 +422,8 @@ impl ChargePoint {
     }
 
     /// Returns the charge point's deliveries (which call brought which profile), with that of the
-    /// profile with which the machine begins a transaction at a connector. It came with the call of
-    /// the remote start that the transaction ends.
+    /// profile with which the machine begins a transaction at a connector. That profile came with
+    /// the call of the remote start that the transaction ends.
     fn with_started(
         &self,
         connector: u32,

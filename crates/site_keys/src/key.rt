@@ -56,9 +56,9 @@ fn is_same_role(one: Role, other: Role) -> bool
     }
 }
 
-/// Returns whether the keys of a site have this password for this user in this role. Tries each key
-/// of the user. For an unknown user it compares a digest all the same, so that the time reveals
-/// less of which users exist.
+/// Returns whether this is a password of this user in this role, by the keys of a site. Tries each
+/// key of the user. For an unknown user it computes and compares a digest all the same, so that the
+/// time reveals less of which users exist. It may still reveal something.
 pub(crate) fn has_right_key(keys: &[Key], role: Role, user: &str, password: &[u8]) -> bool
     ensures { result ≡ has_right_key role user.now password.now keys.now }
 {

@@ -68,8 +68,8 @@ impl InForce {
     }
 }
 
-/// Gives a level (a profile's rank by purpose and stack level) a limit in `InForce`. That is the
-/// schedule compiler's sorted list of the levels with a limit.
+/// Gives a stack level (in a sweep: a profile's rank by purpose and level) a limit in `InForce`.
+/// That is the sorted list by level of the limits at an instant, for the schedule compiler.
 fn set_rate(rates: &mut Vec<(u32, u32)>, level: u32, rate: u32) -> Result<(), Refusal>
     requires rising { AreRising rates.old.items }
     ensures set { OnOk result (IsSet rates.old.items level (Some rate) rates.new.items) }
@@ -88,9 +88,8 @@ fn set_rate(rates: &mut Vec<(u32, u32)>, level: u32, rate: u32) -> Result<(), Re
     }
 }
 
-/// Removes the limit of a level (a profile's rank by purpose and stack level) from `InForce`, the
-/// sorted list of levels with a limit. The schedule compiler's sweep does this where a profile's
-/// limit ends.
+/// Removes the limit of a stack level from `InForce`, the sorted list by level of the limits at an
+/// instant. The schedule compiler's sweep does this where a profile's limit ends.
 fn remove_rate(rates: &mut Vec<(u32, u32)>, level: u32)
     requires rising { AreRising rates.old.items }
     ensures set { IsSet rates.old.items level None rates.new.items }
@@ -102,8 +101,8 @@ fn remove_rate(rates: &mut Vec<(u32, u32)>, level: u32)
     }
 }
 
-/// Returns the index of the first level (rank by purpose and stack level) that isn't below this one
-/// in `InForce`. That is the schedule compiler's sorted list of levels with a limit.
+/// Returns the index of the first stack level that isn't below this one in `InForce`. That is the
+/// sorted list by level of the limits at an instant, for the schedule compiler.
 fn place_of(rates: &[(u32, u32)], level: u32) -> usize
     requires rising { AreRising rates.now }
     ensures { IsPlaceOf rates.now level result }
@@ -115,8 +114,8 @@ fn place_of(rates: &[(u32, u32)], level: u32) -> usize
     rates.partition_point(|entry| entry.0 < level)
 }
 
-/// Returns the index of a level (rank by purpose and stack level) in `InForce`, if each from the
-/// lowest on has a limit. This saves the schedule compiler the search.
+/// Returns a stack level's index in `InForce`, the sorted list by level of the limits at an
+/// instant, if each level from the lowest on has one. This saves the search.
 fn likely_place(rates: &[(u32, u32)], level: u32) -> usize {
     match rates.first() {
         Some(lowest) => level.saturating_sub(lowest.0) as usize,
@@ -124,8 +123,8 @@ fn likely_place(rates: &[(u32, u32)], level: u32) -> usize {
     }
 }
 
-/// Whether the entry at an index of `InForce`, the schedule compiler's sorted list of levels with a
-/// limit, has this level (rank by purpose and stack level).
+/// Whether the entry at an index of `InForce`, the sorted list by stack level of the limits at an
+/// instant, is that of this level.
 fn has_level_at(rates: &[(u32, u32)], level: u32, place: usize) -> bool
     ensures { result ≡ has_level_at rates.now level place }
 {

@@ -86,8 +86,8 @@ impl Model for Queue {
 impl Queue {
     ghost use Rattle.sweep_compiler.specs.ByCases.Queue.{Due, IsSoonest, IsSoonestOf};
 
-    /// Makes an empty queue of the charging profiles' rows that wait for their next places in a
-    /// composite schedule's sweep. Allocates nothing.
+    /// Makes an empty queue of the installed profiles that wait for their next places (changes of
+    /// their limits) in the schedule compiler's sweep. Allocates nothing.
     pub(crate) fn new(alloc: Global) -> Queue
         ensures { result ≡ [] }
     {
@@ -96,8 +96,8 @@ impl Queue {
         }
     }
 
-    /// Adds a charging profile's row to the queue of a composite schedule's sweep, with the instant
-    /// of its next place.
+    /// Adds an installed profile to the queue of the schedule compiler's sweep, with the instant of
+    /// its next place (change of its limit).
     pub(crate) fn push(&mut self, due: Due) -> Result<(), AllocError>
         ensures { IfOk result (λ _. IsPermutation (due ∷ self.old) self.new) }
     {
@@ -105,8 +105,8 @@ impl Queue {
         Ok(())
     }
 
-    /// Returns the earliest instant at which a charging profile's row in the queue is due, the next
-    /// place of a composite schedule's sweep.
+    /// Returns the earliest instant at which an installed profile in the queue is due: the next
+    /// place of the schedule compiler's sweep.
     pub(crate) fn soonest(&self) -> Option<Instant>
         ensures { IsSoonest self.now result }
     {
@@ -116,8 +116,8 @@ impl Queue {
         }
     }
 
-    /// Returns the charging profile's row that is due the soonest in the queue of a composite
-    /// schedule's sweep.
+    /// Returns the installed profile that is due the soonest in the queue of the schedule
+    /// compiler's sweep.
     pub(crate) fn first(&self) -> Option<Due>
         ensures empty { IfNone result (self.now ≡ []) }
         ensures first { IfSome result (λ due. self.now ≡ due ∷ drop 1 self.now) }

@@ -109,7 +109,7 @@ pub fn replay<R: Read, W: Write>(
     write_output(alloc, writer, script.as_slice(), site)
 }
 
-/// Reads the whole script of a replay, of at most 16,777,216 bytes.
+/// Reads the whole script that the command `replay` plays, of at most 16,777,216 bytes.
 fn read_script<R: Read>(alloc: Global, reader: &mut R) -> Result<Vec<u8>, ReplayFault>
     ensures whole { IfOk result
         (λ script. IfSome (R.remaining reader.old) (λ given. script.items ≡ given)) }
@@ -124,8 +124,8 @@ fn read_script<R: Read>(alloc: Global, reader: &mut R) -> Result<Vec<u8>, Replay
     Ok(read_all(alloc, reader, MAX_SCRIPT_BYTES)?)
 }
 
-/// Replays a whole script on a site, and writes and flushes its output. Returns the number of lines
-/// with a fault.
+/// Plays a whole script on a site for the command `replay`, and writes and flushes its output.
+/// Returns the number of lines with a fault.
 fn write_output<W: Write>(
     alloc: Global,
     writer: &mut W,
@@ -146,8 +146,8 @@ fn write_output<W: Write>(
     Ok(summary)
 }
 
-/// Replays the lines of a script on a site, and writes the output of each. Returns the number of
-/// lines with a fault.
+/// Plays the lines of a script on a site for the command `replay`, and writes the output of each.
+/// Returns the number of lines with a fault.
 fn write_lines<W: Write>(
     alloc: Global,
     writer: &mut W,
@@ -179,8 +179,8 @@ fn write_lines<W: Write>(
     Ok(Summary { script_faults })
 }
 
-/// Replays the line of this number of a script, and writes its output. Returns whether the line has
-/// a fault.
+/// Plays the line of this number of a script for the command `replay`, and writes its output.
+/// Returns whether the line has a fault.
 fn write_line<W: Write>(
     writer: &mut W,
     player: &mut Player,
