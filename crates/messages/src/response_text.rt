@@ -252,7 +252,7 @@ fn push_composite_period(out: &mut String, period: &CompositePeriod) -> Result<(
     Ok(())
 }
 
-/// Appends the CALLRESULT that answers PointStatus, an operator's CALL of our own.
+/// Appends the CALLRESULT that answers an operator's PointStatus, an action of our own.
 fn push_point_status_result(
     out: &mut String,
     id: &str,
