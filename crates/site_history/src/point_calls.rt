@@ -71,7 +71,8 @@ impl PointCalls {
         })
     }
 
-    /// Reads an event at the point, given its outbox after it.
+    /// Reads an event at a point in its site's history, to follow the point's calls by it. The
+    /// outbox is the one after the event.
     pub(crate) fn read(
         &mut self,
         alloc: Global,
@@ -133,8 +134,8 @@ impl PointCalls {
         Ok(())
     }
 
-    /// Returns when the call of this number, which goes out now, was added. It waits, or went out
-    /// over an earlier link.
+    /// Returns when the history of a site added the call of this number, which goes out to its
+    /// point now. Until now it waited, or it went out over an earlier link.
     fn added_at(&self, number: u64) -> Option<Instant> {
         match &self.in_flight {
             Some(call) if call.number == number => call.added,

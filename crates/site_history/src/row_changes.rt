@@ -107,8 +107,8 @@ impl PointRows {
         Ok(Some(RowChange { came, gone }))
     }
 
-    /// Returns whether a charge point's profiles have the names recorded after an earlier event, in
-    /// their order.
+    /// Returns whether a charge point's profiles have the names recorded after an earlier event in
+    /// its site's history, in their order.
     fn are(&self, rows: &[Row]) -> bool {
         self.named.len() == rows.len()
             && self
@@ -120,7 +120,7 @@ impl PointRows {
 }
 
 /// Returns the names of a point's charging profiles, in their order, to compare them with those
-/// after a later event.
+/// after a later event in the site's history.
 fn names_of(alloc: Global, rows: &[Row]) -> Result<Vec<PrevailingProfile>, AllocError> {
     let mut names = Vec::with_capacity(alloc, rows.len())?;
     for row in rows {
