@@ -72,8 +72,8 @@ pub(crate) fn send<S: Read + Write + Drop, K: MaskKeys + Drop>(
     }
 }
 
-/// Closes a client's connection to the central system, and waits until that closes it. Reads at
-/// most 1,000 more messages, and waits at most CLOSING_SECONDS for each.
+/// Closes the connection of a client (`call` or `point`), and waits for the central system to close
+/// it. Reads at most 1,000 more messages, and waits at most CLOSING_SECONDS for each.
 pub(crate) fn close<S: Read + Write + OpenStream + Drop, K: MaskKeys + Drop>(
     socket: &mut WebSocket<S, K>,
 ) {

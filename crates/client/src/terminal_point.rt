@@ -47,8 +47,8 @@ impl<S: Read + Write + OpenStream + Drop, K: MaskKeys + Drop, W: Write> Terminal
         Ok(faults)
     }
 
-    /// Does what a line on standard input asks of the simulated charge point that `point` connects.
-    /// Returns the name of its fault, if it has one.
+    /// Does what a line on standard input asks of `point`'s simulated charge point. Returns the
+    /// name of the line's fault, if it has one.
     fn take_line<R: Wait + Clock, M: Moments>(
         &mut self,
         rt: &R,
@@ -86,8 +86,8 @@ impl<S: Read + Write + OpenStream + Drop, K: MaskKeys + Drop, W: Write> Terminal
         Ok(None)
     }
 
-    /// Makes the remote starts that the simulated point of `point` has accepted, which are the only
-    /// steps left.
+    /// Sends the StartTransactions of the remote starts that `point`'s simulated point has
+    /// accepted. These are the only steps left.
     fn make_starts<R: Wait, M: Moments>(&mut self, rt: &R, clock: &M) -> Result<(), ClientFault> {
         for _start in rt.forever() {
             if !self.make_call(rt, clock)? {
@@ -195,7 +195,7 @@ fn write_text<W: Write>(writer: &mut W, what: &str, text: &str) -> Result<(), Cl
     }
 }
 
-/// Writes the fault of a line that `point` read for its simulated point as `! NUMBER NAME`.
+/// Writes the fault of a line on standard input for `point`'s simulated point as `! NUMBER NAME`.
 fn write_fault<W: Write>(writer: &mut W, number: u64, name: &str) -> Result<(), ClientFault> {
     match writeln!(writer, "! {number} {name}").and_then(|()| writer.flush()) {
         Ok(()) => Ok(()),

@@ -30,7 +30,7 @@ impl<N: ListName> Model for Receipt<N> {
 
 impl<N: ListName> Receipt<N> {
     /// Makes the receipt that a journal gives to a session: its lines for these states of the book
-    /// are on disk, after these syncs of its file.
+    /// are synced to disk.
     pub(crate) fn new(recorded: RecordedStates<N>, syncs: KnownSyncs<N>) -> Receipt<N>
         requires { HasSync syncs.entries recorded }
         ensures { result ≡ receipt_of recorded (Some syncs.entries) }

@@ -258,7 +258,7 @@ impl<C: Ledger, A: Ledger> Follower<C, A> {
     }
 
     /// Lets the reader of a command (`show`, `explain`, `check` or `call`) read the event of the
-    /// journal's line that was restored last, if it has one.
+    /// journal's line restored last, if it has one.
     fn let_read<E: EventReader>(&self, line: &Line<'_>, reader: &mut E) -> Result<(), FolderFault> {
         let kind = match line.noted {
             Noted::Message { sender, frame, .. } => EventKind::Message {
@@ -297,7 +297,7 @@ impl<C: Ledger, A: Ledger> Follower<C, A> {
     }
 
     /// Returns the call that went out to a point by a line of the journal that a command reads: the
-    /// first that the point hasn't confirmed.
+    /// first without the point's confirmation.
     fn call_in_flight(&self, point: &str) -> Result<Option<Call>, AllocError> {
         let Some(outbox) = self.book.present().outbox_of(point) else {
             return Ok(None);

@@ -71,8 +71,8 @@ impl PointCalls {
         })
     }
 
-    /// Reads an event at a point in its site's history, to follow the point's calls by it. The
-    /// outbox is the one after the event.
+    /// Follows the calls to a point by an event in its site's history, for `show`, `explain`,
+    /// `check` and `call`. The outbox is the one after the event.
     pub(crate) fn read(
         &mut self,
         alloc: Global,
@@ -99,7 +99,7 @@ impl PointCalls {
     }
 
     /// Records that an event in a site's history added the calls to its point below the number
-    /// `next`.
+    /// `next`, for `show`, `explain`, `check` and `call`.
     fn add(&mut self, next: u64, event: &Event<'_>) -> Result<(), AllocError> {
         for number in self.count..next {
             self.waiting.push(UnsentCall {
@@ -112,7 +112,7 @@ impl PointCalls {
     }
 
     /// Records that a call to the point went out, after the line of this number in a site's
-    /// history.
+    /// history, for `show`, `explain`, `check` and `call`.
     fn send(&mut self, alloc: Global, call: &Call, line: u64) -> Result<(), AllocError> {
         let number = call.number;
         let action = call.body.kind();
@@ -148,7 +148,8 @@ impl PointCalls {
     }
 
     /// Records that the point replied to the call in flight, at the line of this number in a site's
-    /// history. Earlier rejections of an equal call are dropped.
+    /// history. Drops earlier rejections of an equal call. `show`, `explain`, `check` and `call`
+    /// read the rest.
     fn confirm(
         &mut self,
         alloc: Global,

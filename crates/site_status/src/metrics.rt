@@ -29,8 +29,8 @@ pub fn metrics_text(alloc: Global, report: &SiteReport<'_>) -> Result<String, Al
     Ok(out)
 }
 
-/// Appends the sample of a Prometheus metric of the status port for the charge point at this place
-/// of the site file, if it has one.
+/// Appends the sample of the status port's Prometheus metric for the charge point at this place of
+/// the site file, if it has one.
 fn push_of_point(
     out: &mut String,
     figure: PointFigure,

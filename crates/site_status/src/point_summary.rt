@@ -87,8 +87,8 @@ fn calls_at(report: &SiteReport<'_>, place: usize) -> CallSummary {
     }
 }
 
-/// Returns since when a call to the point at this place of the site file waits, if one does, for
-/// the texts of the status port.
+/// Returns since when a call to the point at this place of the site file waits, if one does. It is
+/// for the texts of the status port.
 fn waiting_since_at(report: &SiteReport<'_>, place: usize) -> Option<Instant> {
     match report.waiting_since.get(place) {
         Some(since) => *since,
