@@ -88,9 +88,10 @@ pub fn restore_shared<
     }
 }
 
-/// Restores a site's book from its journal file at the start of `run`, and takes the links from all
-/// points. A journal that is new, of another format or of another site file gets a line that names
-/// this one. A torn last line, which nothing answered, is cut. Returns also the lines to add.
+/// Restores a site's book from its journal file at the start of `run`, each step with the number it
+/// drew, and takes the links from all points. A journal that is new, of an earlier format or of
+/// another site file gets a line that names this one. A torn last line is cut: nothing in it was
+/// answered. Returns the journal, and the lines to add to it.
 fn restore_book<
     C: Ledger,
     A: Ledger,
