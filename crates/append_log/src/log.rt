@@ -118,8 +118,8 @@ impl<F: AppendedFile> Log<F> {
     }
 }
 
-/// Empties a log's buffer of pending bytes after they are written and synced, and frees one that
-/// grew large.
+/// Empties the buffer of an append-only log's pending bytes after they are written and synced, and
+/// frees one that grew large.
 fn clear(bytes: &mut Vec<u8>)
     ensures { bytes.new.items ≡ [] }
 {
@@ -130,8 +130,8 @@ fn clear(bytes: &mut Vec<u8>)
     }
 }
 
-/// Appends the pending bytes of a log that its file doesn't have, from the `in_file`-th on, and
-/// syncs the file.
+/// Appends the pending bytes of an append-only log that its file doesn't have, from the
+/// `in_file`-th on, and syncs the file.
 fn write_then_sync<F: AppendedFile>(
     file: &mut F,
     bytes: &[u8],
@@ -158,7 +158,8 @@ fn write_then_sync<F: AppendedFile>(
     }
 }
 
-/// Appends the pending bytes of a log that its file doesn't have, from the `in_file`-th on.
+/// Appends the pending bytes of an append-only log that its file doesn't have, from the
+/// `in_file`-th on.
 fn write_rest<F: AppendedFile>(
     file: &mut F,
     bytes: &[u8],

@@ -132,8 +132,8 @@ impl AppendedFile for MemoryFile {
     }
 }
 
-/// Appends to a log's file in memory, made for tests, as many of the bytes as the planned answer
-/// allows.
+/// Appends to an append-only log's file in memory, made for tests, as many of the bytes as the
+/// planned answer allows.
 fn append_some(file: &mut Vec<u8>, answer: FileAnswer, bytes: &[u8]) -> Result<usize, WriteFault>
     ensures count { IfOk result (TakesSome bytes.now) }
     ensures ok { IfOk result (λ count. file.new.items ≡ file.old.items ++ take count bytes.now) }

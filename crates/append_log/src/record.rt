@@ -25,7 +25,7 @@ unsafe impl Send for Record {}
 unsafe impl Sync for Record {}
 
 impl Record {
-    /// Makes the ghost record of a log's file, before its first call.
+    /// Makes the ghost record of an append-only log's file, before its first call.
     pub(crate) fn new() -> Record
         ensures { result.history ≡ opened 0 }
     {
@@ -34,8 +34,8 @@ impl Record {
         }
     }
 
-    /// Notes in the ghost record a call on a log's file by its number, with a count and the bytes
-    /// that were passed to it.
+    /// Notes in the ghost record a call on an append-only log's file by its number. Adds a count
+    /// and the bytes that were passed to the call.
     // The body is empty: no proof ties a note to the call, so callers of this method need review.
     pub(crate) fn note(&mut self, _call: &[u64], _bytes: &[u8])
         ensures { self.new.history ≡ noted _call.now _bytes.now self.old.history }

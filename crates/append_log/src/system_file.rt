@@ -110,14 +110,15 @@ impl AppendedFile for SystemFile {
     }
 }
 
-/// Cuts a log's file on the system's disk to a length, and syncs that.
+/// Cuts an append-only log's file on the system's disk to a length, and syncs that.
 // Synced, since until then a crash may still leave the bytes that were cut off.
 fn cut_and_sync(file: &File, end: u64) -> io::Result<()> {
     file.set_len(end)?;
     file.sync_data()
 }
 
-/// Writes some of the bytes to a log's file, and retries after a signal.
+/// Writes some of the bytes to an append-only log's file on the system's disk, and retries after a
+/// signal.
 fn write_some(file: &mut File, bytes: &[u8]) -> Result<usize, WriteFault>
     ensures { IfOk result (TakesSome bytes.now) }
 {
@@ -136,8 +137,8 @@ fn write_some(file: &mut File, bytes: &[u8]) -> Result<usize, WriteFault>
     Err(WriteFault::Full(io::Error::from(ErrorKind::Interrupted)))
 }
 
-/// Separates errors of a full device, where a write to the log's file took nothing, from others,
-/// where it may have taken any bytes.
+/// Separates errors of a full device, where a write to an append-only log's file took nothing, from
+/// others, where it may have taken any bytes.
 fn fault_of(error: io::Error) -> WriteFault {
     match error.kind() {
         ErrorKind::StorageFull | ErrorKind::QuotaExceeded | ErrorKind::FileTooLarge => {

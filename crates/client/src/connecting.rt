@@ -56,8 +56,8 @@ impl Address {
     }
 }
 
-/// Returns the credentials of a client for the central system: a name, a colon and a password (HTTP
-/// Basic, RFC 7617).
+/// Returns the credentials of a client (`call` or `point`) for the central system: a name, a colon
+/// and a password (HTTP Basic, RFC 7617).
 fn credentials_of(alloc: Global, login: &str) -> Result<HeaderValue, ClientFault> {
     let coded = STANDARD.encode(alloc, login.as_bytes())?;
     let text = format!(in alloc; "Basic {coded}")?;
@@ -67,7 +67,7 @@ fn credentials_of(alloc: Global, login: &str) -> Result<HeaderValue, ClientFault
     }
 }
 
-/// Adds a header to the request of a client's handshake.
+/// Adds a header to the request of a client's WebSocket handshake with the central system.
 fn add_header(
     request: &mut Request<()>,
     name: HeaderName,
@@ -79,8 +79,8 @@ fn add_header(
     }
 }
 
-/// Returns whether a URL's path ends in `/operator/ID`, which is where the central system takes an
-/// operator's calls.
+/// Returns whether the path of a client's URL ends in `/operator/ID`, at which the central system
+/// takes an operator's calls.
 fn is_operators(path: &str) -> bool {
     match path.rsplit_once('/') {
         Some((before, id)) => !id.is_empty() && before.ends_with("/operator"),
@@ -106,7 +106,8 @@ pub fn connect<R: Net<Stream = TcpStream> + RandomSource + Copy + Drop>(
     }
 }
 
-/// Opens a client's TCP connection to the host and the port of a URL.
+/// Opens the TCP connection of a client (`call` or `point`) to the host and the port in the central
+/// system's URL.
 fn stream_to<R: Net<Stream = TcpStream>>(rt: &R, uri: &Uri) -> Result<TcpStream, ClientFault> {
     let Some(host) = uri.host() else {
         return Err(ClientFault::Url);
@@ -120,8 +121,8 @@ fn stream_to<R: Net<Stream = TcpStream>>(rt: &R, uri: &Uri) -> Result<TcpStream,
     Ok(stream)
 }
 
-/// Returns why the central system refused a client with or without a login, by the HTTP status of
-/// its response.
+/// Returns why the central system refused a client (`call` or `point`) with or without a login, by
+/// the HTTP status of its response.
 fn refusal_of(status: StatusCode, has_login: bool) -> ClientFault {
     match status.as_u16() {
         401 if has_login => ClientFault::WrongLogin,
@@ -131,7 +132,8 @@ fn refusal_of(status: StatusCode, has_login: bool) -> ClientFault {
     }
 }
 
-/// Builds the request of a WebSocket handshake at a URL, without a subprotocol.
+/// Builds the request of a client's WebSocket handshake with the central system at a URL, still
+/// without a subprotocol.
 fn plain_request(alloc: Global, url: &str) -> Result<Request<()>, ClientFault> {
     match request_of(alloc, url) {
         Ok(request) => Ok(request),
@@ -140,8 +142,8 @@ fn plain_request(alloc: Global, url: &str) -> Result<Request<()>, ClientFault> {
     }
 }
 
-/// Builds the request of the WebSocket handshake with the central system at a URL, which offers
-/// OCPP 1.6.
+/// Builds the request of a client's WebSocket handshake with the central system at a URL, which
+/// offers OCPP 1.6.
 fn request_to(alloc: Global, url: &str) -> Result<Request<()>, ClientFault> {
     let mut request = plain_request(alloc, url)?;
     // This program has no TLS, so it refuses `wss`.

@@ -79,8 +79,8 @@ impl<S: Read + Write + OpenStream + Drop, K: MaskKeys + Drop> OperatorClient<S, 
         unreachable!()
     }
 
-    /// Writes the next message from the central system, and returns the outcome of the operator's
-    /// CALL of this id if the message is its answer.
+    /// Writes to the output the next message that an operator's client receives from the central
+    /// system. Returns the outcome of the operator's CALL of this id if the message is its answer.
     fn take_message<W: Write>(
         &mut self,
         lines: &mut AnswerLines<'_, W>,
@@ -122,7 +122,8 @@ enum AnswerVerdict {
     Refused,
 }
 
-/// Returns the outcome of the operator's CALL of this id, if a message is its answer.
+/// Returns the outcome of the CALL of this id that an operator's client sent, if this message of
+/// the central system is its answer.
 fn verdict_of(
     memory: &mut ReadingMemory,
     text: &str,
@@ -135,8 +136,8 @@ fn verdict_of(
     }
 }
 
-/// Returns the outcome of the operator's CALL of this id, if this frame answers it: a CALLERROR or
-/// the status Rejected is a refusal.
+/// Returns the outcome of the CALL of this id that an operator's client sent, if this frame answers
+/// it. A CALLERROR or the status Rejected is a refusal.
 fn verdict_in(frame: &Frame<'_>, call: &str) -> Option<AnswerVerdict> {
     match frame {
         Frame::Reply { id, payload } => {
@@ -153,7 +154,8 @@ fn verdict_in(frame: &Frame<'_>, call: &str) -> Option<AnswerVerdict> {
     }
 }
 
-/// Returns whether the payload of an answer to an operator's CALL has the status Rejected.
+/// Returns whether the central system's answer to a CALL that an operator's client sent has the
+/// status Rejected.
 fn is_rejected(payload: &Payload<'_>) -> bool {
     match text_field(payload.root(), "status") {
         Field::Value(status) => status == "Rejected",

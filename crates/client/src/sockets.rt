@@ -20,7 +20,7 @@ pub(crate) enum Received {
     Nothing,
 }
 
-/// Reads the next message of the central system from a client's WebSocket.
+/// Reads the next message of the central system from the WebSocket of a client (`call` or `point`).
 pub(crate) fn receive<S: Read + Write + Drop, K: MaskKeys + Drop>(
     socket: &mut WebSocket<S, K>,
 ) -> Result<Received, ClientFault> {
@@ -32,8 +32,8 @@ pub(crate) fn receive<S: Read + Write + Drop, K: MaskKeys + Drop>(
     }
 }
 
-/// Returns what an error of a client's read from its WebSocket means: nothing yet after a timeout,
-/// or a fault.
+/// Returns what an error of a client's read from its WebSocket to the central system means: nothing
+/// yet after a timeout, or a fault.
 fn received_error(error: Error) -> Result<Received, ClientFault> {
     match error {
         Error::Io(error) => {
@@ -49,8 +49,8 @@ fn received_error(error: Error) -> Result<Received, ClientFault> {
     }
 }
 
-/// Returns whether this kind of error of a client's read is a timeout or an interrupted wait.
-/// Stopping and continuing the program interrupts it too.
+/// Returns whether this kind of error of a client's read from the central system is a timeout or an
+/// interrupted wait. Stopping and continuing the program interrupts it too.
 fn is_no_fault(kind: ErrorKind) -> bool {
     matches!(
         kind,
@@ -58,7 +58,7 @@ fn is_no_fault(kind: ErrorKind) -> bool {
     )
 }
 
-/// Sends a message to the central system over a client's WebSocket.
+/// Sends a message to the central system over the WebSocket of a client (`call` or `point`).
 pub(crate) fn send<S: Read + Write + Drop, K: MaskKeys + Drop>(
     alloc: Global,
     socket: &mut WebSocket<S, K>,
@@ -72,8 +72,8 @@ pub(crate) fn send<S: Read + Write + Drop, K: MaskKeys + Drop>(
     }
 }
 
-/// Closes a client's connection, and waits for the central system to close it. Reads at most 1,000
-/// more messages, and waits at most CLOSING_SECONDS for each.
+/// Closes the connection of a client (`call` or `point`), and waits for the central system to close
+/// it. Reads at most 1,000 more messages, and waits at most CLOSING_SECONDS for each.
 pub(crate) fn close<S: Read + Write + OpenStream + Drop, K: MaskKeys + Drop>(
     socket: &mut WebSocket<S, K>,
 ) {

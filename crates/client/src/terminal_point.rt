@@ -47,8 +47,8 @@ impl<S: Read + Write + OpenStream + Drop, K: MaskKeys + Drop, W: Write> Terminal
         Ok(faults)
     }
 
-    /// Does what a line on standard input asks of the simulated charge point. Returns the name of
-    /// its fault, if it has one.
+    /// Does what a line on standard input asks of `point`'s simulated charge point. Returns the
+    /// name of the line's fault, if it has one.
     fn take_line<R: Wait + Clock, M: Moments>(
         &mut self,
         rt: &R,
@@ -68,8 +68,8 @@ impl<S: Read + Write + OpenStream + Drop, K: MaskKeys + Drop, W: Write> Terminal
         }
     }
 
-    /// Makes the simulated point's call of a step, and then the remote starts that came meanwhile.
-    /// Returns the name of the fault, if the step makes no call.
+    /// Makes the call of a step that a line of `point`'s standard input asks for, and then the
+    /// remote starts that came meanwhile. Returns the name of the fault, if the step makes no call.
     fn make_step<R: Wait, M: Moments>(
         &mut self,
         rt: &R,
@@ -86,8 +86,8 @@ impl<S: Read + Write + OpenStream + Drop, K: MaskKeys + Drop, W: Write> Terminal
         Ok(None)
     }
 
-    /// Makes the remote starts that the simulated point has accepted, which are the only steps
-    /// left.
+    /// Sends the StartTransactions of the remote starts that `point`'s simulated point has
+    /// accepted. These are the only steps left.
     fn make_starts<R: Wait, M: Moments>(&mut self, rt: &R, clock: &M) -> Result<(), ClientFault> {
         for _start in rt.forever() {
             if !self.make_call(rt, clock)? {
@@ -97,8 +97,8 @@ impl<S: Read + Write + OpenStream + Drop, K: MaskKeys + Drop, W: Write> Terminal
         unreachable!()
     }
 
-    /// Makes the call of the simulated point's next step, and waits for its reply. Returns whether
-    /// a step makes one.
+    /// Sends the call of the next step of `point`'s simulated point over its connection, and waits
+    /// for the reply. Returns whether a step makes one.
     fn make_call<R: Wait, M: Moments>(&mut self, rt: &R, clock: &M) -> Result<bool, ClientFault> {
         let Ok(call) = self.point.next_call(present(clock)?) else {
             return Err(ClientFault::OutOfMemory);
@@ -116,8 +116,8 @@ impl<S: Read + Write + OpenStream + Drop, K: MaskKeys + Drop, W: Write> Terminal
         Ok(true)
     }
 
-    /// Lets the simulated point answer the messages of this many seconds, and make the remote
-    /// starts among them.
+    /// Lets `point`'s simulated point answer the messages that come over its connection in this
+    /// many seconds, and make the remote starts among them.
     fn pause<R: Wait + Clock, M: Moments>(
         &mut self,
         rt: &R,
@@ -147,7 +147,8 @@ impl<S: Read + Write + OpenStream + Drop, K: MaskKeys + Drop, W: Write> Terminal
         Ok(())
     }
 
-    /// Sets the longest time that the simulated point's read waits for a message.
+    /// Sets the longest time that a read from the connection of `point`'s simulated point waits for
+    /// a message.
     fn wait_at_most(&mut self, time: Option<Duration>) -> Result<(), ClientFault> {
         match self.socket.get_ref().set_read_timeout(time) {
             Ok(()) => Ok(()),
@@ -155,8 +156,8 @@ impl<S: Read + Write + OpenStream + Drop, K: MaskKeys + Drop, W: Write> Terminal
         }
     }
 
-    /// Takes the next message to the simulated point, if one comes within the time of a read, and
-    /// answers it.
+    /// Takes the next message from the connection of `point`'s simulated point, if one comes within
+    /// the time of a read, and answers it.
     fn take_message<M: Moments>(&mut self, clock: &M) -> Result<(), ClientFault> {
         let Received::Text(text) = receive(&mut self.socket)? else {
             return Ok(());
@@ -169,16 +170,16 @@ impl<S: Read + Write + OpenStream + Drop, K: MaskKeys + Drop, W: Write> Terminal
         }
     }
 
-    /// Sends a message of the simulated point to the central system, and writes it as a line of
-    /// output after `sent`.
+    /// Sends a message of `point`'s simulated point to the central system, and writes it as a line
+    /// of output after `sent`.
     fn send(&mut self, text: &str) -> Result<(), ClientFault> {
         send(self.alloc, &mut self.socket, text)?;
         write_text(self.writer, "sent", text)
     }
 }
 
-/// Returns the present time for the calls and answers of the simulated point, or a fault if there
-/// is no clock.
+/// Returns the present time for the calls and answers of `point`'s simulated point, or a fault if
+/// there is no clock.
 fn present<M: Moments>(clock: &M) -> Result<Instant, ClientFault> {
     match clock.now() {
         Some(now) => Ok(now),
@@ -186,7 +187,7 @@ fn present<M: Moments>(clock: &M) -> Result<Instant, ClientFault> {
     }
 }
 
-/// Writes a message of the simulated point as a line of output, after `sent` or `got`.
+/// Writes a message of `point`'s simulated point as a line of output, after `sent` or `got`.
 fn write_text<W: Write>(writer: &mut W, what: &str, text: &str) -> Result<(), ClientFault> {
     match writeln!(writer, "{what} {text}").and_then(|()| writer.flush()) {
         Ok(()) => Ok(()),
@@ -194,7 +195,7 @@ fn write_text<W: Write>(writer: &mut W, what: &str, text: &str) -> Result<(), Cl
     }
 }
 
-/// Writes the fault of a line for the simulated point as `! NUMBER NAME`.
+/// Writes the fault of a line on standard input for `point`'s simulated point as `! NUMBER NAME`.
 fn write_fault<W: Write>(writer: &mut W, number: u64, name: &str) -> Result<(), ClientFault> {
     match writeln!(writer, "! {number} {name}").and_then(|()| writer.flush()) {
         Ok(()) => Ok(()),

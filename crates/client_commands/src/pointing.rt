@@ -32,7 +32,8 @@ pub fn run_point<R: ClientRuntime + Files<File = File> + Input>(
     }
 }
 
-/// Returns the address at which the simulated charge point connects, with its name and key.
+/// Returns the address at which the simulated charge point of the command `point` connects to the
+/// central system, with its name and key.
 fn address_of<R: Files<File = File> + Eprint + AllocGlobal>(
     rt: &R,
     pointing: Pointing<'_>,
@@ -46,7 +47,7 @@ fn address_of<R: Files<File = File> + Eprint + AllocGlobal>(
     Ok(address)
 }
 
-/// Makes the simulated charge point by the site file.
+/// Makes the simulated charge point of the command `point` by the site file.
 fn simulated_point<R: Files<File = File> + Eprint + AllocGlobal>(
     rt: &R,
     pointing: Pointing<'_>,
@@ -55,8 +56,8 @@ fn simulated_point<R: Files<File = File> + Eprint + AllocGlobal>(
     point_of_site(rt.alloc(), &site, pointing.id)
 }
 
-/// Makes the simulated charge point of `point`, with the ceilings of the site's point of this
-/// identity.
+/// Makes the simulated charge point of the command `point`, with the ceilings of the site's point
+/// of this identity.
 fn point_of_site(alloc: Global, site: &Site, id: &str) -> Result<SimPoint, ProgramFault> {
     let Some(place) = site.place_of(id) else {
         return Err(ProgramFault::NoSuchPoint);

@@ -55,7 +55,7 @@ pub fn ask_status<R: AllocGlobal + Eprint + Net<Stream = TcpStream>>(
     reply_in(alloc, answer.as_slice())
 }
 
-/// Reads the URL of a running site's status port, for `status`.
+/// Reads the URL of a running site's status port, for the command `status`.
 fn uri_of(alloc: Global, url: &str) -> Result<Uri, ProgramFault> {
     match Uri::from_bytes(alloc, url.as_bytes()) {
         Ok(uri) => Ok(uri),
@@ -64,8 +64,8 @@ fn uri_of(alloc: Global, url: &str) -> Result<Uri, ProgramFault> {
     }
 }
 
-/// Sends an HTTP request to a running site's status port, and reads its response until the
-/// connection ends.
+/// Sends the HTTP request of the command `status` to a running site's status port, and reads the
+/// response until the connection ends.
 fn exchange<R: AllocGlobal + Net<Stream = TcpStream>>(
     rt: &R,
     address: (&str, u16),
@@ -81,8 +81,8 @@ fn exchange<R: AllocGlobal + Net<Stream = TcpStream>>(
     Ok(answer)
 }
 
-/// Returns the status port's HTTP response in these bytes, for `status`: its code, and the text
-/// after its head.
+/// Returns the status port's HTTP response in these bytes, for the command `status`: its code, and
+/// the text after its head.
 fn reply_in(alloc: Global, bytes: &[u8]) -> Result<StatusReply, ProgramFault> {
     let mut fields = [EMPTY_HEADER_SPAN; MAX_FIELDS];
     let Ok(Status::Complete(head)) = parse_response(bytes, &mut fields) else {

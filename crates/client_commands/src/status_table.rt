@@ -58,7 +58,7 @@ pub fn status_table(alloc: Global, state: &str) -> Result<StatusTable, ProgramFa
     })
 }
 
-/// Appends the table of charge points that `status` prints, and their warnings.
+/// Appends the table of charge points that the command `status` prints, and their warnings.
 fn push_points(page: &mut Page, points: &[Value<'_>]) {
     let mut table = Table::new(page.allocator(), &HEADINGS);
     for point in points {
@@ -72,7 +72,7 @@ fn push_points(page: &mut Page, points: &[Value<'_>]) {
 }
 
 /// Returns whether a charge point is connected, and isn't known to have each profile that is meant
-/// for it, so that `status` doesn't say that all is well.
+/// for it. Then the command `status` doesn't say that all is well.
 fn lacks_profiles(point: &Value<'_>) -> bool {
     text_in(point, "connectedSince").is_some() && number_in(point, "unheld") != Some("0")
 }

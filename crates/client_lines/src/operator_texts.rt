@@ -63,8 +63,8 @@ fn payload_of(alloc: Global, connector: &str, seconds: &str) -> Result<String, A
     format!(in alloc; "{{\"connectorId\":{connector},\"duration\":{seconds}}}")
 }
 
-/// Returns a whole number of an option of `central call` as JSON writes it in an operator's call.
-/// The command line also accepts `+1` and `007`.
+/// Returns a whole number of an option of `central call`, as JSON writes it in the call made from
+/// that option. The command line also accepts `+1` and `007`.
 fn json_number(number: &str) -> &str {
     match number.trim_start_matches('+').trim_start_matches('0') {
         "" => "0",

@@ -36,8 +36,8 @@ pub fn point_line(alloc: Global, text: &str) -> Result<Option<PointLine>, AllocE
     }
 }
 
-/// Reads the words after `start` in a line for a simulated point: the connector, idTag and meter
-/// value of its StartTransaction.
+/// Reads the words after `start` in a line of `point`'s standard input: the connector, idTag and
+/// meter value of the simulated point's StartTransaction.
 fn start_step(
     alloc: Global,
     connector: Option<&str>,
@@ -57,8 +57,8 @@ fn start_step(
     })))
 }
 
-/// Reads the seconds after `pause` in a line for a simulated point. Returns `None` unless they are
-/// a number up to MAX_PAUSE.
+/// Reads the seconds after `pause` in a line of `point`'s standard input. Returns `None` unless
+/// they are a number up to MAX_PAUSE.
 fn pause(seconds: Option<&str>) -> Option<PointLine> {
     match number(seconds) {
         Some(seconds) if seconds <= MAX_PAUSE => Some(PointLine::Pause(seconds)),
@@ -66,8 +66,8 @@ fn pause(seconds: Option<&str>) -> Option<PointLine> {
     }
 }
 
-/// Reads a number in a line for a simulated point. Returns `None` if the word is missing or isn't
-/// one.
+/// Reads a number in a line of `point`'s standard input. Returns `None` if the word is missing or
+/// isn't one.
 fn number<N: FromStr>(word: Option<&str>) -> Option<N>
 where
     N::Err: Drop,

@@ -27,8 +27,8 @@ pub fn short_work(job: &Job) -> Option<u64>
     }
 }
 
-/// Returns the work of compiling a request for a composite schedule of a point's book, if that
-/// makes a short job for the workers.
+/// Returns the work of a job that a session gives the workers: to compile a request for a composite
+/// schedule of a point's book. Returns `None` unless the job is short.
 fn short_work_of(book: &PointBook, ask: &Ask) -> Option<u64>
     ensures work { IfSome result (λ work. work ≡ work_of (state_of book.now) ask.now) }
     ensures short { IfSome result (λ work. work_of (state_of book.now) ask.now ≤ most_of_short) }
@@ -37,9 +37,9 @@ fn short_work_of(book: &PointBook, ask: &Ask) -> Option<u64>
     work_within(&book.view(), ask, MOST_OF_SHORT)
 }
 
-/// Returns the work of compiling a request for a composite schedule if it is at most `most`. The
-/// work for each installed profile's row is taken from what is left of `most`, so that no sum grows
-/// large.
+/// Returns the work of a job for the workers, a request for a composite schedule, if it is at most
+/// `most`. The work for each installed profile is taken from what is left of `most`, so that no sum
+/// grows large.
 fn work_within(view: &View<'_>, ask: &Ask, most: u64) -> Option<u64>
     requires few { length view.now.starts.now < 2 ^ 32 }
     ensures work { IfSome result (λ work. work ≡ work_of (point_state view.now) ask.now) }
@@ -59,8 +59,8 @@ fn work_within(view: &View<'_>, ask: &Ask, most: u64) -> Option<u64>
     Some(most - left)
 }
 
-/// Counts a charge point's connectors with an active transaction, to find the work of compiling its
-/// schedule.
+/// Counts a charge point's connectors with an active transaction, to find the work of a worker's
+/// job.
 fn active_count(starts: &[Option<Instant>]) -> u32
     requires few { length starts.now < 2 ^ 32 }
     ensures { result ≡ active_count starts.now }
@@ -74,8 +74,8 @@ fn active_count(starts: &[Option<Instant>]) -> u32
     count
 }
 
-/// Returns how many limits of a composite schedule may read a charging profile's row at a
-/// connector, if `active` connectors have a transaction.
+/// Returns how many limits of a composite schedule may read a profile installed at a connector, to
+/// find the work of a worker's job. A transaction is active at `active` connectors.
 fn looks_at(active: u32, asked: u32, connector: u32) -> u64
     ensures looks { result ≡ looks_at active asked connector }
     ensures few { result ≤ 4_294_967_296 }
@@ -90,8 +90,8 @@ fn looks_at(active: u32, asked: u32, connector: u32) -> u64
     }
 }
 
-/// Returns how often the limit of a charging profile's row can change within `duration` seconds, at
-/// most, to find the work of a worker's job.
+/// Returns how often the limit of an installed charging profile can change within `duration`
+/// seconds, at most, to find the work of a worker's job.
 fn changes_of(row: &Row, duration: u32) -> u64
     requires { duration ≤ max_duration }
     ensures changes { result ≡ changes_of row.now duration }

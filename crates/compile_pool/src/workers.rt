@@ -30,8 +30,8 @@ fn compile_job(alloc: Global, job: Job) -> (u64, Compiled)
     (number, Compiled::make(alloc, book, ask))
 }
 
-/// Posts the compiled answer to a request for a composite schedule, or drops it if the book refuses
-/// it. Then its request was answered or handed out meanwhile.
+/// Posts to the book a worker's compiled answer to a request for a composite schedule, or drops it
+/// if the book refuses it. Then the request was answered or handed out meanwhile.
 fn post_or_drop<C: Ledger, A: Ledger, N: ListName>(
     book: &mut Book<C, A, N>,
     number: u64,

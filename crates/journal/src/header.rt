@@ -96,7 +96,7 @@ fn digest_in(line: &str, format: Format) -> Option<[u8; 32]>
     read_digest(digits)
 }
 
-/// Returns the reason why the first line of a file isn't that of a journal.
+/// Returns why a file's first line isn't that of a journal in a known format with a digest.
 fn fault_of(line: &str) -> HeaderFault {
     let Some(rest) = line.strip_prefix("central journal ") else {
         return HeaderFault::NotAJournal;

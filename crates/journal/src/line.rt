@@ -100,7 +100,7 @@ impl<'a> Model for Line<'a> {
 }
 
 impl Noted<'_> {
-    /// Returns the number in the event's line of the journal that its step draws, if it draws one.
+    /// Returns the number in a journal's line that the step of its event drew, if it draws one.
     pub(crate) fn number(&self) -> Option<u64>
         ensures { result ≡ number_written (noted_state self.now) }
     {
@@ -122,7 +122,7 @@ pub fn push_line(text: &mut String, line: &Line<'_>) -> Result<(), AllocError>
     push_behind_number(text, line)
 }
 
-/// Appends to a line of the journal the number that its step draws, if it draws one.
+/// Appends to the text of a journal's line the number that its step drew, if it drew one.
 fn push_drawn(text: &mut String, number: Option<u64>) -> Result<(), AllocError>
     ensures { Appends result (string_bytes text.old) (string_bytes text.new) (drawn_text number) }
 {
@@ -132,8 +132,8 @@ fn push_drawn(text: &mut String, number: Option<u64>) -> Result<(), AllocError>
     }
 }
 
-/// Appends a line of the journal up to the number that its step draws. If the step draws none, only
-/// the line feed is missing.
+/// Appends the text of a journal's line up to the number that its step draws. If the step draws
+/// none, only the line feed is missing.
 pub(crate) fn push_before_number(text: &mut String, line: &Line<'_>) -> Result<(), AllocError>
     ensures { Appends result (string_bytes text.old) (string_bytes text.new)
         (before_number line.now) }
@@ -147,7 +147,7 @@ pub(crate) fn push_before_number(text: &mut String, line: &Line<'_>) -> Result<(
     push_noted_before(text, &line.noted)
 }
 
-/// Appends the second word of the event's line in the journal, such as `operator:ann` or `sent`.
+/// Appends the second word of a journal's line by its event, such as `operator:ann` or `sent`.
 fn push_word(text: &mut String, noted: &Noted<'_>) -> Result<(), AllocError>
     ensures { Appends result (string_bytes text.old) (string_bytes text.new)
         (word_of (noted_state noted.now)) }
@@ -177,8 +177,8 @@ fn push_sender(text: &mut String, sender: Sender<'_>) -> Result<(), AllocError>
     }
 }
 
-/// Appends the part of a journal's line between the point and the drawn number, or up to the line's
-/// end.
+/// Appends the part of a journal's line between the point's identity and the drawn number, or up to
+/// the line's end.
 fn push_noted_before(text: &mut String, noted: &Noted<'_>) -> Result<(), AllocError>
     ensures { Appends result (string_bytes text.old) (string_bytes text.new)
         (noted_before (noted_state noted.now)) }

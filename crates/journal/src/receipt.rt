@@ -29,8 +29,8 @@ impl<N: ListName> Model for Receipt<N> {
 }
 
 impl<N: ListName> Receipt<N> {
-    /// Makes the receipt of a journal's file whose last sync to the disk was with these states of
-    /// the book.
+    /// Makes the receipt that a journal gives to a session: its lines for these states of the book
+    /// are synced to disk.
     pub(crate) fn new(recorded: RecordedStates<N>, syncs: KnownSyncs<N>) -> Receipt<N>
         requires { HasSync syncs.entries recorded }
         ensures { result ≡ receipt_of recorded (Some syncs.entries) }

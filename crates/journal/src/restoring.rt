@@ -133,7 +133,8 @@ pub(crate) fn is_change(step: &Step) -> bool
     }
 }
 
-/// Makes a change on the book again from a line of the journal. It has to draw this number.
+/// Restores the change that a line of the journal has: makes its step on the book again. The step
+/// has to draw this number.
 fn make_change<C: Ledger, A: Ledger, N: ListName>(
     book: &mut Book<C, A, N>,
     pass: &mut Pass<C, A>,

@@ -25,8 +25,9 @@ const LONGEST_FILE: u64 = 1_048_576;
 const MESSAGE: &str =
     r#"[2,"earlier-boot","BootNotification",{"chargePointVendor":"","chargePointModel":""}]"#;
 
-/// Records the boots in the file of this path, if there is one, and appends their lines for the
-/// journal. Installs since such a boot count as before it: the file doesn't say when they came.
+/// Records, at the start of `run`, the boots in the file that earlier versions kept beside the
+/// journal. Appends their lines for the journal. Installs since such a boot count as before it: the
+/// file doesn't say when they came.
 pub(crate) fn note_earlier_boots<
     C: Ledger,
     A: Ledger,
@@ -51,7 +52,8 @@ pub(crate) fn note_earlier_boots<
     Ok(())
 }
 
-/// Removes the file of boots of this path, if there is one: the journal has them now.
+/// Removes, at the start of `run`, the file of boots that earlier versions kept beside the journal,
+/// if any: the journal has them now.
 pub(crate) fn remove_earlier_boots<R: Files<File = File> + Eprint>(rt: &R, path: &str) {
     match fs::remove_file(rt, path) {
         Err(error) if error.kind() != ErrorKind::NotFound => {
@@ -61,7 +63,8 @@ pub(crate) fn remove_earlier_boots<R: Files<File = File> + Eprint>(rt: &R, path:
     }
 }
 
-/// Reads the bytes of the file of boots beside a site's journal, at most LONGEST_FILE.
+/// Reads the bytes of the file of boots that earlier versions kept beside the journal, at most
+/// LONGEST_FILE.
 fn read_file<R: Files<File = File> + AllocGlobal>(rt: &R, path: &str) -> io::Result<Vec<u8>> {
     let file = File::open(rt, path)?;
     let mut bytes = Vec::new(rt.alloc());
@@ -69,8 +72,8 @@ fn read_file<R: Files<File = File> + AllocGlobal>(rt: &R, path: &str) -> io::Res
     Ok(bytes)
 }
 
-/// Reads the moment and the point's identity in a line of the file of boots. The number behind them
-/// isn't used.
+/// Reads the time and the point's identity in a line of the file of boots that earlier versions
+/// kept beside the journal. The number behind them isn't used.
 fn boot_in(line: &[u8]) -> Option<(Instant, &str)> {
     let text = std::str::from_utf8(line).ok()?;
     let (moment, rest) = text.split_once(' ')?;
@@ -79,8 +82,8 @@ fn boot_in(line: &[u8]) -> Option<(Instant, &str)> {
     Some((moment, point))
 }
 
-/// Records a point's boot from the file of boots, and appends its line for the journal. A point
-/// that the site doesn't have is left out.
+/// Records, at the start of `run`, a point's boot from the file of boots beside the journal, and
+/// appends its line for the journal. A point that the site doesn't have is left out.
 fn note_boot<C: Ledger, A: Ledger, N: ListName>(
     alloc: Global,
     book: &mut Book<C, A, N>,

@@ -161,9 +161,9 @@ impl<R: Wait + Clock + Eprint + AllocGlobal + Drop, N: ListName> JournalFile<R, 
         self.keep_with(&mut self.written.lock(&self.rt))
     }
 
-    /// Waits until all lines of the journal that lead to these states are on disk. One session
-    /// writes and syncs for all that wait. When it is done, the sessions whose entries it wrote
-    /// continue, and one of the others writes.
+    /// Waits until the journal's file has on disk all lines that lead to these states of the book.
+    /// One session writes and syncs for all that wait. When it is done, the sessions whose entries
+    /// it wrote continue, and one of the others writes.
     fn sync_up_to(&self, recorded: &RecordedStates<N>) -> Result<Receipt<N>, JournalFault>
         ensures { IfOk result (λ receipt. Covers N.is_recorded receipt recorded.now) }
     {
@@ -217,8 +217,8 @@ impl<R: Wait + Clock + Eprint + AllocGlobal + Drop, N: ListName> JournalFile<R, 
         }
     }
 
-    /// Writes to the journal's file, and syncs, everything noted by now, for all that wait. Sets
-    /// the new state of the journal before another thread can get the file.
+    /// Writes to the journal's file, and syncs, everything noted by now, for all sessions that
+    /// wait. Sets the new state of the journal before another thread can get the file.
     fn keep_with(&self, written: &mut WrittenLines<N>) -> Result<(), JournalFault> {
         match self.try_to_keep(written) {
             Ok(SyncOutcome::All) => Ok(()),
@@ -234,8 +234,8 @@ impl<R: Wait + Clock + Eprint + AllocGlobal + Drop, N: ListName> JournalFile<R, 
         }
     }
 
-    /// Sets the state of the journal after a failed attempt to write and sync its lines. Returns
-    /// the fault of the attempt.
+    /// Sets the state of `run`'s journal after a failed attempt to write its lines to its file and
+    /// sync it. Returns the fault of the attempt.
     fn set_state_after(&self, error: SyncError) -> JournalFault {
         match error {
             SyncError::OutOfMemory => return JournalFault::OutOfMemory,
@@ -249,8 +249,8 @@ impl<R: Wait + Clock + Eprint + AllocGlobal + Drop, N: ListName> JournalFile<R, 
         JournalFault::Unwritable
     }
 
-    /// Writes the journal's entries noted by now to its file, and syncs it. Returns whether the
-    /// device became full or has room again.
+    /// Writes the entries that sessions noted by now to the journal's file, and syncs it. Returns
+    /// whether the device became full or has room again.
     fn try_to_keep(&self, written: &mut WrittenLines<N>) -> Result<SyncOutcome, SyncError> {
         // Entries whose lines failed for lack of memory come first.
         written.steps.add_lines(FREE_ENTRIES)?;
@@ -277,8 +277,8 @@ impl<R: Wait + Clock + Eprint + AllocGlobal + Drop, N: ListName> JournalFile<R, 
         Ok(kept)
     }
 
-    /// Returns the time that a sync of the journal has taken since this moment, or zero if the
-    /// clock can't be read.
+    /// Returns the time that a sync of the journal's file has taken since this moment, or zero if
+    /// the clock can't be read.
     fn time_since(&self, moment: Option<Instant>) -> Duration {
         let (Some(moment), Ok(now)) = (moment, Instant::now(&self.rt)) else {
             return Duration::ZERO;
@@ -286,8 +286,8 @@ impl<R: Wait + Clock + Eprint + AllocGlobal + Drop, N: ListName> JournalFile<R, 
         now.checked_duration_since(moment).unwrap_or_default()
     }
 
-    /// Takes the journal's entries noted by now, for their lines to be written. Those taken before
-    /// already have their lines.
+    /// Takes the entries that sessions noted by now, for their lines to be written to the journal's
+    /// file. Those taken before already have their lines.
     fn take_noted(&self, written: &mut WrittenLines<N>) -> Result<(), SyncError> {
         let mut noted = self.noted.lock(&self.rt);
         if written.steps.take(&mut noted.steps) {
@@ -297,14 +297,15 @@ impl<R: Wait + Clock + Eprint + AllocGlobal + Drop, N: ListName> JournalFile<R, 
         }
     }
 
-    /// Sets the state of the journal, and reports the reason to standard error if the state is new.
+    /// Sets the state of `run`'s journal file, and reports the reason on standard error if the
+    /// state is new.
     fn set_state<W: Display>(&self, state: JournalState, why: &W) {
         self.set_state_locked(&mut self.noted.lock(&self.rt), state, why);
     }
 
-    /// Sets the state of the journal, with `noted` already locked, and reports the reason if the
-    /// state is new. A broken journal stays broken. The reason is among the lines to print before
-    /// `until_broken` wakes.
+    /// Sets the state of `run`'s journal file, with `noted` already locked, and reports the reason
+    /// if the state is new. A broken journal stays broken. The reason is among the lines to print
+    /// before `until_broken` wakes.
     fn set_state_locked<W: Display>(
         &self,
         noted: &mut NotedEntries<N>,
@@ -323,7 +324,7 @@ impl<R: Wait + Clock + Eprint + AllocGlobal + Drop, N: ListName> JournalFile<R, 
         }
     }
 
-    /// Builds a timestamped line about the journal's file, for standard error.
+    /// Builds a line with the time about `run`'s journal file, for standard error.
     fn line_of<W: Display>(&self, what: &W) -> Result<String, AllocError> {
         let path = self.path.as_str();
         let moment = match (SystemClock { rt: &self.rt }).now() {
@@ -342,14 +343,15 @@ impl<R: Wait + Clock + Eprint + AllocGlobal + Drop, N: ListName> JournalFile<R, 
         self.said.write_all(&self.rt);
     }
 
-    /// Writes the lines about the journal that wait by now to standard error.
+    /// Writes the lines about `run`'s journal file that wait by now to standard error.
     pub(crate) fn write_log_lines(&self) {
         self.said.write_waiting(&self.rt);
     }
 }
 
 impl<N: ListName> NotedEntries<N> {
-    /// Returns whether all lines of the journal that lead to these states are on disk.
+    /// Returns whether the journal's file has on disk all lines that lead to these states of the
+    /// book.
     fn has_kept(&self, recorded: &RecordedStates<N>) -> bool {
         match &self.receipt {
             Some(receipt) => receipt.covers(recorded),
@@ -357,8 +359,8 @@ impl<N: ListName> NotedEntries<N> {
         }
     }
 
-    /// Returns a receipt that covers these states, if the lines of the journal that lead to them
-    /// are on disk.
+    /// Returns a receipt that covers these states of the book, if the journal's file has on disk
+    /// the lines that lead to them.
     fn receipt_for(&self, recorded: &RecordedStates<N>) -> Option<Receipt<N>>
         ensures { IfSome result (λ receipt. Covers N.is_recorded receipt recorded.now) }
     {
@@ -369,8 +371,8 @@ impl<N: ListName> NotedEntries<N> {
         None
     }
 
-    /// Counts, for the status port, a write and sync of the journal that took this time and left
-    /// this many bytes on disk.
+    /// Counts, for the status port, a write and sync of the journal's file that took this time and
+    /// left this many bytes on disk.
     fn count_sync(&mut self, bytes: u64, time: Duration) {
         self.bytes = bytes;
         self.syncs = self.syncs.saturating_add(1);
@@ -384,8 +386,8 @@ impl<N: ListName> WrittenLines<N> {
         self.steps.file().synced_bytes()
     }
 
-    /// Writes the journal's lines that aren't in its file, and syncs it. If the device is full,
-    /// gives up the reserved disk space for them.
+    /// Writes the lines that the journal's file lacks, and syncs it. If the device is full, gives
+    /// up the disk space reserved for them.
     fn write_and_sync(&mut self) -> Result<(Receipt<N>, SyncOutcome), SyncError> {
         match self.steps.write_and_sync() {
             Ok(receipt) => Ok((receipt, SyncOutcome::All)),

@@ -165,8 +165,8 @@ impl JournalLines {
         Ok(())
     }
 
-    /// Takes the next lines of the journal, up to one that names a site file. Returns whether there
-    /// are any.
+    /// Takes the next lines from the part of a journal's file that was read, up to one that names a
+    /// site file. Returns whether there are any.
     fn take_steps(&mut self) -> Result<bool, AllocError> {
         let ahead = mem::replace(&mut self.ahead, Vec::new(self.alloc));
         let (steps, rest) = steps_before_site(ahead.as_slice());
@@ -175,7 +175,7 @@ impl JournalLines {
         Ok(!steps.is_empty())
     }
 
-    /// Takes the next line of the journal, which has to name a site file by its digest.
+    /// Takes the next line of a journal's file, which has to name a site file by its digest.
     fn take_site(&mut self) -> Result<(), FolderFault> {
         let ahead = mem::replace(&mut self.ahead, Vec::new(self.alloc));
         let Some((line, rest)) = split_line(ahead.as_slice()) else {
@@ -197,7 +197,7 @@ impl JournalLines {
         Ok(())
     }
 
-    /// Returns the fault of the journal's next line, which doesn't name a site file.
+    /// Returns the fault that the next line of a journal's file doesn't name a site file.
     fn no_site_line(&self, fault: HeaderFault) -> FolderFault {
         FolderFault::Header {
             line: self.count.saturating_add(1),
@@ -213,8 +213,8 @@ fn copied(alloc: Global, bytes: &[u8]) -> Result<Vec<u8>, AllocError> {
     Ok(copy)
 }
 
-/// Returns the next lines of the journal, at most MOST_LINES, before one that names a site file,
-/// and the rest.
+/// Splits a part of a journal's file: the next lines, at most MOST_LINES, before one that names a
+/// site file, and the rest.
 fn steps_before_site(whole: &[u8]) -> (&[u8], &[u8]) {
     let mut rest = whole;
     for _line in 0..MOST_LINES {
@@ -227,7 +227,7 @@ fn steps_before_site(whole: &[u8]) -> (&[u8], &[u8]) {
     (whole.split_at(steps).0, rest)
 }
 
-/// Counts the lines in a part of the journal that has only whole lines.
+/// Counts the lines in a part of a journal's file that has only whole lines.
 fn count_lines(text: &[u8]) -> u64 {
     let mut count = 0u64;
     for byte in text {

@@ -99,8 +99,8 @@ struct ScriptReading {
 }
 
 impl ScriptReading {
-    /// Returns the reading of a journal as a script of messages, as `replay` reads it, before the
-    /// journal's first line.
+    /// Returns the reading of a journal's file as a script, before its first line. It is for
+    /// `central journal`, `replay` and `check --trace`.
     fn new(alloc: Global) -> ScriptReading {
         ScriptReading {
             alloc,
@@ -109,8 +109,8 @@ impl ScriptReading {
         }
     }
 
-    /// Returns the lines of a script of messages, as `replay` reads it, for the next lines of the
-    /// journal, or None after the last one.
+    /// Returns the script lines for the next lines of a journal's file, or None after the last one.
+    /// They are for `central journal`, `replay` and `check --trace`.
     fn next<R: Eprint>(
         &mut self,
         rt: &R,
@@ -127,7 +127,8 @@ impl ScriptReading {
     }
 }
 
-/// Appends to a script of messages, as `replay` reads it, its lines for these lines of a journal.
+/// Appends to the script made of a journal's file the script lines for these lines of the journal.
+/// It is for `central journal`, `replay` and `check --trace`.
 fn push_lines(
     script: &mut String,
     lines: JournalPart<'_>,
@@ -148,8 +149,8 @@ fn push_lines(
     Ok(())
 }
 
-/// Appends to a script of messages, as `replay` reads it, the line for a line of a journal, if
-/// there is one.
+/// Appends to the script made of a journal's file the script line for this line of the journal, if
+/// there is one. It is for `central journal`, `replay` and `check --trace`.
 fn push_line(
     script: &mut String,
     line: &Line<'_>,
@@ -205,8 +206,8 @@ impl ScriptLines {
         Ok(Some((side, frame)))
     }
 
-    /// Returns whether this point sent the message of the last line in a journal's script, which
-    /// `replay` can read.
+    /// Returns whether this point sent the last message in the script made of a journal's file.
+    /// Then the script needs no message before a call.
     fn is_from(&self, point: &str) -> bool {
         match &self.sender {
             Some(sender) => sender.as_str() == point,
@@ -215,8 +216,8 @@ impl ScriptLines {
     }
 }
 
-/// Appends a message of the journal as a line of a script, as `replay` reads it. A message that is
-/// too long for a script line becomes `[]`.
+/// Appends a message of the journal as a line to the script made of its file, as `replay` reads it.
+/// A message that is too long for a script line becomes `[]`.
 fn push_message(
     script: &mut String,
     line: &Line<'_>,

@@ -29,7 +29,7 @@ struct UnwrittenLines {
 }
 
 impl LogLines {
-    /// Returns an empty list of lines about the journal, for standard error.
+    /// Returns an empty list of lines about `run`'s journal file, for standard error.
     pub(crate) fn new(alloc: Global) -> LogLines {
         LogLines {
             alloc,
@@ -41,8 +41,8 @@ impl LogLines {
         }
     }
 
-    /// Adds a line about the journal to those that wait for standard error, unless too many wait or
-    /// memory runs out.
+    /// Adds a line about `run`'s journal file to those that wait for standard error, unless too
+    /// many wait or memory runs out.
     pub(crate) fn add<R: Wait>(&self, rt: &R, line: String) {
         let mut waiting = self.waiting.lock(rt);
         if waiting.lines.len() < MOST_LINES {
@@ -52,7 +52,7 @@ impl LogLines {
         self.changed.notify_all();
     }
 
-    /// Writes the lines about the journal to standard error, forever.
+    /// Writes the lines about `run`'s journal file to standard error, forever.
     pub(crate) fn write_all<R: Wait + Eprint>(&self, rt: &R) {
         for _round in rt.forever() {
             let waiting = self.waiting.lock(rt);
@@ -64,7 +64,8 @@ impl LogLines {
         }
     }
 
-    /// Writes the waiting lines about the journal to standard error, with no lock held meanwhile.
+    /// Writes the waiting lines about `run`'s journal file to standard error, with no lock held
+    /// meanwhile.
     pub(crate) fn write_waiting<R: Wait + Eprint>(&self, rt: &R) {
         let mut waiting = self.waiting.lock(rt);
         let lines = mem::replace(&mut waiting.lines, Vec::new(self.alloc));
@@ -79,7 +80,7 @@ impl LogLines {
         self.changed.notify_all();
     }
 
-    /// Waits until all lines about the journal are written to standard error, for at most
+    /// Waits until all lines about `run`'s journal file are written to standard error, for at most
     /// LONGEST_WAIT seconds.
     pub(crate) fn settle<R: Wait + Clock>(&self, rt: &R) {
         let waiting = self.waiting.lock(rt);

@@ -54,7 +54,7 @@ pub fn open_journal<R: Files<File = File> + Eprint + AllocGlobal>(
     })
 }
 
-/// Locks a site's journal at this path for this process alone.
+/// Locks the journal file at this path for this process of `run` alone.
 fn lock_journal<R: Eprint>(rt: &R, file: &File, path: &str) -> Result<(), FolderFault> {
     // The kernel releases this lock when the process ends, so a killed one leaves none behind.
     match file.try_lock() {
@@ -64,8 +64,8 @@ fn lock_journal<R: Eprint>(rt: &R, file: &File, path: &str) -> Result<(), Folder
     }
 }
 
-/// Creates the folder of a site's journal if needed. Syncs the one above it, so that a power cut
-/// can't lose the new one.
+/// Creates the folder for `run`'s journal file if needed. Syncs the folder above it, so that a
+/// power cut can't lose the new one.
 fn make_folder<R: Files<File = File> + Eprint + AllocGlobal>(
     rt: &R,
     folder: &str,
@@ -91,7 +91,7 @@ pub fn open_to_read<R: Files<File = File> + Eprint + AllocGlobal>(
     Ok(NamedFile { file, path })
 }
 
-/// Returns the path of the journal in the folder of a site.
+/// Returns the path of the journal file in the folder of a site.
 fn journal_path(alloc: Global, folder: &str) -> Result<String, AllocError> {
     path_in(alloc, folder, "journal")
 }
@@ -106,7 +106,7 @@ pub fn path_in(alloc: Global, folder: &str, name: &str) -> Result<String, AllocE
     Ok(path)
 }
 
-/// Syncs a folder, so that a power cut can't lose the entry of a new journal or folder in it.
+/// Syncs a folder, so that a power cut can't lose the entry of a new journal file or folder in it.
 fn sync_folder<R: Files<File = File>>(rt: &R, folder: &str) -> io::Result<()> {
     File::open(rt, folder)?.sync_all()
 }

@@ -44,8 +44,8 @@ impl Rejections {
         }
     }
 
-    /// Returns whether a line of the journal is a point's reply that doesn't accept the call it
-    /// confirms.
+    /// Returns whether a line of the journal, read at the start of `run`, is a point's reply that
+    /// doesn't accept the call it confirms.
     fn rejects(&mut self, line: &Line<'_>) -> Result<bool, AllocError> {
         let Some(frame) = reply_in(line) else {
             return Ok(false);
@@ -65,8 +65,8 @@ impl Rejections {
         }
     }
 
-    /// Records the call that a point rejected by the reply in a line of the journal, given the
-    /// state of the site before it.
+    /// Records, at the start of `run`, the call that a point rejected by the reply in a line of the
+    /// journal. The state is the one before the line.
     fn take_reply(&mut self, machine: &Machine, line: &Line<'_>) -> Result<(), AllocError> {
         let (Some(frame), Some(place), Some(outbox)) = (
             reply_in(line),
@@ -92,7 +92,8 @@ impl Rejections {
     }
 }
 
-/// Returns the reply by which a point confirmed its call, if a line of the journal has one.
+/// Returns the reply by which a point confirmed its call, if a line of the journal has one. The
+/// start of `run` finds rejected calls by it.
 fn reply_in<'a>(line: &Line<'a>) -> Option<&'a str> {
     match line.noted {
         Noted::Reply { frame, .. } => Some(frame),
@@ -100,8 +101,8 @@ fn reply_in<'a>(line: &Line<'a>) -> Option<&'a str> {
     }
 }
 
-/// Returns the action of the first call in a point's outbox, which the point's next reply in the
-/// journal confirms.
+/// Returns the action of the first call in a point's outbox, which the next reply in the journal
+/// confirms. The start of `run` records it for a rejected call.
 fn first_action(alloc: Global, outbox: &Outbox) -> Result<Option<ActionKind>, AllocError> {
     match outbox.bodies(alloc)?.into_iter().next() {
         Some(body) => Ok(Some(body.kind())),
@@ -109,8 +110,8 @@ fn first_action(alloc: Global, outbox: &Outbox) -> Result<Option<ActionKind>, Al
     }
 }
 
-/// Returns whether a rejection with this reason leaves nothing of the call undone, so that a
-/// restore from the journal doesn't count it.
+/// Returns whether a rejection with this reason leaves nothing of the call undone. Then the start
+/// of `run`, which restores from the journal, doesn't count it.
 fn is_done(action: Option<ActionKind>, reason: &str) -> bool {
     match (action, ReplyStatus::named(reason)) {
         (Some(action), Some(status)) => status.is_done(action),

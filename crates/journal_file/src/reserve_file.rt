@@ -64,8 +64,8 @@ impl ReserveFile {
     }
 }
 
-/// Opens the file of this name that reserves disk space for the journal, creates it if needed, and
-/// fills it with zeros.
+/// Opens the file of this name that reserves disk space for `run`'s journal file, creates it if
+/// needed, and fills it with zeros.
 fn make_filled<R: Files<File = File>>(rt: &R, path: &str) -> io::Result<File> {
     let mut options = OpenOptions::new();
     let mut file = options
@@ -77,8 +77,8 @@ fn make_filled<R: Files<File = File>>(rt: &R, path: &str) -> io::Result<File> {
     Ok(file)
 }
 
-/// Fills the journal's reserve file with zeros, so that the device allocates its space. If there is
-/// too little, empties the file: a part is of no use.
+/// Fills the file that reserves disk space for `run`'s journal file with zeros, so that the device
+/// allocates its space. If there is too little, empties the file: a part is of no use.
 fn fill(file: &mut File) -> io::Result<()> {
     let filled = write_zeros(file);
     if filled.is_err() {
@@ -87,7 +87,8 @@ fn fill(file: &mut File) -> io::Result<()> {
     filled
 }
 
-/// Writes the zeros that reserve disk space for the journal to its reserve file, and syncs it.
+/// Writes the zeros that reserve disk space for `run`'s journal file to a file beside it, and syncs
+/// that.
 fn write_zeros(file: &mut File) -> io::Result<()> {
     // Extending the file with `set_len` would allocate no blocks.
     file.seek(SeekFrom::Start(0))?;

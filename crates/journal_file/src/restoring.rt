@@ -88,10 +88,10 @@ pub fn restore_shared<
     }
 }
 
-/// Restores a site's book from its journal, each step with the number it drew, and takes the links
-/// from all points. A journal that is new, of an earlier format or of another site file gets a line
-/// that names this one. A torn last line is cut: nothing in it was answered. Returns the journal,
-/// and the lines to add to it.
+/// Restores a site's book from its journal file at the start of `run`, each step with the number it
+/// drew, and takes the links from all points. A journal that is new, of an earlier format or of
+/// another site file gets a line that names this one. A torn last line is cut: nothing in it was
+/// answered. Returns the journal, and the lines to add to it.
 fn restore_book<
     C: Ledger,
     A: Ledger,
@@ -125,8 +125,8 @@ fn restore_book<
     }
 }
 
-/// Restores a site's book from the lines of its journal. If that takes long, prints how many are
-/// read.
+/// Restores a site's book from the lines of its journal file at the start of `run`. If that takes
+/// long, prints how many are read.
 fn restore_lines<C: Ledger, A: Ledger, R: AllocGlobal + Eprint + Clock, N: ListName>(
     rt: &R,
     file: &mut NamedFile,
@@ -146,9 +146,9 @@ fn restore_lines<C: Ledger, A: Ledger, R: AllocGlobal + Eprint + Clock, N: ListN
     Ok(())
 }
 
-/// Restores a site's book from these lines of its journal, and takes in the calls that points
-/// rejected. Before the reply that rejects a call is restored, the call is the first in its point's
-/// outbox.
+/// Restores a site's book from these lines of its journal file at the start of `run`, and takes in
+/// the calls that points rejected. Before the reply that rejects a call is restored, the call is
+/// the first in its point's outbox.
 fn restore_part<C: Ledger, A: Ledger, N: ListName>(
     alloc: Global,
     lines: JournalPart<'_>,
@@ -177,7 +177,8 @@ fn restore_part<C: Ledger, A: Ledger, N: ListName>(
     restore_from(alloc, first, left, book, pass)
 }
 
-/// Restores a site's book from these lines of its journal, the first of which has this number.
+/// Restores a site's book from these lines of its journal file at the start of `run`. The first of
+/// them has this number.
 fn restore_from<C: Ledger, A: Ledger, N: ListName>(
     alloc: Global,
     first: u64,
@@ -216,8 +217,8 @@ pub fn say_other_site<R: Eprint>(
     }
 }
 
-/// Returns the figures of a site that is restored from its journal, whose points rejected these
-/// calls.
+/// Returns the figures that `run` prints of the site that it has restored from its journal file,
+/// whose points rejected these calls.
 fn count_resumed(machine: &Machine, rejected: Vec<RejectedCalls>) -> Resumed {
     let site = machine.site();
     let mut resumed = Resumed {
@@ -236,8 +237,8 @@ fn count_resumed(machine: &Machine, rejected: Vec<RejectedCalls>) -> Resumed {
 }
 
 impl Resumed {
-    /// Adds the profiles, active transactions and calls of this point to the figures of a site
-    /// restored from its journal.
+    /// Adds the profiles, active transactions and calls of this point to the figures that `run`
+    /// prints of the site restored from its journal file.
     fn add_point(&mut self, machine: &Machine, point: &str) {
         self.calls = self.calls.saturating_add(machine.outbox_len(point) as u64);
         let Some(book) = machine.book_of(point) else {

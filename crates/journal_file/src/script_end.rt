@@ -34,8 +34,8 @@ impl ScriptEnd {
     }
 }
 
-/// Counts the lines in a script of messages before the first one that is later than this moment,
-/// for `--at` of `explain` and `show`.
+/// Counts the lines in a script of messages before the first one that is later than this moment.
+/// `explain` and `show` play a script or a journal up to such a moment by `--at`.
 fn lines_until(script: &[u8], moment: Instant) -> u64 {
     let mut lines = 0u64;
     for line in script.split(|byte| *byte == b'\n') {
@@ -47,8 +47,8 @@ fn lines_until(script: &[u8], moment: Instant) -> u64 {
     lines
 }
 
-/// Returns the moment at the beginning of a line in a script of messages, as `replay` reads it, if
-/// there is one.
+/// Returns the moment at the beginning of a line in a script of messages, to find the end by `--at`
+/// of `explain` and `show`. None if the line has no moment.
 fn moment_of(line: &[u8]) -> Option<Instant> {
     let text = std::str::from_utf8(line).ok()?;
     let (moment, _) = text.split_once(' ')?;

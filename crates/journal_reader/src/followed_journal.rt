@@ -56,8 +56,8 @@ pub fn follow_journal<R: Files<File = File> + Eprint + Clock + AllocGlobal, E: E
     follow_counted::<Brand, Brand, R, E>(rt, following, blanks, reader)
 }
 
-/// Follows a site's journal up to the requested end, for a command that reads it. These two ledgers
-/// count its changes and answers.
+/// Follows a site's journal up to the requested end, for a command that reads it (`show`,
+/// `explain`, `check`, `call`). These two ledgers count its changes and answers.
 fn follow_counted<
     C: Ledger,
     A: Ledger,
@@ -92,8 +92,8 @@ fn follow_counted<
     follower.into_followed(has_end && journal.torn() == 0)
 }
 
-/// Prints to standard error how much of a journal was read. Returns whether the journal reaches the
-/// requested end.
+/// Prints to standard error how much of a journal a command has read (`show`, `explain`, `check` or
+/// `call`). Returns whether the journal reaches the requested end.
 fn say_followed<C: Ledger, A: Ledger, R: Eprint + AllocGlobal>(
     rt: &R,
     file: &NamedFile,
@@ -125,7 +125,8 @@ struct Follower<C: Ledger, A: Ledger> {
 }
 
 impl<C: Ledger, A: Ledger> Follower<C, A> {
-    /// Returns the state of a site before the first line of the journal that a command follows.
+    /// Returns the state of a site before the first line of the journal that a command reads
+    /// (`show`, `explain`, `check` or `call`).
     fn begin(
         alloc: Global,
         site: Site,
@@ -156,7 +157,8 @@ impl<C: Ledger, A: Ledger> Follower<C, A> {
         })
     }
 
-    /// Returns the site's state after the followed lines of a journal.
+    /// Returns the site's state after the lines of a journal that a command has read (`show`,
+    /// `explain`, `check` or `call`).
     fn into_followed(self, is_as_wanted: bool) -> Result<FollowedJournal, FolderFault> {
         Ok(FollowedJournal {
             machine: self.book.present().copy()?,
@@ -165,8 +167,9 @@ impl<C: Ledger, A: Ledger> Follower<C, A> {
         })
     }
 
-    /// Follows all parts of a journal, to the state of the site at the requested end. If that takes
-    /// long, prints to standard error how many lines are read.
+    /// Follows all parts of a journal for a command (`show`, `explain`, `check` or `call`), to the
+    /// state of the site at the requested end. If that takes long, prints to standard error how
+    /// many lines are read.
     fn follow_parts<R: Eprint + Clock + AllocGlobal, E: EventReader>(
         &mut self,
         rt: &R,
@@ -195,8 +198,9 @@ impl<C: Ledger, A: Ledger> Follower<C, A> {
         Ok(())
     }
 
-    /// Reads these lines of a journal, restores the site's state from those up to the requested
-    /// end, and lets a reader read their events.
+    /// Reads these lines of a journal for a command (`show`, `explain`, `check` or `call`).
+    /// Restores the site's state from those up to the requested end, and lets the command's reader
+    /// read their events.
     fn follow_lines<E: EventReader>(
         &mut self,
         lines: JournalPart<'_>,
@@ -220,8 +224,9 @@ impl<C: Ledger, A: Ledger> Follower<C, A> {
         Ok(())
     }
 
-    /// Restores the effect of the line of this number in the journal's file, and lets a reader read
-    /// its event, unless it is after the requested end. The text is the line with its line feed.
+    /// Restores the effect of the journal's line of this number for a command (`show`, `explain`,
+    /// `check` or `call`), and lets its reader read the event. Leaves out a line after the
+    /// requested end. The text is the line with its line feed.
     fn follow_line<E: EventReader>(
         &mut self,
         line: &Line<'_>,
@@ -252,7 +257,8 @@ impl<C: Ledger, A: Ledger> Follower<C, A> {
         self.let_read(line, reader)
     }
 
-    /// Lets a reader read the event of the journal's line that was restored last, if it has one.
+    /// Lets the reader of a command (`show`, `explain`, `check` or `call`) read the event of the
+    /// journal's line restored last, if it has one.
     fn let_read<E: EventReader>(&self, line: &Line<'_>, reader: &mut E) -> Result<(), FolderFault> {
         let kind = match line.noted {
             Noted::Message { sender, frame, .. } => EventKind::Message {
@@ -273,7 +279,8 @@ impl<C: Ledger, A: Ledger> Follower<C, A> {
         self.let_read_one(line, kind, reader)
     }
 
-    /// Lets a reader read the event of this kind by a line of the journal.
+    /// Lets the reader of a command (`show`, `explain`, `check` or `call`) read the event of this
+    /// kind by a line of the journal.
     fn let_read_one<E: EventReader>(
         &self,
         line: &Line<'_>,
@@ -289,8 +296,8 @@ impl<C: Ledger, A: Ledger> Follower<C, A> {
         reader.read(self.book.present(), &event)
     }
 
-    /// Returns the call to a point that went out by a line of the journal: the first one that it
-    /// hasn't confirmed.
+    /// Returns the call that went out to a point by a line of the journal that a command reads: the
+    /// first without the point's confirmation.
     fn call_in_flight(&self, point: &str) -> Result<Option<Call>, AllocError> {
         let Some(outbox) = self.book.present().outbox_of(point) else {
             return Ok(None);
@@ -301,7 +308,8 @@ impl<C: Ledger, A: Ledger> Follower<C, A> {
     }
 }
 
-/// Prints to standard error how many lines of a journal were read, and the moment of the last one.
+/// Prints to standard error how many lines of a journal a command (`show`, `explain`, `check` or
+/// `call`) has read, and the last one's time.
 fn say_read<R: Eprint + AllocGlobal>(
     rt: &R,
     lines: u64,
@@ -317,8 +325,8 @@ fn say_read<R: Eprint + AllocGlobal>(
     Ok(())
 }
 
-/// Prints a note to standard error if the journal doesn't reach the end that `--at` requests.
-/// Returns whether it does.
+/// Prints a note to standard error if the journal that a command reads doesn't reach the end that
+/// `--at` requests. Returns whether it does.
 fn say_end<R: Eprint + AllocGlobal>(
     rt: &R,
     end: ScriptEnd,
@@ -341,8 +349,8 @@ fn say_end<R: Eprint + AllocGlobal>(
     }
 }
 
-/// Prints a note to standard error if the journal begins after the moment that `--at` requests.
-/// Returns whether it doesn't.
+/// Prints a note to standard error if the journal that a command reads begins after the moment that
+/// `--at` requests. Returns whether it doesn't.
 fn say_begun<R: Eprint + AllocGlobal>(
     rt: &R,
     moment: Instant,

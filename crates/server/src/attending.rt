@@ -52,8 +52,8 @@ struct CallMoment {
     moment: Instant,
 }
 
-/// Serves a client's session until its WebSocket closes or fails, the client is silent too long, or
-/// a call to it has no reply in time. Returns how the session ended.
+/// Serves a client's session in a seat of the server. It ends when its WebSocket closes or fails,
+/// the client is silent too long, or a call has no reply in time. Returns how it ended.
 pub(crate) fn run_session<R: Wait + Clock, W: World>(
     context: &Context<'_, W>,
     watch: &SessionWatch<'_, R>,
@@ -90,8 +90,8 @@ pub(crate) fn run_session<R: Wait + Clock, W: World>(
     unreachable!()
 }
 
-/// Serves the next message of a client's session on the server, or does the work that is due if no
-/// message comes. An error ends the session.
+/// Serves the next message of a client's session in a seat of the server, or does the work that is
+/// due if no message comes. An error ends the session.
 fn attend_next<R: Wait + Clock, W: World>(
     context: &Context<'_, W>,
     watch: &SessionWatch<'_, R>,
@@ -123,14 +123,15 @@ fn attend_next<R: Wait + Clock, W: World>(
     Ok(())
 }
 
-/// Closes the WebSocket of a session's client, which ends the session.
+/// Closes the WebSocket of a client whose session in a seat of the server has to end, and returns
+/// that end.
 fn broken<R: Wait + Clock>(socket: &mut WebSocket<IncomingStream<'_, R>, NoMask>) -> Ended {
     let _ = socket.close(None);
     Ended::Broken
 }
 
-/// Does what follows what a session received from its client. Returns the call that was sent, if
-/// one was.
+/// Does the work that is due in a seat of the server after its session received a message, a
+/// control frame or nothing. Returns the call that was sent to the point, if one was.
 fn sent_after<R: Wait + Clock, W: World>(
     context: &Context<'_, W>,
     watch: &SessionWatch<'_, R>,
@@ -160,7 +161,8 @@ fn sent_after<R: Wait + Clock, W: World>(
     }
 }
 
-/// Sends a session's silent client one WebSocket ping, and ends the session after a longer silence.
+/// Sends one WebSocket ping to a silent client in a seat of the server, and ends the client's
+/// session after a longer silence.
 fn keep_alive<R: Wait + Clock>(
     socket: &mut WebSocket<IncomingStream<'_, R>, NoMask>,
     attention: &mut ClientState,
@@ -183,8 +185,8 @@ fn keep_alive<R: Wait + Clock>(
     }
 }
 
-/// Sends the call that waits for a silent charge point, and returns it. A point that has just
-/// connected first gets the time for its BootNotification.
+/// Sends the call that waits for a silent charge point in a seat of the server, and returns it. A
+/// point that has just connected first gets the time for its BootNotification.
 fn send_to_silent<R: Wait + Clock, W: World>(
     rt: &R,
     context: &Context<'_, W>,
@@ -205,8 +207,8 @@ fn send_to_silent<R: Wait + Clock, W: World>(
 }
 
 impl ClientState {
-    /// Reports on standard error that a request of the session's client is refused, if this is the
-    /// event.
+    /// Reports on the server's standard error that a request of the session's client was refused,
+    /// if this event says so.
     // A point that sends an action unknown here makes no mistake, so this isn't reported.
     fn report_refused<R: Wait + Clock>(
         &mut self,
@@ -225,8 +227,8 @@ impl ClientState {
         }
     }
 
-    /// Records that the call of this number was sent to the session's point just now. Without a
-    /// clock its reply has no deadline.
+    /// Records, for the server's time limit on replies, that the call of this number was sent to
+    /// the session's point just now. Without a clock its reply has no deadline.
     fn note_sent<R: Clock>(&mut self, rt: &R, number: u64) {
         self.sent = match Instant::now(rt) {
             Ok(moment) => Some(CallMoment { number, moment }),
@@ -234,7 +236,8 @@ impl ClientState {
         };
     }
 
-    /// Returns the number of the last call sent to the session's point if it has no reply in time.
+    /// Returns the number of the last call that the server's session sent to its point, if its
+    /// reply is overdue.
     fn overdue<R: Wait + Clock, W: World>(
         &mut self,
         rt: &R,

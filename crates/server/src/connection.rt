@@ -10,8 +10,8 @@ use tungstenite::{CloseCode, CloseFrame, NoMask, Utf8Bytes, WebSocket};
 use version_store::Pass;
 use world::World;
 
-/// Serves a WebSocket connection of the server from its handshake until it ends. Returns the
-/// session's pass, whose counts of changes and answers never decrease.
+/// Serves a WebSocket connection of `serve` from its handshake until it ends. Returns the session's
+/// pass, whose counts of changes and answers never decrease.
 pub(crate) fn run_connection<W: World, S: Read + Write + Drop>(
     context: &Context<'_, W>,
     stream: S,
@@ -70,8 +70,8 @@ pub(crate) fn admit<W: World>(
     Ok(Some(Admitted { core, place }))
 }
 
-/// Closes the WebSocket of a client that isn't served (RFC 6455, section 7.4.1, policy violation).
-/// It doesn't wait for the client's close frame.
+/// Closes the WebSocket of a client that the server doesn't serve (RFC 6455, section 7.4.1, policy
+/// violation). It doesn't wait for the client's close frame.
 pub(crate) fn close_at_once<S: Read + Write + Drop>(mut socket: WebSocket<S, NoMask>) {
     let frame = CloseFrame {
         code: CloseCode::Policy,

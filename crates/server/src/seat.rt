@@ -58,7 +58,8 @@ pub fn keep_seat<R: Threads + Wait + Clock + Sync, W: World>(
     unreachable!()
 }
 
-/// Returns the context of the sessions of a site's seat, with these channels to the workers.
+/// Returns the context of the sessions that a seat of the server serves, with these channels to the
+/// workers.
 pub(crate) fn context_of<
     's,
     C: Ledger + 's,
@@ -147,8 +148,8 @@ fn run_shaken<R: Wait + Clock, W: World>(
     }
 }
 
-/// Does the WebSocket handshake with a client. Until it is complete, it may have to give its seat
-/// to another connection.
+/// Does the WebSocket handshake of a client's connection in a seat of the server. Until it is
+/// complete, it may have to give its seat to another connection.
 fn shake_in_time<'a, R: Threads + Wait + Clock + Sync>(
     seats: &Seats<R>,
     stream: IncomingStream<'a, R>,
@@ -168,8 +169,8 @@ fn shake_in_time<'a, R: Threads + Wait + Clock + Sync>(
     shaken
 }
 
-/// Does the WebSocket handshake with a client on a thread of its own, or on this one if none can be
-/// made.
+/// Does the WebSocket handshake of a client's connection in a seat of the server. It runs on a
+/// thread of its own, or on the seat's if none can be made.
 // A handshake takes far more stack than a waiting session, and the stack that a thread once used
 // stays in memory until the thread ends.
 fn shake_apart<'a, R: Threads + Wait + Clock + Sync>(
@@ -182,8 +183,8 @@ fn shake_apart<'a, R: Threads + Wait + Clock + Sync>(
     shaken
 }
 
-/// Returns the limits of a client's WebSocket connection: the sizes of its read buffer, messages
-/// and frames.
+/// Returns the limits of a client's WebSocket connection in a seat of the server: the sizes of its
+/// read buffer, messages and frames.
 fn limits() -> WebSocketConfig {
     WebSocketConfig::default()
         .read_buffer_size(READ_BYTES)

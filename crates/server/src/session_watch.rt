@@ -22,8 +22,8 @@ pub(crate) struct SessionWatch<'a, R> {
 }
 
 impl<R: Wait + Clock> SessionWatch<'_, R> {
-    /// Records that a client's session has begun, for the status page of the site and the server's
-    /// lines on standard error.
+    /// Records that a client's session has begun, for the site's status port and the server's lines
+    /// on standard error.
     pub(crate) fn begin(&self, core: &SessionCore) {
         let seats = self.seats;
         seats.watch.begin(&seats.rt, self.link.is_some());
@@ -33,8 +33,8 @@ impl<R: Wait + Clock> SessionWatch<'_, R> {
         }
     }
 
-    /// Records how a client's session has ended, for the status page of the site and the server's
-    /// lines on standard error.
+    /// Records how a client's session has ended, for the site's status port and the server's lines
+    /// on standard error.
     pub(crate) fn end(&self, core: &SessionCore, ended: Ended) {
         let seats = self.seats;
         seats.watch.end(&seats.rt, self.link.is_some());
@@ -50,8 +50,8 @@ impl<R: Wait + Clock> SessionWatch<'_, R> {
         self.say(core, event);
     }
 
-    /// Records a message of a client's session, with its event, for the status page of the site and
-    /// the server's lines on standard error.
+    /// Records a message of a client's session, with its event, for the site's status port and the
+    /// server's lines on standard error.
     pub(crate) fn hear<W: World>(
         &self,
         context: &Context<'_, W>,
@@ -87,7 +87,7 @@ impl<R: Wait + Clock> SessionWatch<'_, R> {
         }
     }
 
-    /// Records that a call was sent to the session's point, for the status page of the site.
+    /// Records that the server's session sent a call to its point, for the site's status port.
     pub(crate) fn send(&self, call: SentCall) {
         if let Some(moment) = self.seats.clock.now() {
             self.see(Observation::Sent(SentMoment {
@@ -98,8 +98,8 @@ impl<R: Wait + Clock> SessionWatch<'_, R> {
         }
     }
 
-    /// Reports on standard error the fault with which a request of the session's point was
-    /// answered. A fault in an operator's request isn't reported, since the operator sees the
+    /// Reports on the server's standard error the fault with which a request of the session's point
+    /// was answered. A fault in an operator's request isn't reported, since the operator sees the
     /// answer.
     pub(crate) fn refuse(&self, core: &SessionCore, fault: CallFault) {
         if self.link.is_some() {
@@ -107,12 +107,14 @@ impl<R: Wait + Clock> SessionWatch<'_, R> {
         }
     }
 
-    /// Reports on standard error that the call of this number has no reply from its point in time.
+    /// Reports on the server's standard error that the call of this number has no reply from the
+    /// session's point in time.
     pub(crate) fn give_up(&self, core: &SessionCore, call: u64) {
         self.say_made(core, without_reply(self.seats.alloc, call));
     }
 
-    /// Records when a call was last added to the session's point, for the status page of the site.
+    /// Records, from a session of the server, when a call was last added to its point, for the
+    /// site's status port.
     fn see_calls<W: World>(&self, context: &Context<'_, W>, core: &SessionCore, moment: Instant) {
         let seats = self.seats;
         let book = context.shared.lock(context.rt);
@@ -128,16 +130,16 @@ impl<R: Wait + Clock> SessionWatch<'_, R> {
         }
     }
 
-    /// Records for the status page that a message of the session's point was refused. An action
-    /// that isn't implemented is no fault of the point.
+    /// Records, from a session of the server, that a message of its point was refused, for the
+    /// site's status port. An action that isn't implemented is no fault of the point.
     fn hear_refused(&self, fault: CallFault, moment: Instant) {
         if fault != CallFault::NotImplemented {
             self.see(Observation::Refused(RefusedMessage { fault, moment }));
         }
     }
 
-    /// Records the point's reply to a call for the status page of the site, and reports a rejection
-    /// on standard error.
+    /// Records the reply of the session's point to a call, for the site's status port. Reports a
+    /// rejection on the server's standard error.
     fn hear_reply(&self, core: &SessionCore, reply: PointReply) {
         let seats = self.seats;
         let call = reply.call;
@@ -152,8 +154,8 @@ impl<R: Wait + Clock> SessionWatch<'_, R> {
         self.say_made(core, what);
     }
 
-    /// Adds an observation of the session's point to the status of the site, which the status page
-    /// shows.
+    /// Adds an observation of the session's point to those that the server keeps for the site's
+    /// status port.
     fn see(&self, sighting: Observation) {
         let seats = self.seats;
         seats.watch.see(&seats.rt, self.place, sighting);
@@ -205,8 +207,8 @@ impl Event {
     }
 }
 
-/// Returns a copy of the reason why a point's reply rejects a call, for a line on standard error.
-/// The text is empty if the reply rejects none.
+/// Returns a copy of the reason why a point's reply rejects a call, for a line on the server's
+/// standard error. The text is empty if the reply rejects none.
 fn reason_of(alloc: Global, reply: &PointReply) -> Result<String, AllocError> {
     match &reply.rejection {
         Some(reason) => String::from_str(alloc, reason.as_str()),

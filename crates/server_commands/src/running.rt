@@ -84,7 +84,7 @@ pub fn run_file<
     run_counted::<Brand, Brand, Brand, R>(rt, plan, blanks, (Unnamed::new(), Unnamed::new()))
 }
 
-/// Reads the files of a run, and opens its journal and its ports.
+/// Reads the files of the command `run`, and opens its journal and its ports.
 fn plan_of<
     'a,
     R: Files<File = File> + Eprint + AllocGlobal + Net<Listener = TcpListener, Stream = TcpStream>,
@@ -132,7 +132,7 @@ fn installs_again(after_boot: Option<&str>) -> Result<bool, ProgramFault> {
     }
 }
 
-/// Reads the site's keys from the file of `--keys`, if one is given.
+/// Reads the site's keys from the file of `run`'s option `--keys`, if one is given.
 fn read_keys<R: Files<File = File> + Eprint + AllocGlobal>(
     rt: &R,
     path: Option<&str>,
@@ -185,8 +185,8 @@ fn listen<R: Eprint + Net<Listener = TcpListener, Stream = TcpStream>>(
     }
 }
 
-/// Does the job of `run` on a site whose changes and answers these two ledgers count. These two
-/// ghost lists record its states and syncs.
+/// Does the job of the command `run` on a site whose changes and answers these two ledgers count.
+/// These two ghost lists record its states and syncs.
 fn run_counted<
     C: Ledger + Shareable,
     A: Ledger + Shareable,
@@ -247,7 +247,8 @@ fn run_counted<
     serve_restored(&site, clients, seats, workers)
 }
 
-/// Serves a restored site of `run` with these passes, one for each seat, until its journal breaks.
+/// Serves the restored site of the command `run` with these passes, one for each seat, until its
+/// journal breaks.
 fn serve_restored<
     C: Ledger + Shareable,
     A: Ledger + Shareable,
@@ -273,8 +274,8 @@ fn serve_restored<
     Err(ProgramFault::Folder(FolderFault::Write))
 }
 
-/// Starts the status port of `run`, if one is wanted. It answers already while the site is being
-/// restored.
+/// Starts the status port of the command `run`, if one is wanted. It answers already while the site
+/// is being restored.
 fn begin_port<
     R: AllocGlobal + Clock + RandomSource + Threads + Wait + Copy + Shareable,
     S: WatchedSite + Shareable,
@@ -293,7 +294,7 @@ fn begin_port<
     Ok(port)
 }
 
-/// Returns a copy of the address of the status port of `run`, if there is one.
+/// Returns a copy of the address of the status port of the command `run`, if there is one.
 fn owned(alloc: Global, text: Option<&str>) -> Result<Option<String>, AllocError> {
     match text {
         Some(text) => Ok(Some(String::from_str(alloc, text)?)),
@@ -301,7 +302,8 @@ fn owned(alloc: Global, text: Option<&str>) -> Result<Option<String>, AllocError
     }
 }
 
-/// Starts the thread of `run` that writes lines for people about the journal to standard error.
+/// Starts the thread of the command `run` that writes lines for people about the journal to
+/// standard error.
 fn begin_lines<
     R: Eprint + AllocGlobal + Clock + Threads + Wait + Shareable,
     N: ListName + Shareable,
@@ -314,7 +316,8 @@ fn begin_lines<
     }
 }
 
-/// Prints to standard output the figures of the site that `run` restored from its journal.
+/// Prints to standard output the figures of the site that the command `run` restored from its
+/// journal.
 fn print_resumed<R: Print>(rt: &R, resumed: &Resumed) -> Result<(), ProgramFault> {
     let Resumed {
         points,

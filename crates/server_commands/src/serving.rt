@@ -41,7 +41,8 @@ pub fn serve_file<
     print_totals(rt, totals)
 }
 
-/// Does the job of `serve` on a listener: prints where that listens, and serves the site.
+/// Does the job of the command `serve` on a listener: prints where that listens, and serves the
+/// site.
 fn serve_listening<
     R: Print
         + AllocGlobal
@@ -71,7 +72,8 @@ fn serve_listening<
     }
 }
 
-/// Prints the last line of `serve` to standard output: the numbers of changes and answers.
+/// Prints the last line of the command `serve` to standard output: the numbers of changes and
+/// answers.
 fn print_totals<R: Print>(rt: &R, totals: Totals) -> Result<(), ProgramFault> {
     match println!(rt;
         "done changes {} answers {}",
@@ -82,7 +84,7 @@ fn print_totals<R: Print>(rt: &R, totals: Totals) -> Result<(), ProgramFault> {
     }
 }
 
-/// Returns why the program stops when the server of `run` or `serve` fails.
+/// Returns why the program stops when the server of the command `run` or `serve` fails.
 pub(crate) fn stop_of(fault: ServeFault) -> ProgramFault {
     match fault {
         ServeFault::Socket => ProgramFault::Socket,

@@ -113,7 +113,7 @@ impl Notices {
     }
 }
 
-/// Returns a line of the server's log about an event: the moment, a name and the text, without
+/// Returns a line of the server's log about an event: the time, a name and the text, without
 /// control characters.
 fn line_of(alloc: Global, moment: Instant, who: &str, what: &str) -> Result<String, AllocError> {
     let mut line = String::from_str(alloc, "central: ")?;

@@ -185,15 +185,16 @@ impl SiteWatch {
     }
 }
 
-/// Returns since when a call to the point at a place of the site waits, if one does, for the status
-/// of the site.
+/// Returns since when a call to a point waits, if one does, by the times that the server has
+/// observed. The point is at this place of the site file.
 // The state may have changed since these moments: a call has one only if both have its number.
 fn waiting_at(machine: &Machine, place: usize, moments: &CallMoments) -> Option<Instant> {
     let point = machine.site().point(place)?;
     moments.waiting_since(machine.outbox_of(point.id)?)
 }
 
-/// Returns the count of the points' sessions, or of the operators', in the status of the site.
+/// Returns the count of the points' sessions, or of the operators', among those that the server
+/// observes for the status port.
 fn sessions_of(counts: &mut SiteCounts, is_point: bool) -> &mut u64 {
     if is_point {
         &mut counts.point_sessions
@@ -202,7 +203,8 @@ fn sessions_of(counts: &mut SiteCounts, is_point: bool) -> &mut u64 {
     }
 }
 
-/// Returns the counts in the status of a site before any session: all are zero.
+/// Returns the counts that the server observes for the status port before any session: all are
+/// zero.
 fn no_counts() -> SiteCounts {
     SiteCounts {
         point_sessions: 0,

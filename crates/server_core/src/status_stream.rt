@@ -15,8 +15,8 @@ pub struct StatusStream<'a, R> {
 }
 
 impl<R: Clock> StatusStream<'_, R> {
-    /// Returns the time left until the deadline of a connection to the status port, or the error
-    /// `TimedOut`.
+    /// Returns the time left until the deadline of the server's connection to a client of the
+    /// status port, or the error `TimedOut`.
     fn left(&self) -> io::Result<Duration> {
         let now = Instant::now(self.rt)?;
         match self.deadline.checked_duration_since(now) {

@@ -30,7 +30,7 @@ pub enum Access<'a> {
 }
 
 impl Access<'_> {
-    /// Returns whether each client that is let in has a key.
+    /// Returns whether the server lets in only clients that have a key of the site.
     pub(crate) fn has_keys(self) -> bool {
         matches!(self, Access::Guarded { keys: Some(_), .. })
     }
@@ -67,8 +67,8 @@ impl Access<'_> {
     }
 }
 
-/// Returns the HTTP status that refuses the peer of a connection's path by the site's keys, or None
-/// if they admit it.
+/// Returns the HTTP status by which the server refuses a connecting client, a point or an operator,
+/// by the site's keys. None if they admit it.
 fn refusal_by_keys(
     alloc: Global,
     keys: &Keys,
@@ -83,8 +83,8 @@ fn refusal_by_keys(
     Ok(refusal_of(&admission))
 }
 
-/// Checks the credentials of a connecting peer against the site's keys: a point needs its own key,
-/// an operator an operator's.
+/// Checks the credentials of a client that connects to the server against the site's keys: a point
+/// needs its own key, an operator an operator's.
 fn admission_of(
     alloc: Global,
     keys: &Keys,
@@ -101,7 +101,8 @@ fn admission_of(
     }
 }
 
-/// Returns the HTTP status that refuses a connecting peer whom the site's keys don't admit.
+/// Returns the HTTP status by which the server refuses a connecting client that the site's keys
+/// don't admit.
 fn refusal_of(admission: &Admission) -> Option<StatusCode>
     ensures { (result ≡ None) ↔ ((user : List ℕ) × IsAdmittedAs admission.now user) }
 {

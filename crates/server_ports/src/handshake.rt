@@ -82,8 +82,8 @@ impl Callback for RequestReader<'_> {
     }
 }
 
-/// Stores the client's request for a WebSocket in `asked`, and returns the response that accepts
-/// it. If memory runs out, it stores nothing.
+/// Accepts a client's WebSocket handshake with the server: stores the client's request in `asked`,
+/// and returns the response. If memory runs out, it stores nothing.
 fn accepted(
     alloc: Global,
     entry: Access<'_>,
@@ -117,8 +117,8 @@ fn accepted(
     response
 }
 
-/// Returns whether a client's handshake offers OCPP 1.6 as a WebSocket subprotocol, in any of the
-/// headers for them.
+/// Returns whether a client's handshake with the server offers OCPP 1.6 as a WebSocket subprotocol,
+/// in any of the headers for them.
 fn offers_ocpp(headers: &HeaderMap<HeaderValue>) -> bool {
     headers
         .get_all(SUBPROTOCOLS)
@@ -129,8 +129,8 @@ fn offers_ocpp(headers: &HeaderMap<HeaderValue>) -> bool {
         })
 }
 
-/// Returns the HTTP response that refuses a request for a WebSocket with this status. If memory
-/// runs out for a header, the response lacks it.
+/// Returns the HTTP response with this status by which the server refuses a client's WebSocket
+/// handshake. If memory runs out for a header, the response lacks it.
 fn refusal(alloc: Global, status: StatusCode) -> ErrorResponse {
     let mut response = Response::new(alloc, None);
     *response.status_mut() = status;

@@ -134,8 +134,8 @@ impl<'a, R: Clock + Wait> IncomingStream<'a, R> {
         Arc::try_clone(&self.stream).ok()
     }
 
-    /// Limits the connection's next read to the time left until the deadline of its WebSocket
-    /// handshake.
+    /// Limits the next read from a client's connection to the server to the time left until the
+    /// deadline of its WebSocket handshake.
     fn bound_handshake(&self, deadline: Instant) -> io::Result<()> {
         let now = Instant::now(self.rt)?;
         match deadline.checked_duration_since(now) {
@@ -144,9 +144,9 @@ impl<'a, R: Clock + Wait> IncomingStream<'a, R> {
         }
     }
 
-    /// Allows another read of a client's unfinished message unless it is overdue, or is long and
-    /// has no place among the long ones. While the message waits for a place, its deadline moves
-    /// with the time.
+    /// Allows another read of a client's unfinished message to the server. Fails if it is overdue,
+    /// or is long and has no place among the long ones. While it waits for a place, its deadline
+    /// moves with the time.
     fn bound_message(&mut self, message: Unfinished) -> io::Result<()> {
         if seconds_since(self.rt, message.begun) >= LONGEST_MESSAGE {
             return Err(io::Error::from(ErrorKind::TimedOut));
@@ -169,8 +169,8 @@ impl<'a, R: Clock + Wait> IncomingStream<'a, R> {
         Err(io::Error::from(ErrorKind::WouldBlock))
     }
 
-    /// Counts a read while the session polls its connection, and fails with `WouldBlock` once none
-    /// is left.
+    /// Counts a read from a client's connection to the server while the session polls it. Fails
+    /// with `WouldBlock` once no read is left.
     fn count_read(&mut self) -> io::Result<()> {
         match self.reads_left {
             None => Ok(()),
@@ -182,8 +182,8 @@ impl<'a, R: Clock + Wait> IncomingStream<'a, R> {
         }
     }
 
-    /// Reads a part of a WebSocket handshake by its deadline. A signal that interrupts the read, as
-    /// when the process is stopped and continued, doesn't end the handshake: the read is repeated.
+    /// Reads a part of a client's WebSocket handshake with the server by its deadline. If a signal
+    /// interrupts the read, as when the process is stopped and continued, the read is repeated.
     fn read_of_handshake(&mut self, deadline: Instant, buf: &mut [u8]) -> io::Result<usize>
         ensures { IfOk result (λ bytes. IsPrefixLen bytes buf.new) }
     {
@@ -197,7 +197,7 @@ impl<'a, R: Clock + Wait> IncomingStream<'a, R> {
         Err(io::Error::from(ErrorKind::TimedOut))
     }
 
-    /// Reads once from the connection of a client, and records when the bytes came.
+    /// Reads once from a client's connection to the server, and records when the bytes came.
     fn read_once(&mut self, buf: &mut [u8]) -> io::Result<usize>
         ensures { IfOk result (λ bytes. IsPrefixLen bytes buf.new) }
     {
@@ -211,7 +211,8 @@ impl<'a, R: Clock + Wait> IncomingStream<'a, R> {
         Ok(bytes)
     }
 
-    /// Records that this many bytes of a message came on a client's connection just now.
+    /// Records that this many bytes of a client's message came on its connection to the server just
+    /// now.
     fn hear(&mut self, bytes: usize) -> io::Result<()> {
         let now = Instant::now(self.rt)?;
         self.heard = now;

@@ -17,7 +17,8 @@ pub fn peer_of_path(path: &str) -> PathPeer<'_> {
     }
 }
 
-/// Returns the last segment of a connection's path, which is the identity of the charge point.
+/// Returns the last segment of the path at which a client connects to the server: the identity of
+/// the charge point.
 // A charge point appends its identity to the URL that it is given, whatever path that has.
 fn last_segment(path: &str) -> &str {
     match path.rsplit_once('/') {

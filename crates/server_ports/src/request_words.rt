@@ -54,8 +54,8 @@ pub fn push_path(said: &mut String, path: &str) -> Result<(), AllocError> {
     Ok(())
 }
 
-/// Appends the user of a session's request to the request's log line. Only the beginning of a long
-/// user is written, and nothing of a user that looks like a key.
+/// Appends the user in a connecting client's request to the request's line in the server's log.
+/// Only the beginning of a long user is written, and nothing of a user that looks like a key.
 // A client may send its key in place of its user, and keys must not get into the log.
 fn push_user(said: &mut String, user: &Option<String>) -> Result<(), AllocError> {
     let Some(user) = user else {

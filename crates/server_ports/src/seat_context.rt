@@ -48,8 +48,8 @@ impl<
     }
 }
 
-/// Returns a copy of the present state of the book of the server's site, which shares its contents.
-/// The book is locked meanwhile.
+/// Returns a copy of the state in the book of the server's site, from which the server first
+/// observes the waiting calls. The copy shares the state's contents. The book is locked meanwhile.
 fn copy_of<C: Ledger, A: Ledger, N: ListName, R: Wait>(
     rt: &R,
     shared: &Shared<C, A, N>,

@@ -89,7 +89,7 @@ pub fn begin_status<
     Ok(())
 }
 
-/// Answers one connection to the status port after another, forever.
+/// Answers one connection to the server's status port after another, forever.
 fn answer_all<R: Wait + Clock + RandomSource + Drop, S: WatchedSite + Drop>(
     port: &StatusPort<R, S>,
     listener: &TcpListener,
@@ -105,7 +105,7 @@ fn answer_all<R: Wait + Clock + RandomSource + Drop, S: WatchedSite + Drop>(
     }
 }
 
-/// Answers the HTTP request of a connection to the status port, within the deadline.
+/// Answers the HTTP request of a connection to the server's status port, within the deadline.
 fn answer_connection<R: Wait + Clock + RandomSource + Drop, S: WatchedSite + Drop>(
     port: &StatusPort<R, S>,
     stream: &TcpStream,

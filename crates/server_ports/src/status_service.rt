@@ -54,8 +54,8 @@ impl<R: Wait + Drop, S: WatchedSite + Drop> Service for StatusService<'_, R, S> 
 }
 
 impl<R: Wait + Drop, S: WatchedSite + Drop> StatusService<'_, R, S> {
-    /// Returns whether a request to the status port is for this machine, or true if the port is
-    /// open to others.
+    /// Returns whether an HTTP request to the server's status port is for this machine, or true if
+    /// the port is open to others.
     fn is_for_us(&self, request: &Request<Bytes>) -> bool {
         match &self.port.address {
             Some(address) => is_for_this_machine(request.headers(), address.as_str()),
@@ -63,7 +63,8 @@ impl<R: Wait + Drop, S: WatchedSite + Drop> StatusService<'_, R, S> {
         }
     }
 
-    /// Returns the status port's answer to a request.
+    /// Returns the answer of the server's status port to an HTTP request: that of the site, that
+    /// the site is being restored, or 404.
     fn answer(&self, request: &Request<Bytes>) -> Result<StatusAnswer, AllocError> {
         let alloc = self.port.alloc;
         let Some(path) = status_path(request.uri().path()) else {
@@ -76,7 +77,7 @@ impl<R: Wait + Drop, S: WatchedSite + Drop> StatusService<'_, R, S> {
     }
 }
 
-/// Fills in the HTTP response with an answer of the status port.
+/// Fills in the HTTP response of the server's status port with this answer.
 fn fill(alloc: Global, response: &mut Response, answer: StatusAnswer) -> Result<(), AllocError> {
     let StatusAnswer { status, kind, body } = answer;
     if let Ok(status) = StatusCode::from_u16(status) {

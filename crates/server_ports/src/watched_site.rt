@@ -30,8 +30,8 @@ impl<C: Ledger, A: Ledger, R: Wait + Clock, J: WatchedJournal, N: ListName> Watc
     }
 }
 
-/// Returns the status port's answer at a path that reports the state of the site. The book is
-/// locked while it is copied, and not while a text is made.
+/// Returns the answer of the server's status port at a path that reports the state of the site. The
+/// book is locked while it is copied, and not while a text is made.
 fn state_answer<C: Ledger, A: Ledger, R: Wait + Clock, J, N: ListName>(
     site: &SeatContext<C, A, R, J, N>,
     journal: JournalReport,

@@ -65,8 +65,8 @@ pub fn begin_workers<
     })
 }
 
-/// Starts `workers` threads of the server, which compile schedules for sessions, on one queue of at
-/// most `most_waiting` jobs. Returns its sender.
+/// Starts `workers` threads of `run`, which compile schedules for sessions, on one queue of at most
+/// `most_waiting` jobs. Returns its sender.
 fn begin_pool<
     C: Ledger + Shareable,
     A: Ledger + Shareable,

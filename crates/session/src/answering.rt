@@ -9,7 +9,8 @@ use messages::{ActionKind, Response};
 use profile::Unit;
 use texts::{refused_response, reply_response, schedule_response};
 
-/// Returns the answer to a session's CALL of this kind, by the outcome of its step on the book.
+/// Returns the answer that a session sends to a client's CALL of this kind, by the outcome of its
+/// step on the book.
 pub(crate) fn response_of_outcome(
     unit: Unit,
     kind: ActionKind,

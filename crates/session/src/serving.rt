@@ -94,7 +94,8 @@ pub fn release_link<W: World>(context: &Context<'_, W>, core: SessionCore) {
     let _ = context.journal.write_out();
 }
 
-/// Serves the messages of a session over its WebSocket until the socket is closed or fails.
+/// Serves the messages of a session of `serve` over its WebSocket until the socket is closed or
+/// fails.
 fn answer_texts<W: World, S: Read + Write + Drop, K: MaskKeys + Drop>(
     context: &Context<'_, W>,
     socket: &mut WebSocket<S, K>,

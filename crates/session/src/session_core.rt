@@ -173,7 +173,7 @@ impl SessionCore {
         }
     }
 
-    /// Returns the sender of a session's messages, for the journal.
+    /// Returns the sender of a session's messages, as the session notes it in the journal.
     pub(crate) fn sender(&self) -> Sender<'_>
         ensures sender { sender_state result ≡ sender_of self.now }
         ensures side { side_of_sender (sender_state result) ≡ side_of self.now.peer }
@@ -187,8 +187,8 @@ impl SessionCore {
         }
     }
 
-    /// Returns the unit in which the session answers requests for schedules. A point asks for no
-    /// schedule.
+    /// Returns the unit in which an operator's session answers requests for schedules. A point
+    /// requests none.
     fn unit(&self) -> Unit
         ensures { result ≡ answer_unit self.now.peer }
     {

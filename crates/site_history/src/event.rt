@@ -74,7 +74,8 @@ pub fn call_after<'a>(played: &'a PlayedLine<'_>) -> Option<Event<'a>> {
     Some(event_of(played, sent, EventKind::Sent { call }))
 }
 
-/// Returns the call in a line that `replay` prints, for the event of its sending.
+/// Returns the call to a point in a line that playing a script prints, for the event in the site's
+/// history that it was sent. `show` and `check` follow such events.
 fn called(line: &PrintedLine) -> Option<&Call> {
     match line {
         PrintedLine::Call { call, .. } => Some(call),
@@ -82,7 +83,8 @@ fn called(line: &PrintedLine) -> Option<&Call> {
     }
 }
 
-/// Returns an event by the message in a line of a script.
+/// Returns the event in a site's history that a line of a script brings by its message. `show`,
+/// `check` and `call` follow these events.
 fn event_of<'a>(played: &PlayedLine<'_>, sent: &'a SentText<'_>, kind: EventKind<'a>) -> Event<'a> {
     Event {
         line: played.number,

@@ -71,7 +71,8 @@ impl PointCalls {
         })
     }
 
-    /// Reads an event at the point, given its outbox after it.
+    /// Follows the calls to a point by an event in its site's history, for `show`, `explain`,
+    /// `check` and `call`. The outbox is the one after the event.
     pub(crate) fn read(
         &mut self,
         alloc: Global,
@@ -98,7 +99,7 @@ impl PointCalls {
     }
 
     /// Records that an event in a site's history added the calls to its point below the number
-    /// `next`.
+    /// `next`, for `show`, `explain`, `check` and `call`.
     fn add(&mut self, next: u64, event: &Event<'_>) -> Result<(), AllocError> {
         for number in self.count..next {
             self.waiting.push(UnsentCall {
@@ -111,7 +112,7 @@ impl PointCalls {
     }
 
     /// Records that a call to the point went out, after the line of this number in a site's
-    /// history.
+    /// history, for `show`, `explain`, `check` and `call`.
     fn send(&mut self, alloc: Global, call: &Call, line: u64) -> Result<(), AllocError> {
         let number = call.number;
         let action = call.body.kind();
@@ -133,8 +134,8 @@ impl PointCalls {
         Ok(())
     }
 
-    /// Returns when the call of this number, which goes out now, was added. It waits, or went out
-    /// over an earlier link.
+    /// Returns when the history of a site added the call of this number, which goes out to its
+    /// point now. Until now it waited, or it went out over an earlier link.
     fn added_at(&self, number: u64) -> Option<Instant> {
         match &self.in_flight {
             Some(call) if call.number == number => call.added,
@@ -147,7 +148,8 @@ impl PointCalls {
     }
 
     /// Records that the point replied to the call in flight, at the line of this number in a site's
-    /// history. Earlier rejections of an equal call are dropped.
+    /// history. Drops earlier rejections of an equal call. `show`, `explain`, `check` and `call`
+    /// read the rest.
     fn confirm(
         &mut self,
         alloc: Global,

@@ -74,7 +74,8 @@ impl<'a> ProfileStates<'a> {
     }
 }
 
-/// Returns the number of the call that a point confirmed by an event, if it is its reply.
+/// Returns the number of the call to which a point replied by this event in its site's history, for
+/// `explain`. Returns none if the event is no reply.
 fn replied_call(machine: &Machine, event: &Event<'_>) -> Option<u64> {
     let EventKind::Reply { .. } = event.kind else {
         return None;

@@ -20,8 +20,8 @@ pub fn rejection_in(
     }
 }
 
-/// Returns the status in a charge point's reply that leaves a call undone, for a list of its
-/// rejected calls. Returns `None` if the call was done.
+/// Returns the status in a charge point's reply that leaves a call undone, for the rejected calls
+/// in the site's history. Returns `None` if the call was done.
 fn status_of_rejection(
     alloc: Global,
     action: ActionKind,

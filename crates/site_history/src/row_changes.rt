@@ -85,8 +85,8 @@ impl SiteRows {
 }
 
 impl PointRows {
-    /// Records the charging profiles that the point has after an event in its site's history.
-    /// Returns which came and which are gone, if any.
+    /// Records the charging profiles that the point has after an event in its site's history, for
+    /// `check` and `call`. Returns which came and which are gone, if any.
     fn follow(&mut self, alloc: Global, rows: &[Row]) -> Result<Option<RowChange>, AllocError> {
         if self.are(rows) {
             return Ok(None);
@@ -107,8 +107,8 @@ impl PointRows {
         Ok(Some(RowChange { came, gone }))
     }
 
-    /// Returns whether a charge point's profiles have the names recorded after an earlier event, in
-    /// their order.
+    /// Returns whether a charge point's profiles have the names recorded after an earlier event in
+    /// its site's history, in their order.
     fn are(&self, rows: &[Row]) -> bool {
         self.named.len() == rows.len()
             && self
@@ -119,8 +119,8 @@ impl PointRows {
     }
 }
 
-/// Returns the names of a point's charging profiles, in their order, to compare them with those
-/// after a later event.
+/// Returns the names of a point's charging profiles, in their order. `check` and `call` compare
+/// them with those after a later event in the site's history.
 fn names_of(alloc: Global, rows: &[Row]) -> Result<Vec<PrevailingProfile>, AllocError> {
     let mut names = Vec::with_capacity(alloc, rows.len())?;
     for row in rows {

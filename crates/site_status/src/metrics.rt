@@ -29,8 +29,8 @@ pub fn metrics_text(alloc: Global, report: &SiteReport<'_>) -> Result<String, Al
     Ok(out)
 }
 
-/// Appends the sample of a Prometheus metric of the status port for the charge point at a place, if
-/// it has one.
+/// Appends the sample of the status port's Prometheus metric for the charge point at this place of
+/// the site file, if it has one.
 fn push_of_point(
     out: &mut String,
     figure: PointFigure,
@@ -112,7 +112,7 @@ const SITE_FIGURES: [SiteFigure; 11] = [
 ];
 
 impl SiteFigure {
-    /// Returns the name of the site's metric, as Prometheus reads it.
+    /// Returns the name of the site's metric on the status port, as Prometheus reads it.
     fn name(self) -> &'static str {
         match self {
             SiteFigure::Healthy => "central_healthy",
@@ -129,7 +129,7 @@ impl SiteFigure {
         }
     }
 
-    /// Returns the help text of the site's metric for Prometheus.
+    /// Returns the help text of the site's metric on the status port for Prometheus.
     fn help(self) -> &'static str {
         match self {
             SiteFigure::Healthy => "Whether changes are kept: 1, or 0 where /health says 503.",
@@ -148,7 +148,8 @@ impl SiteFigure {
         }
     }
 
-    /// Returns whether the site's metric is a counter for Prometheus, rather than a gauge.
+    /// Returns whether the site's metric on the status port is a counter for Prometheus, rather
+    /// than a gauge.
     fn is_counter(self) -> bool {
         match self {
             SiteFigure::Healthy
@@ -165,7 +166,8 @@ impl SiteFigure {
         }
     }
 
-    /// Appends the samples of the site's metric with their values in the report, for Prometheus.
+    /// Appends the samples of the site's metric on the status port with their values in the report,
+    /// for Prometheus.
     fn push_samples(self, out: &mut String, report: &SiteReport<'_>) -> Result<(), AllocError> {
         let name = self.name();
         let value = match self {
@@ -196,8 +198,8 @@ impl SiteFigure {
     }
 }
 
-/// Returns the value of the site's metric of health for Prometheus: 1 if changes are kept, or else
-/// 0.
+/// Returns the value of the site's metric of health on the status port for Prometheus: 1 if changes
+/// are kept, or else 0.
 fn healthy(report: &SiteReport<'_>) -> u64 {
     match Health::of(Some(report.journal.state)) {
         Health::Well => 1,
@@ -247,7 +249,8 @@ const POINT_FIGURES: [PointFigure; 13] = [
 ];
 
 impl PointFigure {
-    /// Returns the name of the metric of each charge point, as Prometheus reads it.
+    /// Returns the name of the metric of each charge point on the status port, as Prometheus reads
+    /// it.
     fn name(self) -> &'static str {
         match self {
             PointFigure::Connected => "central_point_connected",
@@ -266,7 +269,7 @@ impl PointFigure {
         }
     }
 
-    /// Returns the help text of the metric of each charge point for Prometheus.
+    /// Returns the help text of the metric of each charge point on the status port for Prometheus.
     fn help(self) -> &'static str {
         match self {
             PointFigure::Connected => "Whether the point is connected.",
@@ -288,8 +291,8 @@ impl PointFigure {
         }
     }
 
-    /// Returns whether the metric of each charge point is a counter for Prometheus, rather than a
-    /// gauge.
+    /// Returns whether the metric of each charge point on the status port is a counter for
+    /// Prometheus, rather than a gauge.
     fn is_counter(self) -> bool {
         matches!(
             self,
@@ -297,8 +300,8 @@ impl PointFigure {
         )
     }
 
-    /// Returns the value of the Prometheus metric for a charge point at a moment, or `None` if
-    /// there is no sample.
+    /// Returns the value of the status port's Prometheus metric for a charge point at a moment, or
+    /// `None` if there is no sample.
     fn value(self, point: &PointSummary<'_>, now: Instant) -> Option<u64> {
         match self {
             PointFigure::Connected => Some(u64::from(point.news.connection.since.is_some())),
@@ -320,8 +323,8 @@ impl PointFigure {
     }
 }
 
-/// Returns how many seconds ago a moment was, if there is one, as the value of a Prometheus metric
-/// of the status port.
+/// Returns how many seconds ago this moment was, as the value of a Prometheus metric of the status
+/// port. Returns `None` if there is no moment.
 fn seconds_since(moment: Option<Instant>, now: Instant) -> Option<u64> {
     Some(now.seconds().saturating_sub(moment?.seconds()))
 }

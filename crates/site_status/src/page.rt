@@ -51,8 +51,8 @@ pub fn site_page(
     Ok(Some(page.finish()?))
 }
 
-/// Returns the place of the first charge point on a page of the site's status, if the site has the
-/// page.
+/// Returns the place in the site file of the first charge point on a page of the site's status, if
+/// the site has the page.
 fn first_of_page(points: usize, number: usize) -> Option<usize>
     ensures { is_some result ≡ is_page points number }
 {
@@ -60,7 +60,7 @@ fn first_of_page(points: usize, number: usize) -> Option<usize>
     if first < points { Some(first) } else { None }
 }
 
-/// Appends the beginning of the status page up to its points: the moment, the site's health and the
+/// Appends the beginning of the status page up to its points: the time, the site's health and the
 /// numbers of sessions.
 fn push_opening(page: &mut Page, report: &SiteReport<'_>, unheld: usize) {
     page.push_str("<!DOCTYPE html>\n<html lang=\"en\">\n<head>\n<meta charset=\"utf-8\">\n");
@@ -259,7 +259,7 @@ fn push_refused(page: &mut Page, refused: RefusedMessage) {
 /// The text in place of a moment that wasn't observed.
 const NOT_SEEN: &str = "not seen";
 
-/// Appends the moment of an observation of a charge point to the status page, or `without` if there
+/// Appends the time of an observation of a charge point to the status page, or `without` if there
 /// is none.
 fn push_seen(page: &mut Page, name: &str, moment: Option<Instant>, without: &str) {
     push_element(page, "<div><dt>", name, "</dt><dd>");
@@ -276,7 +276,7 @@ fn push_count(page: &mut Page, name: &str, count: u64) {
     write!(page, "{count}</dd></div>\n");
 }
 
-/// Appends a moment to the status page as an element `time`, for people and for programs.
+/// Appends a time to the status page as an element `time`, for people and for programs.
 fn push_moment(page: &mut Page, moment: Instant) {
     page.push_str("<time datetime=\"");
     page.push_instant(moment);

@@ -63,8 +63,8 @@ pub(crate) fn calls_of_points(
     Ok(all)
 }
 
-/// Summarizes the calls to the point at a place for the status port, as no calls if the site has no
-/// point there.
+/// Summarizes the calls to the point at this place of the site file for the texts of the status
+/// port. There are no calls if the site has no point there.
 fn calls_at(report: &SiteReport<'_>, place: usize) -> CallSummary {
     let machine = report.machine;
     let (Some(news), Some(point)) = (report.points.get(place), machine.site().point(place)) else {
@@ -87,8 +87,8 @@ fn calls_at(report: &SiteReport<'_>, place: usize) -> CallSummary {
     }
 }
 
-/// Returns since when a call to the point at a place waits, if one does, for the texts of the
-/// status port.
+/// Returns since when a call to the point at this place of the site file waits, if one does. It is
+/// for the texts of the status port.
 fn waiting_since_at(report: &SiteReport<'_>, place: usize) -> Option<Instant> {
     match report.waiting_since.get(place) {
         Some(since) => *since,
@@ -96,7 +96,8 @@ fn waiting_since_at(report: &SiteReport<'_>, place: usize) -> Option<Instant> {
     }
 }
 
-/// Returns the status port's summary of the calls at a place where the site has no charge point.
+/// Returns the summary of calls for the texts of the status port at a place where the site file has
+/// no charge point.
 fn no_calls() -> CallSummary {
     CallSummary {
         confirmed: 0,
@@ -110,8 +111,8 @@ fn no_calls() -> CallSummary {
     }
 }
 
-/// Summarizes the charge point at a place for the texts of the status port, with its calls. Returns
-/// `None` if the site has no point there.
+/// Summarizes the charge point at this place of the site file for the texts of the status port,
+/// with its calls. Returns `None` if the site has no point there.
 pub(crate) fn summary_at<'a>(
     report: &SiteReport<'a>,
     place: usize,

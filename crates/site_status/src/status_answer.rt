@@ -103,7 +103,8 @@ pub fn answer_of(
     }
 }
 
-/// Returns the status port's answer with a page or a picture, or 404 if the site doesn't have it.
+/// Returns the status port's answer with a page or a picture of the site's status, or 404 if the
+/// site doesn't have it.
 fn found_if_any(
     alloc: Global,
     kind: ContentKind,
@@ -117,7 +118,8 @@ fn found_if_any(
     }
 }
 
-/// Returns the status port's answer 200 with a body of this content type.
+/// Returns the status port's answer with a text that the site's status has: 200, with the text as a
+/// body of this content type.
 fn found(kind: ContentKind, body: String) -> StatusAnswer
     ensures { result.status ≡ 200 }
 {

@@ -124,7 +124,8 @@ fn push_labels(page: &mut Page, shown: &Shown<'_>) {
     page.push_str("</div>");
 }
 
-/// Appends a moment's time of day, as `hh:mm`, to a connector's strip or list in the status page.
+/// Appends the time of day of a moment, as `hh:mm`, to a connector's strip or list in the status
+/// page.
 pub(crate) fn push_clock(page: &mut Page, moment: u64) {
     let Some(instant) = Instant::try_new(moment.min(LAST_SECOND)) else {
         return;

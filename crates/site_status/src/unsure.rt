@@ -29,7 +29,8 @@ pub(crate) fn unheld_profiles(machine: &Machine, point: &str, rows: &[Row]) -> u
     unheld
 }
 
-/// Whether a charge point accepted an installed profile, and may have lost it since.
+/// Returns whether a charge point accepted an installed profile and may have lost it since, for the
+/// status port and `check`.
 fn is_unsure(state: ProfileState) -> bool
     ensures { result ≡ is_unsure state }
 {

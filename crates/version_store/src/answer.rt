@@ -35,8 +35,8 @@ impl Model for Answer {
 }
 
 impl Answer {
-    /// Makes the answer to a request for a composite schedule that a session collects, with the
-    /// request's number, book and `Ask`.
+    /// Makes the answer that a session collects from the book for its request for a composite
+    /// schedule, with the request's number, book and `Ask`.
     pub(crate) fn new(
         number: u64,
         book: SharedBook,

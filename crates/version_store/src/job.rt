@@ -32,8 +32,8 @@ impl Model for Job {
 }
 
 impl Job {
-    /// Makes the job to compile a taken request for a composite schedule: its number, its point's
-    /// book and its `Ask`.
+    /// Makes the job to compile a request for a composite schedule that the book has taken: its
+    /// number, its point's book and its `Ask`.
     pub(crate) fn new(number: u64, book: SharedBook, ask: Ask) -> Job
         requires { ask.connector ≤ length book.ceilings }
         ensures number { result.number ≡ number }

@@ -41,8 +41,8 @@ pub(crate) fn make_recorded<N: ListName>(
     Ok(reply)
 }
 
-/// Whether a step takes, compiles or answers a request for a composite schedule, for which a
-/// journal needn't account.
+/// Returns whether a step takes, compiles or answers a request for a composite schedule. A journal
+/// needn't account for such a step of the book.
 fn is_of_request(step: &Step) -> bool
     ensures { result ≡ is_of_request step.now }
 {

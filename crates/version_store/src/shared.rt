@@ -179,8 +179,8 @@ impl<C: Ledger, A: Ledger, N: ListName> Shared<C, A, N> {
         self.place_of(number).notify_all();
     }
 
-    /// Returns the condition variable of the threads that wait for the answer to the request for a
-    /// composite schedule of this number.
+    /// Returns the shared book's condition variable of the threads that wait for the answer to the
+    /// request for a composite schedule of this number.
     fn place_of(&self, number: u64) -> &Condvar {
         &self.places[(number % PLACES) as usize]
     }
@@ -220,8 +220,8 @@ impl<C: Ledger, A: Ledger, N: ListName> Shared<C, A, N> {
     }
 }
 
-/// Makes the condition variables of the threads that wait for answers to requests for composite
-/// schedules.
+/// Makes the shared book's condition variables of the threads that wait for answers to requests for
+/// composite schedules.
 fn new_places(alloc: Global) -> Result<Vec<Condvar>, AllocError>
     ensures { IfOk result (λ places. length places.items ≡ 64) }
 {

@@ -64,8 +64,8 @@ pub(crate) fn audit_confirmed<C: Ledger, A: Ledger, N: ListName>(
     }
 }
 
-/// Returns a point's audit, the check of the schedule that it reports, to judge the reply, if the
-/// reply confirmed the audit's call.
+/// Returns a point's audit (the check of the schedule that it reports) for its session to judge, if
+/// the point's reply confirmed the audit's call.
 pub(crate) fn audit_to_judge(performed: &Performed, audit: Option<OpenAudit>) -> Option<OpenAudit>
     ensures { result ≡ audit_to_judge performed.now audit }
 {
@@ -75,8 +75,8 @@ pub(crate) fn audit_to_judge(performed: &Performed, audit: Option<OpenAudit>) ->
     }
 }
 
-/// Judges a point's reply to an audit (the check of the schedule that it reports) whose call is
-/// confirmed, and keeps the verdict.
+/// Judges, in a point's session, its reply to an audit (the check of the schedule that it reports)
+/// whose call is confirmed. Keeps the verdict.
 ///
 /// The book isn't locked while the reply is judged. It is locked once more to keep the verdict.
 /// Other sessions may have changed it since the Confirm:
@@ -122,16 +122,16 @@ pub(crate) fn judge_reply<W: World>(
     Ok(())
 }
 
-/// Returns the point's reply to its audit for the `verdict` line of the journal: as it came or, if
-/// memory ran out, an unreadable one.
+/// Returns a point's reply to its audit, as its session notes it in the journal's `verdict` line.
+/// If memory ran out, this is an unreadable one.
 fn reply_to_note<'s>(sent: &'s SentText<'_>, is_short: bool) -> &'s str
     ensures { result.now ≡ reply_noted is_short sent.now.frame }
 {
     if is_short { UNREAD_REPLY } else { sent.frame() }
 }
 
-/// Keeps the verdict on a point's audit, the check of the schedule that it reports, by the number
-/// of the audit's call. A refused verdict is dropped. Returns whether it is kept.
+/// Keeps in the book a session's verdict on the audit of its point, by the number of the audit's
+/// call. A verdict that the book refuses is dropped. Returns whether it is kept.
 fn bring_verdict<C: Ledger, A: Ledger, N: ListName>(
     book: &mut Book<C, A, N>,
     point: PointId,
@@ -149,9 +149,9 @@ fn bring_verdict<C: Ledger, A: Ledger, N: ListName>(
     }
 }
 
-/// Judges a point's reply to the GetCompositeSchedule of its audit. Returns the verdict, and
-/// whether memory ran out for it. A reply that can't be read for lack of memory is judged as
-/// unread.
+/// Judges, in a point's session, its reply to the GetCompositeSchedule of its audit. Returns the
+/// verdict, and whether memory ran out for it. A reply that can't be read for lack of memory is
+/// judged as unread.
 fn judged_by<W: World>(
     context: &Context<'_, W>,
     sent: &SentText<'_>,

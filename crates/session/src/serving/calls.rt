@@ -97,9 +97,9 @@ pub fn send_call<W: World, S: Read + Write + Drop, K: MaskKeys + Drop>(
     }))
 }
 
-/// Makes the first waiting call of a point the one in flight, and notes that in the journal.
-/// Returns the call, and the states of the book recorded by then. Returns none if no call is to be
-/// sent any more, or if the point has a later link by now.
+/// Makes the first waiting call to a session's point the one in flight, and notes that in the
+/// journal. Returns the call, and the states of the book recorded by then. Returns none if no call
+/// is to be sent any more, or if the point has a later link by now.
 fn next_call<W: World>(
     context: &Context<'_, W>,
     point: &PointId,

@@ -29,8 +29,8 @@ pub enum Breach {
     Frame,
 }
 
-/// Returns the end of a session whose step the journal can't note, or whose next message depends on
-/// a step that the journal can't keep.
+/// Returns why a session ends: the journal can't note its step, or can't keep a step on which its
+/// next message depends.
 pub(crate) fn ended_unsaved(fault: JournalFault) -> Ended {
     match fault {
         JournalFault::OutOfMemory => Ended::OutOfMemory,
@@ -38,7 +38,7 @@ pub(crate) fn ended_unsaved(fault: JournalFault) -> Ended {
     }
 }
 
-/// Returns the end of a session with this error of its socket.
+/// Returns why a session ends after this error of its WebSocket.
 pub(crate) fn ended_by(error: Error) -> Ended {
     match error {
         Error::ConnectionClosed | Error::AlreadyClosed => Ended::Closed,

@@ -68,8 +68,8 @@ pub(crate) fn install_again<W: World>(
     }
 }
 
-/// Returns the site's unit, and the ids of a point's profiles in the order in which they are
-/// installed again after a boot.
+/// Returns, for the session of a point that has booted, the site's unit and the ids of the profiles
+/// to install again, in their order. Locks the book meanwhile.
 fn profiles_of<W: World>(
     context: &Context<'_, W>,
     point: &str,
@@ -78,8 +78,8 @@ fn profiles_of<W: World>(
     profiles_in_order(context.alloc, book.present(), point)
 }
 
-/// Returns the site's unit, and the ids of a point's profiles in this state, in the order in which
-/// they are installed again after a boot.
+/// Returns the site's unit, and the ids of this state's profiles that a session installs again
+/// after its point has booted, in order.
 // Apart from the lock: what a function does while it holds one is dear to prove.
 fn profiles_in_order(
     alloc: Global,
@@ -95,8 +95,8 @@ fn profiles_in_order(
     Ok((machine.site().unit(), profiles))
 }
 
-/// Adds the ids of a point's profiles of this purpose to those that are installed again after a
-/// boot.
+/// Adds the ids of a point's profiles of this purpose to those that its session installs again
+/// after a boot.
 fn push_ids(profiles: &mut Vec<i32>, rows: &[Row], purpose: Purpose) -> Result<(), AllocError> {
     for row in rows {
         if row.profile.purpose == purpose {
@@ -106,7 +106,9 @@ fn push_ids(profiles: &mut Vec<i32>, rows: &[Row], purpose: Purpose) -> Result<(
     Ok(())
 }
 
-/// Returns the message that installs a point's profile again after a boot, if one does.
+/// Returns the message by which a session installs its point's profile of this id again after a
+/// boot. There is none if the profile isn't installed, or its call has no reply yet. Locks the
+/// book.
 fn present_text<W: World>(
     context: &Context<'_, W>,
     point: &str,
@@ -116,8 +118,8 @@ fn present_text<W: World>(
     install_text(context.alloc, book.present(), point, profile)
 }
 
-/// Returns the message that installs a point's profile of this id again after a boot. There is none
-/// if the profile isn't installed, or its call has no reply yet.
+/// Returns the message by which a session installs its point's profile of this id again after a
+/// boot. There is none if this state has no such profile, or its call has no reply yet.
 fn install_text(
     alloc: Global,
     machine: &Machine,
@@ -130,7 +132,7 @@ fn install_text(
     }
 }
 
-/// Returns the message that installs the profile of this row again after a boot.
+/// Returns the message by which a session installs this profile of its point again after a boot.
 fn text_of_row(alloc: Global, row: &Row) -> Result<String, AllocError> {
     let body = CallBody::Set {
         connector: row.connector,
@@ -141,14 +143,16 @@ fn text_of_row(alloc: Global, row: &Row) -> Result<String, AllocError> {
     Ok(text)
 }
 
-/// Appends the message of the central system that asks for this call to a point.
+/// Appends the message by which a session, like an operator, installs a profile of its point again
+/// after a boot. It asks the central system for this call.
 fn push_message(text: &mut String, body: &CallBody) -> Result<(), AllocError> {
     push_call_head(text, MESSAGE_ID, body.action())?;
     push_payload(text, body)?;
     push_frame_end(text)
 }
 
-/// Returns the installed profile of this id, unless its call to the point has no reply yet.
+/// Returns the installed profile of this id that a session installs again after its point has
+/// booted. Returns none if the profile's call has no reply yet.
 fn row_of<'a>(machine: &'a Machine, point: &str, profile: i32) -> Option<&'a Row> {
     let row = row_with_id(machine.book_of(point)?.view().rows, profile)?;
     match machine.profile_state_of(point, row) {
@@ -157,7 +161,8 @@ fn row_of<'a>(machine: &'a Machine, point: &str, profile: i32) -> Option<&'a Row
     }
 }
 
-/// Returns the row of the point's profile of this id, if it is installed.
+/// Returns the profile of this id among a point's installed ones, for its session to install it
+/// again after a boot.
 fn row_with_id(rows: &[Row], profile: i32) -> Option<&Row> {
     for row in rows {
         if row.profile.id == profile {
@@ -167,7 +172,8 @@ fn row_with_id(rows: &[Row], profile: i32) -> Option<&Row> {
     None
 }
 
-/// Installs a profile of a point again after a boot, if memory suffices and it can be noted.
+/// Installs a profile of a session's point again after a boot, if memory suffices and the journal
+/// can note the step.
 fn install_one<W: World>(
     context: &Context<'_, W>,
     operator: &SessionCore,
@@ -184,7 +190,8 @@ fn install_one<W: World>(
     }
 }
 
-/// Makes the step of the message that installs a profile again after a boot, if it can be noted.
+/// Makes the step of the message by which a session installs a profile again after a boot, if the
+/// journal can note it.
 fn make_install<W: World>(
     context: &Context<'_, W>,
     operator: &SessionCore,
@@ -205,8 +212,8 @@ fn make_install<W: World>(
     }
 }
 
-/// Returns the step that the message asks for which installs a profile again after a boot. None if
-/// memory runs out.
+/// Returns the step of the message by which a session installs a profile again after a boot.
+/// Returns none if memory runs out.
 fn step_of_message<W: World>(
     context: &Context<'_, W>,
     operator: &SessionCore,
@@ -222,9 +229,9 @@ fn step_of_message<W: World>(
     }
 }
 
-/// Makes the step that installs a point's profile again after a boot, and notes it in the journal,
-/// unless the profile has changed since its message was made. An operator's change meanwhile is
-/// newer. The lock is held in between.
+/// Makes the step by which a session installs a profile again after a boot, and notes it in the
+/// journal. If the profile has changed since the message was made, does nothing: an operator's
+/// change is newer. The book is locked from the comparison to the note.
 fn perform_if_present<W: World>(
     context: &Context<'_, W>,
     pass: &mut Pass<W::Changes, W::Answers>,
@@ -246,7 +253,8 @@ fn perform_if_present<W: World>(
     note_performed(context, &book, before, entry, confirms, &performed);
 }
 
-/// Returns whether the message that installs a profile again after a boot would be the same now.
+/// Returns whether the message by which a session installs a profile again after a boot would be
+/// the same in the present state.
 fn is_present(alloc: Global, machine: &Machine, step: &Step, install: &Install) -> bool {
     let Step::Install { point, .. } = step else {
         return false;

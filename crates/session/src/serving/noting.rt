@@ -19,8 +19,8 @@ use texts::SentText;
 use version_store::{Book, RecordedStates};
 use world::World;
 
-/// Makes the journal's entry for a message of this sender whose step may change something, or none.
-/// A request for a schedule or a status changes nothing.
+/// Makes the journal's entry for a session's message from this sender, if its step may change
+/// something. A request for a schedule or a status changes nothing, so it has no entry.
 pub(crate) fn prepare_message<W: World>(
     context: &Context<'_, W>,
     sender: Sender<'_>,

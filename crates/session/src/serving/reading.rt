@@ -44,8 +44,8 @@ pub(crate) fn read_message<W: World>(
     todo
 }
 
-/// Reads a point's reply to the GetCompositeSchedule of its audit, for the verdict. The memory for
-/// reading it is freed at once.
+/// Reads, for the verdict of a session, its point's reply to the GetCompositeSchedule of an audit.
+/// The memory for reading it is freed at once.
 pub(crate) fn read_reply<W: World>(
     context: &Context<'_, W>,
     sent: &SentText<'_>,

@@ -271,7 +271,7 @@ pub(crate) fn is_confirm(step: &Step) -> bool
     matches!(step, Step::Confirm { .. })
 }
 
-/// Returns the answer to a session's schedule request that is kept, which a worker compiles, or the
+/// Returns the outcome of a session's request for a schedule, whose answer a worker compiles or the
 /// session itself. No contract of the lock says that the collected answer has the book and the
 /// `Ask` of this request, so they are compared.
 fn answer_of<W: World, Q: Waiting>(

@@ -19,8 +19,8 @@ pub(crate) enum Subject {
     Other,
 }
 
-/// Returns the subject of a session's message for its observer: a BootNotification, a reply to a
-/// call, a CALL with a fault, or another.
+/// Returns the subject of a session's message, for its observer in the server: a BootNotification,
+/// a reply, a CALL with a fault, or another.
 pub(crate) fn subject_of(todo: &Todo, step: &Option<Step>) -> Subject {
     match step {
         Some(Step::Confirm { call, accepted, .. }) => Subject::Reply {
@@ -36,7 +36,8 @@ pub(crate) fn subject_of(todo: &Todo, step: &Option<Step>) -> Subject {
     }
 }
 
-/// Returns the event in a session's message whose step has its outcome, for the session's observer.
+/// Returns the event in a session's message whose step has its outcome, for the session's observer
+/// in the server.
 pub(crate) fn event_of(
     alloc: Global,
     frame: &str,
@@ -64,8 +65,8 @@ pub(crate) fn event_of(
     }
 }
 
-/// Returns whether a step with this reply adds a call to the point's outbox, for the session's
-/// observer.
+/// Returns whether a session's step with this reply adds a call to the point's outbox, for the
+/// session's observer in the server.
 fn adds_call(reply: &Reply) -> bool {
     matches!(
         reply,

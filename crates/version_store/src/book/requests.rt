@@ -117,8 +117,8 @@ impl<C: Ledger, A: Ledger, N: ListName> Book<C, A, N> {
         }
     }
 
-    /// Replies with the answer to the request of this number for a composite schedule, or NotYet,
-    /// and counts it for the session's pass.
+    /// Replies to a session with the answer to its request of this number for a composite schedule,
+    /// or NotYet. Counts the answer for the session's pass to the book.
     fn hand_out(&mut self, pass: &mut Pass<C, A>, number: u64) -> Result<Reply, Refusal>
         ensures calls { IfOk result (λ reply. Calls self.old pass.old (steps.Answer number) reply
             self.new pass.new) }
