@@ -12,8 +12,8 @@ use ocpp_scalars::Instant;
 use recurrence::rate_at;
 
 impl RowAtConnector<'_> {
-    /// Returns the first second of the explained request at which a reason why a profile never sets
-    /// the limit fails, if there is one. Where `BehindOthers` fails, the row prevails.
+    /// Returns the first second of the request at which a reason of `explain` why a profile never
+    /// sets the limit fails, if there is one. Where `BehindOthers` fails, the profile prevails.
     pub(crate) fn first_failing(&self, reason: NotCountedReason) -> Option<Instant>
         ensures { FirstFailing reason self.now result }
     {
@@ -32,8 +32,8 @@ impl RowAtConnector<'_> {
         None
     }
 
-    /// Returns until when a reason that `explain` may give for a profile that never sets the limit
-    /// holds, if it holds at an instant.
+    /// Returns until when a reason of `explain` why a profile never sets the limit holds, if it
+    /// holds at an instant.
     fn says_until(&self, reason: NotCountedReason, instant: Instant) -> Option<u64>
         ensures { MatchOption result (Fails reason self.now instant)
             (IsSoUntil (Says reason self.now) instant) }
@@ -47,8 +47,8 @@ impl RowAtConnector<'_> {
         }
     }
 
-    /// Returns until when the charging profile that `explain` checks has no limit, if it has none
-    /// at an instant.
+    /// Returns until when the profile that `explain` checks has no limit, if it has none at an
+    /// instant. That is a reason why it never sets the limit.
     fn no_limit_until(&self, instant: Instant) -> Option<u64>
         ensures { IfSome result (IsSoUntil (Says NoLimit self.now) instant) }
     {
@@ -84,7 +84,7 @@ impl RowAtConnector<'_> {
         }
     }
 
-    /// Returns until when a reason holds for which other profiles come before the row that
+    /// Returns until when a reason holds for which other profiles have precedence over the one that
     /// `explain` checks, if one holds at an instant.
     fn others_until(&self, instant: Instant) -> Option<u64>
         ensures { IfSome result (IsSoUntil (Says BehindOthers self.now) instant) }

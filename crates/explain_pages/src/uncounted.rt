@@ -33,8 +33,8 @@ pub fn not_counted(
     Ok(rest)
 }
 
-/// Returns the profile of the row at a place as one that never sets the limit of the explained
-/// request, with the reason.
+/// Returns the installed profile at this index as one that never sets the limit of the explained
+/// request, with the reason that `explain` gives.
 fn not_counted_at(view: &View<'_>, ask: &Ask, place: usize) -> NotCounted
     requires within { place < length view.now.rows.now }
     ensures { HasReason (point_state view.now) ask.now result }
@@ -53,7 +53,8 @@ fn not_counted_at(view: &View<'_>, ask: &Ask, place: usize) -> NotCounted
 }
 
 impl RowInRequest<'_> {
-    /// Returns the reason why the profile of the row never sets the limit of the explained request.
+    /// Returns the reason that `explain` gives why an installed profile never sets the limit of its
+    /// request.
     fn reason(&self) -> NotCountedReason
         ensures { IsReason result (point_state self.now.view) self.now.ask self.now.row.now }
     {

@@ -171,8 +171,8 @@ pub fn push_why(out: &mut Page, reason: &Reason, unit: Unit, known: &[KnownProfi
     }
 }
 
-/// Appends a share of a summed limit to `explain`'s pages or the status page, with its cause:
-/// `connector 1 10.0 A by TxProfile 4`.
+/// Appends a connector's share of a summed limit to a page of `explain` or the status page, with
+/// its cause: `connector 1 10.0 A by TxProfile 4`.
 fn push_share(out: &mut Page, share: &Share, unit: Unit) {
     let connector = share.connector;
     write!(out, "connector {connector} ");

@@ -57,8 +57,9 @@ fn field_of(fault: CallFault) -> Option<FieldName> {
     }
 }
 
-/// Returns the outermost object of a CALL's payload whose table has a field of this name, and the
-/// path to it. If an object on the path is absent, returns the last one that is present.
+/// Finds, for a fault of `check` or `call`, the field of this name in a CALL's payload. Returns the
+/// outermost object whose table has the field, and the path to that object. If an object on the
+/// path is absent, returns the last one that is present.
 // A fault names its field without a path, so the payload is searched for it.
 fn place_of_field<'node, 'memory>(
     alloc: Global,
@@ -88,8 +89,8 @@ fn place_of_field<'node, 'memory>(
     Ok(place)
 }
 
-/// Returns the first entry in a list of a CALL's payload with this field at fault, its list and its
-/// index.
+/// Returns, for a fault of `check` or `call`, the first object in a list of a CALL's payload with
+/// this field at fault. Also returns its list and its index.
 fn first_bad<'node, 'memory>(
     object: PayloadObject<'node, 'memory>,
     name: &str,
@@ -116,8 +117,8 @@ fn first_bad<'node, 'memory>(
     None
 }
 
-/// Returns whether a field of an object in a list of a CALL's payload has no fault, such as a
-/// period's limit. The objects of lists have no fields of other kinds.
+/// Returns, for `check` or `call`, whether a field of an object in a list of a CALL's payload is
+/// valid, such as a period's limit. The objects of lists have no fields of other kinds.
 fn is_right(object: Node<'_, '_>, row: FieldRow) -> bool {
     let name = row.name().text();
     match row.kind() {
@@ -135,7 +136,8 @@ fn is_right(object: Node<'_, '_>, row: FieldRow) -> bool {
     }
 }
 
-/// Returns whether a field of a CALL's payload is optional, so that its absence is no fault.
+/// Returns whether a field of a CALL's payload is optional, so that its absence is no fault for
+/// `check` or `call`.
 fn may_be_absent(row: FieldRow) -> bool {
     matches!(row, FieldRow::Optional(_, _))
 }

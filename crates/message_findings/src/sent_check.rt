@@ -111,7 +111,7 @@ fn nothing_said(alloc: Global, no_call: Option<String>) -> SentCheck {
     }
 }
 
-/// Checks the fields of an operator's CALL, and then its request, before `call` sends it.
+/// Checks the fields of an operator's CALL, and then the profile in it, before `call` sends it.
 fn check_fields(
     alloc: Global,
     text: &str,
@@ -146,7 +146,7 @@ fn check_fields(
     })
 }
 
-/// Checks the profile of an operator's CALL, whose fields are right, before `call` sends it.
+/// Checks the profile of an operator's CALL, whose fields are valid, before `call` sends it.
 fn check_action(report: &mut Report, action: Action) {
     match action {
         Action::SetChargingProfile {

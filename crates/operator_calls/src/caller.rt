@@ -279,8 +279,8 @@ impl<'a, R: Print + Eprint + AllocGlobal> Caller<'a, R> {
     }
 }
 
-/// Returns whether a fault of an operator's connection may concern one point only, so that the
-/// other points get their calls.
+/// Returns whether a fault of an operator's connection may concern one point only, so that `call`
+/// still sends the calls to the other points.
 // Any other fault, such as one of standard output, would recur at the other points.
 fn is_of_one_point(fault: ClientFault) -> bool {
     matches!(fault, ClientFault::Closed | ClientFault::Socket)

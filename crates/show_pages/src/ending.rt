@@ -37,7 +37,7 @@ pub fn ending_text(alloc: Global, ending: &Ending<'_>) -> Result<String, AllocEr
     page.finish()
 }
 
-/// Appends `check`'s sentence for each request for a schedule that the script held and never
+/// Appends `check`'s sentence for each request for a schedule that a script held and never
 /// released.
 fn push_held(page: &mut Page, ending: &Ending<'_>) {
     for held in ending.held {
@@ -56,7 +56,8 @@ fn push_held(page: &mut Page, ending: &Ending<'_>) {
     }
 }
 
-/// Appends `check`'s sentence for each call of a script that the charge point rejected.
+/// Appends `check`'s sentence for each call of a script or a journal that the charge point
+/// rejected.
 fn push_rejected(page: &mut Page, id: &str, calls: &PointCalls) {
     for rejected in &calls.rejected {
         let line = rejected.line;
@@ -90,7 +91,8 @@ fn push_starts(page: &mut Page, id: &str, machine: &Machine) {
     }
 }
 
-/// Appends `check`'s sentence if a call to the charge point is in flight at the end of a script.
+/// Appends `check`'s sentence if a call to the charge point is in flight at the end of a script or
+/// a journal.
 fn push_unanswered(page: &mut Page, id: &str, calls: &PointCalls) {
     if let Some(call) = &calls.in_flight {
         let number = call.number;
@@ -103,7 +105,7 @@ fn push_unanswered(page: &mut Page, id: &str, calls: &PointCalls) {
     }
 }
 
-/// Appends `check`'s sentence if calls to the charge point never went out in a script.
+/// Appends `check`'s sentence if calls to the charge point never went out in a script or a journal.
 fn push_waiting(page: &mut Page, id: &str, calls: &PointCalls) {
     // No line added call 0, so a point for which only that waits has no sentence.
     let Some(line) = first_line(&calls.waiting) else {
@@ -118,8 +120,8 @@ fn push_waiting(page: &mut Page, id: &str, calls: &PointCalls) {
     write!(page, " never went out, waiting since line {line}: {why}\n");
 }
 
-/// Returns the first line of a script that added one of these calls that never went out, for
-/// `check`'s sentence.
+/// Returns the first line of a script or a journal that added one of these calls that never went
+/// out, for `check`'s sentence.
 fn first_line(waiting: &[UnsentCall]) -> Option<u64> {
     let (line, _moment) = waiting.iter().find_map(|unsent| unsent.added)?;
     Some(line)

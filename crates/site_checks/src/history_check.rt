@@ -21,7 +21,8 @@ pub(crate) struct HistoryCheck {
 }
 
 impl HistoryCheck {
-    /// Begins a check, for `check` or `call`, when the points have these profiles.
+    /// Begins to collect the findings of `check` in a script or a journal, or of `call` in the
+    /// calls to be sent. The points have these profiles before.
     pub(crate) fn begin(alloc: Global, rows: SiteRows) -> HistoryCheck {
         HistoryCheck {
             alloc,
@@ -33,7 +34,8 @@ impl HistoryCheck {
         }
     }
 
-    /// Checks the script's line played last, for `check` or `call`, given the state after it.
+    /// Collects the findings of `check` or `call` in the script's line played last, given the state
+    /// after it.
     pub(crate) fn check_line(
         &mut self,
         machine: &Machine,
@@ -58,7 +60,7 @@ impl HistoryCheck {
         }
     }
 
-    /// Checks an event of a journal for `check`, given the state after it.
+    /// Collects the findings of `check` in an event of a journal, given the state after it.
     pub(crate) fn check_event(
         &mut self,
         machine: &Machine,
@@ -90,7 +92,8 @@ impl HistoryCheck {
         self.in_changes.append(&mut in_change)
     }
 
-    /// Adds findings of `check` that follow those in the answers so far.
+    /// Adds to the findings of `check` remarks on raised fuse limits or on requests still held.
+    /// They follow the findings in answers so far.
     pub(crate) fn add(&mut self, mut findings: Vec<Finding>) -> Result<(), AllocError> {
         self.in_answers.append(&mut findings)
     }

@@ -6,8 +6,8 @@ use site_core::Machine;
 use site_history::{Event, EventKind};
 use std::alloc::{AllocError, Global};
 
-/// Returns the fuse limit of the point of this identity, for a finding of `call`: the highest limit
-/// of its ChargePointMaxProfiles, if any.
+/// Returns the fuse limit of the point of this identity, which `call` compares before and after a
+/// call: the highest limit of its ChargePointMaxProfiles, if any.
 pub(crate) fn fuse_at(machine: &Machine, point: &str) -> Option<u32> {
     fuse_limit(machine.book_of(point)?)
 }
