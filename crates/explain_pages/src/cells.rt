@@ -80,8 +80,8 @@ impl<'a> CellMaker<'a> {
         })
     }
 
-    /// Returns the start or the end of an explained schedule's interval as a time of day for a page
-    /// of `explain`, after its date if `dated`.
+    /// Returns the start or the end of an explained schedule's interval as a time of day for
+    /// `explain`'s pages, after its date if `dated`.
     fn time(&self, alloc: Global, time: ClockTime, dated: bool) -> Result<String, AllocError> {
         let mut out = Page::new(alloc);
         if dated {

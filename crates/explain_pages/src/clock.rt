@@ -35,8 +35,8 @@ impl ClockTime {
         }
     }
 
-    /// Returns the local time in a zone of a moment of an explained schedule for a page of
-    /// `explain`, or the UTC time without a zone.
+    /// Returns the local time in a zone of a moment of an explained schedule for `explain`'s pages,
+    /// or the UTC time without a zone.
     pub(crate) fn shown(zone: Option<ZoneClock<'_>>, moment: u64) -> ClockTime {
         ClockTime::of(shown_at(zone, moment))
     }
@@ -117,8 +117,8 @@ pub(crate) fn needs_seconds(explained: &ExplainedRequest<'_>, zone: Option<ZoneC
     has_seconds(zone, explained.moment(0)) || has_seconds(zone, explained.end())
 }
 
-/// Returns whether a moment of an explained schedule isn't a whole minute, local to a zone or in
-/// UTC, for the pages of `explain`.
+/// Returns whether a moment of an explained schedule isn't a whole minute for a page of `explain`,
+/// local to a zone or in UTC.
 fn has_seconds(zone: Option<ZoneClock<'_>>, moment: u64) -> bool {
     shown_at(zone, moment) % 60 != 0
 }

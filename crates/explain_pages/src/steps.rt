@@ -75,9 +75,9 @@ pub(crate) fn profile_steps(
     })
 }
 
-/// Returns, for a reason of `explain`, the first instant of its request at which a profile has a
-/// limit, counted from a base. If none of the first `MAX_STEPS` steps has one, it is the request's
-/// start.
+/// Returns the first instant of the request at which a profile has a limit, counted from a base.
+/// `explain`'s pages give a reason as of it. If none of the first `MAX_STEPS` steps has one, it is
+/// the request's start.
 pub(crate) fn first_limit(profile: &Profile, base: Instant, ask: &Ask) -> Instant {
     let mut instant = ask.start;
     for _ in 0..MAX_STEPS {
@@ -93,7 +93,7 @@ pub(crate) fn first_limit(profile: &Profile, base: Instant, ask: &Ask) -> Instan
 }
 
 /// Returns the second of the explained request at which an instant is, at most the request's
-/// duration, for `explain`'s picture and reasons.
+/// duration, for a line in `explain`'s picture.
 fn second_of(ask: &Ask, instant: Instant) -> u32 {
     let second = instant.seconds().saturating_sub(ask.start.seconds());
     second.min(u64::from(ask.duration)) as u32

@@ -189,7 +189,8 @@ pub fn has_fault(findings: &[Finding]) -> bool
         .any(|finding| matches!(finding.severity, Severity::Fault))
 }
 
-/// Returns whether one of these findings is a warning, for the exit status of `check`.
+/// Returns, for the exit status of `check`, whether one of these findings is a warning, in a site
+/// file, a file of keys, a script or a journal.
 fn has_warning(findings: &[Finding]) -> bool
     ensures { result ≡ has_warning findings.now }
 {

@@ -43,14 +43,14 @@ pub(crate) fn check_call(report: &mut Report, call: &LineCall<'_, '_, '_>) {
     }
 }
 
-/// Reports, for `check` or `call`, a CALL with an action that its sender doesn't have. Adds the
-/// action that was probably meant.
+/// Reports, for `check` of a script or `call`, a CALL with an action that its sender doesn't have.
+/// Adds the action that was probably meant.
 pub(crate) fn refuse_action(report: &mut Report, sender: Side, name: &str) {
     report.fault(unknown_action_message(report.alloc, sender, name));
 }
 
-/// Describes, for `check` or `call`, a CALL's action that its sender doesn't have. Adds the action
-/// that was probably meant.
+/// Describes, for `check` of a script or `call`, a CALL's action that its sender doesn't have. Adds
+/// the action that was probably meant.
 fn unknown_action_message(alloc: Global, sender: Side, name: &str) -> Result<String, AllocError> {
     let actions = actions_of(alloc, sender)?;
     let sender = match sender {
@@ -71,8 +71,8 @@ fn unknown_action_message(alloc: Global, sender: Side, name: &str) -> Result<Str
     }
 }
 
-/// Returns the names of the actions that an operator or a point may send. `check` or `call`
-/// suggests one of them for a misspelled action in a message.
+/// Returns the names of the actions that an operator or a point may send. `check` of a script or
+/// `call` suggests one of them for a misspelled action.
 fn actions_of(alloc: Global, side: Side) -> Result<Vec<&'static str>, AllocError> {
     let mut names = Vec::new(alloc);
     for kind in ActionKind::all() {
@@ -137,7 +137,7 @@ fn check_refused(report: &mut Report, text: &LineMessage<'_>) {
     }
 }
 
-/// Warns, for `check` or `call`, of duplicate fields of an operator's CALL.
+/// Warns, for `check` of a script or `call`, of duplicate fields of an operator's CALL.
 pub(crate) fn warn_repeated(report: &mut Report, fields: &PayloadFields) {
     for name in &fields.repeated {
         report.warn(format!(in report.alloc;
@@ -146,7 +146,7 @@ pub(crate) fn warn_repeated(report: &mut Report, fields: &PayloadFields) {
     }
 }
 
-/// Warns, for `check` or `call`, of unknown fields of an operator's CALL.
+/// Warns, for `check` of a script or `call`, of unknown fields of an operator's CALL.
 pub(crate) fn warn_unknown(report: &mut Report, kind: ActionKind, fields: &PayloadFields) {
     // OCPP doesn't have these two actions, so it doesn't define their fields.
     let whose = match kind {
@@ -158,8 +158,8 @@ pub(crate) fn warn_unknown(report: &mut Report, kind: ActionKind, fields: &Paylo
     }
 }
 
-/// Describes, for a warning of `check` or `call`, an unknown field of an operator's CALL, and the
-/// field that was probably meant.
+/// Describes, for a warning of `check` on a script or of `call`, an unknown field of an operator's
+/// CALL. Adds the field that was probably meant.
 fn unknown_field_message(
     alloc: Global,
     field: &UnknownField,
@@ -190,8 +190,8 @@ fn check_clear(
     warn_of_clear(report, call.payload, criteria, fields);
 }
 
-/// Warns, for `check` or `call`, of a ClearChargingProfile that clears more than it seems to. It
-/// has no criterion, or has fields that are no criteria.
+/// Warns, for `check` of a script or `call`, of a ClearChargingProfile that clears more than it
+/// seems to. It has no criterion, or has fields that are no criteria.
 // Unknown fields are ignored, so a clear whose only criterion is misspelled clears everything.
 pub(crate) fn warn_of_clear(
     report: &mut Report,
@@ -210,8 +210,8 @@ pub(crate) fn warn_of_clear(
     }
 }
 
-/// Returns whether a ClearChargingProfile without a criterion has fields, unknown or null, so that
-/// `call` takes it for a mistake.
+/// Returns whether an operator's ClearChargingProfile without a criterion has fields, unknown or
+/// null. `call` then takes it for a mistake and doesn't send it.
 pub(crate) fn has_fields(payload: Node<'_, '_>, fields: &PayloadFields) -> bool {
     for row in fields_of(ActionKind::ClearChargingProfile) {
         if payload.field(row.name().text()).is_some() {
@@ -221,8 +221,8 @@ pub(crate) fn has_fields(payload: Node<'_, '_>, fields: &PayloadFields) -> bool 
     !fields.unknown.is_empty()
 }
 
-/// Describes, for a warning of `check` or `call`, a ClearChargingProfile without a criterion, and
-/// the criteria that were probably meant.
+/// Describes, for a warning of `check` on a script or of `call`, a ClearChargingProfile without a
+/// criterion, and the criteria that were probably meant.
 fn clears_all_message(
     alloc: Global,
     payload: Node<'_, '_>,
@@ -248,8 +248,8 @@ fn clears_all_message(
     Ok(message)
 }
 
-/// Returns the criterion of a ClearChargingProfile that is probably meant by an unknown field of
-/// this name, for a warning of `check` or `call`.
+/// Returns, for `check` of a script or `call`, the criterion of a ClearChargingProfile that an
+/// unknown field of this name probably means.
 // These names are from other messages or OCPP 2.0.1, and not similar enough for `similar_name`.
 fn criterion_meant(alloc: Global, name: &str) -> Result<Option<&'static str>, AllocError> {
     match name {
@@ -314,8 +314,8 @@ pub(crate) fn place_found(
     }
 }
 
-/// Describes the unit of the site file, for the fault of `check` or `call` that an operator's CALL
-/// has the other chargingRateUnit.
+/// Describes the unit of the site file, for a fault of `check` in a script or of `call`: an
+/// operator's CALL has the other chargingRateUnit.
 pub(crate) fn unit_found(site: &Site) -> &'static str {
     match site.unit() {
         Unit::A => "the site's is \"A\"",

@@ -82,8 +82,8 @@ impl<'a> LineMessage<'a> {
         }
     }
 
-    /// Makes the message of a journal's event for the findings of `check`. The message changed
-    /// something, so it wasn't refused.
+    /// Makes the message of a journal's event for the findings of `check`. It changed something, so
+    /// it has no refusal as a script's message may.
     pub(crate) fn noted(
         site: &'a Site,
         event: &Event<'a>,

@@ -55,8 +55,8 @@ struct Walk {
     next: PayloadPart,
 }
 
-/// Returns the unknown and the duplicate fields of an operator's CALL, for warnings of `check` or
-/// `call`. A point's CALL has none.
+/// Returns the unknown and the duplicate fields of an operator's CALL, for warnings of `check` on a
+/// script or of `call`. A point's CALL has none.
 // Of a point's CALL only some fields are read, so its other fields aren't unknown ones.
 pub(crate) fn payload_fields(
     alloc: Global,
@@ -81,7 +81,7 @@ pub(crate) fn payload_fields(
 
 impl Walk {
     /// Reads the payload of an operator's CALL, the fourth element of its frame (OCPP-J 1.6,
-    /// chapter 4). `check` or `call` warns of its unknown and duplicate fields.
+    /// chapter 4). `check` of a script or `call` warns of its unknown and duplicate fields.
     fn read(&mut self, frame: &str) -> Result<(), AllocError> {
         let mut scratch = Scratch::new(self.alloc);
         let mut reader = Reader::new(frame, &mut scratch)?;
@@ -100,7 +100,7 @@ impl Walk {
     }
 
     /// Takes the next token of an operator's payload, to find unknown and duplicate fields for
-    /// warnings of `check` or `call`.
+    /// warnings of `check` on a script or of `call`.
     fn take(&mut self, token: Token<'_>) -> Result<(), AllocError> {
         let next = mem::replace(&mut self.next, PayloadPart::Other);
         match token {
@@ -127,8 +127,8 @@ impl Walk {
         }
     }
 
-    /// Opens an object or a list of an operator's payload, in which unknown and duplicate fields
-    /// are found for warnings of `check` or `call`.
+    /// Opens an object or a list of an operator's payload. `check` of a script or `call` warns of
+    /// unknown and duplicate fields in it.
     fn begin(&mut self, part: PayloadPart) -> Result<(), AllocError> {
         self.open.push(OpenPart {
             part,
@@ -138,7 +138,7 @@ impl Walk {
     }
 
     /// Takes the next name in an object of an operator's payload. If it is unknown or a duplicate,
-    /// `check` or `call` warns of it.
+    /// `check` of a script or `call` warns of it.
     fn take_name(&mut self, name: &str) -> Result<(), AllocError> {
         let Some(open) = self.open.last_mut() else {
             return Ok(());
@@ -163,8 +163,8 @@ impl Walk {
         Ok(())
     }
 
-    /// Adds an unknown field of an operator's payload to those of which `check` or `call` warns,
-    /// unless there are too many.
+    /// Adds an unknown field of an operator's payload, for a warning of `check` on a script or of
+    /// `call`, unless there are too many.
     fn add_unknown(&mut self, known: &'static [FieldRow], name: &str) -> Result<(), AllocError> {
         if self.found.unknown.len() < MAX_REPORTED {
             let name = String::from_str(self.alloc, name)?;

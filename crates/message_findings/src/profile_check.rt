@@ -44,7 +44,7 @@ pub(crate) fn check_sent_profile(report: &mut Report, parts: ProfileParts) {
 }
 
 /// Makes a charging profile of the fields in an operator's message, or reports their refusal.
-/// Warns, for `check` or `call`, of fields without an effect.
+/// Warns, for `check` of a script or `call`, of fields without an effect.
 pub(crate) fn check_parts(report: &mut Report, parts: ProfileParts) -> Option<Profile> {
     // This comes first, since a profile drops the fields that have no effect.
     warn_dropped(report, &parts);
@@ -65,8 +65,8 @@ pub(crate) fn warn_never_rated(report: &mut Report, profile: &Profile) {
     }
 }
 
-/// Warns, for `check` or `call`, of fields in an operator's message that have no effect with the
-/// charging profile's purpose or kind.
+/// Warns, for `check` of a script or `call`, of fields in an operator's message that have no effect
+/// with the charging profile's purpose or kind.
 fn warn_dropped(report: &mut Report, parts: &ProfileParts) {
     let (purpose, id) = (parts.purpose, parts.id);
     if parts.transaction.is_some() && !matches!(purpose, Purpose::TxProfile) {
@@ -84,8 +84,8 @@ fn warn_dropped(report: &mut Report, parts: &ProfileParts) {
     }
 }
 
-/// Reports, for `check` or `call`, the refusal of a charging profile that isn't well formed, with
-/// the value at fault.
+/// Reports, for `check` of a script or `call`, the refusal of a charging profile that isn't well
+/// formed, with the value at fault.
 fn refuse_parts(report: &mut Report, refusal: Refusal, parts: &ProfileParts) {
     let alloc = report.alloc;
     let periods = parts.schedule.periods.as_slice();
@@ -98,8 +98,8 @@ fn refuse_parts(report: &mut Report, refusal: Refusal, parts: &ProfileParts) {
     reject_found(report, refusal, found);
 }
 
-/// Describes, for a fault of `check` or `call`, the first chargingSchedulePeriod in an operator's
-/// message that doesn't start later than the one before it.
+/// Describes, for `check` of a script or `call`, the first chargingSchedulePeriod of a profile that
+/// doesn't start later than the one before it.
 fn out_of_order(alloc: Global, periods: &[Period]) -> Result<String, AllocError> {
     let mut before: Option<u32> = None;
     for (index, period) in periods.iter().enumerate() {
@@ -116,7 +116,7 @@ fn out_of_order(alloc: Global, periods: &[Period]) -> Result<String, AllocError>
     Ok(String::new(alloc))
 }
 
-/// Warns, for `check` or `call`, of a TxProfile without a transactionId in an operator's message,
+/// Warns, for `check` of a script or `call`, of an operator's TxProfile without a transactionId,
 /// which the point may take for the next car.
 // The call may wait for the point until the transaction has ended, which doesn't cancel it.
 fn warn_transaction(report: &mut Report, profile: &Profile) {
@@ -129,8 +129,8 @@ fn warn_transaction(report: &mut Report, profile: &Profile) {
     }
 }
 
-/// Warns, for `check` or `call`, of an operator's profile that never lowers a limit, since the
-/// ceilings of the site file are below it.
+/// Warns, for `check` of a script or `call`, of an operator's profile that never lowers a limit:
+/// the ceilings of the site file are below it.
 pub(crate) fn warn_ceiling(
     report: &mut Report,
     text: &LineMessage<'_>,
@@ -148,8 +148,8 @@ pub(crate) fn warn_ceiling(
     }
 }
 
-/// Describes, for a warning of `check` or `call`, an operator's profile whose limits are all above
-/// this ceiling of the site file, in tenths.
+/// Describes, for `check` of a script or `call`, a profile whose limits are all above this ceiling
+/// of the site file, in tenths.
 fn ceiling_message(alloc: Global, ceiling: u32) -> Result<String, AllocError> {
     let ceiling = tenths_text(alloc, u64::from(ceiling))?;
     format!(in alloc;
@@ -157,9 +157,9 @@ fn ceiling_message(alloc: Global, ceiling: u32) -> Result<String, AllocError> {
     )
 }
 
-/// Returns, for a warning of `check` or `call`, the highest ceiling that an operator's profile
-/// could lower, in tenths. It is the point's for a ChargePointMaxProfile, otherwise the lesser of
-/// the point's and the connector's. At connector 0 the highest ceiling of a connector counts.
+/// Returns, for `check` of a script or `call`, the highest ceiling that an operator's profile could
+/// lower, in tenths. It is the point's for a ChargePointMaxProfile, otherwise the lesser of the
+/// point's and the connector's. At connector 0 the highest ceiling of a connector counts.
 fn highest_ceiling(point: SitePoint<'_>, connector: u32, purpose: Purpose) -> u32 {
     if matches!(purpose, Purpose::ChargePointMaxProfile) {
         return point.ceiling;
@@ -173,8 +173,8 @@ fn highest_ceiling(point: SitePoint<'_>, connector: u32, purpose: Purpose) -> u3
     highest.min(point.ceiling)
 }
 
-/// Warns, for `check` or `call`, of a charging profile in an operator's message that never sets a
-/// limit. Also warns if it sets none at times that probably weren't meant.
+/// Warns, for `check` of a script or `call`, of a charging profile in an operator's message that
+/// never sets a limit. Also warns if it sets none at times that probably weren't meant.
 pub(crate) fn warn_rates(report: &mut Report, moment: Instant, profile: &Profile) {
     if let Some(why) = never_rated(profile) {
         return report.warn_text_of(profile.purpose, profile.id, never_sentence(why));
@@ -194,8 +194,8 @@ pub(crate) fn warn_rates(report: &mut Report, moment: Instant, profile: &Profile
     }
 }
 
-/// Describes, for a warning of `check` or `call`, a profile in an operator's message whose validTo
-/// is over when it is installed.
+/// Describes, for a warning of `check` on a script or of `call`, an operator's profile whose
+/// validTo is over when it is installed.
 fn over_message(alloc: Global, end: Instant) -> Result<String, AllocError> {
     let end = instant_text(alloc, end)?;
     format!(in alloc;
@@ -203,8 +203,9 @@ fn over_message(alloc: Global, end: Instant) -> Result<String, AllocError> {
     )
 }
 
-/// Warns, for `check` or `call`, of the first chargingSchedulePeriod in an operator's message that
-/// starts at this offset or later, in seconds. The duration, the day or the week is over then.
+/// Warns, for `check` of a script or `call`, of the first chargingSchedulePeriod in an operator's
+/// message that starts at this offset or later, in seconds. The duration, the day or the week is
+/// over then.
 fn warn_past(report: &mut Report, profile: &Profile, whose: &str, end: u64) {
     for (index, period) in profile.schedule.periods.as_slice().iter().enumerate() {
         let start = period.start;
@@ -217,8 +218,8 @@ fn warn_past(report: &mut Report, profile: &Profile, whose: &str, end: u64) {
     }
 }
 
-/// Warns, for `check` or `call`, of a Daily or Weekly schedule in an operator's message: of its
-/// parts after its day or week, and of its gaps.
+/// Warns, for `check` of a script or `call`, of a Daily or Weekly schedule in an operator's
+/// message: of its parts after its day or week, and of its gaps.
 fn warn_recurrence(report: &mut Report, profile: &Profile, recurrency: Recurrency) {
     let length = recurrency.length();
     let unit = match recurrency {
@@ -239,8 +240,8 @@ fn warn_recurrence(report: &mut Report, profile: &Profile, recurrency: Recurrenc
     warn_gaps(report, profile, recurrency);
 }
 
-/// Warns, for `check` or `call`, of the gaps of a Daily or Weekly schedule in an operator's
-/// message: after its duration, and before its first period.
+/// Warns, for `check` of a script or `call`, of the gaps of a Daily or Weekly schedule in an
+/// operator's message: after its duration, and before its first period.
 fn warn_gaps(report: &mut Report, profile: &Profile, recurrency: Recurrency) {
     let length = recurrency.length();
     let end = profile.schedule.duration.map_or(length, u64::from);
@@ -255,7 +256,7 @@ fn warn_gaps(report: &mut Report, profile: &Profile, recurrency: Recurrency) {
     }
 }
 
-/// Warns, for `check` or `call`, that an operator's Daily or Weekly profile sets no limit between
+/// Warns, for `check` of a script or `call`, that a Daily or Weekly profile sets no limit between
 /// two offsets of its day or week.
 fn warn_gap(report: &mut Report, profile: &Profile, recurrency: Recurrency, from: u64, to: u64) {
     let Ok(when) = gap_text(report.alloc, profile, recurrency, from, to) else {
@@ -267,8 +268,8 @@ fn warn_gap(report: &mut Report, profile: &Profile, recurrency: Recurrency, from
     report.warn_of(profile.purpose, profile.id, message);
 }
 
-/// Describes, for a warning of `check` or `call`, the time of each day or week in which an
-/// operator's Recurring profile sets no limit. Writes times of the clock if those are known,
+/// Describes, for a warning of `check` on a script or of `call`, when an operator's Recurring
+/// profile sets no limit in each day or week. Writes times of the clock if those are known,
 /// otherwise offsets in seconds.
 fn gap_text(
     alloc: Global,
@@ -288,9 +289,9 @@ fn gap_text(
     }
 }
 
-/// Describes, for a warning of `check` or `call`, when an operator's Daily profile sets no limit
-/// each day. Two offsets from its startSchedule say it. None if one of them lies after the
-/// calendar.
+/// Describes, for a warning of `check` on a script or of `call`, when an operator's Daily profile
+/// sets no limit each day. Two offsets from its startSchedule say it. None if one of them lies
+/// after the calendar.
 fn clock_text(
     alloc: Global,
     start: Instant,
@@ -313,7 +314,7 @@ fn clock_text(
 }
 
 /// Returns the hour and the minute in the text of an instant, and the second unless it is 0. A
-/// warning of `check` or `call` about a Daily profile has them.
+/// warning of `check` on a script or of `call` about a Daily profile has them.
 fn time_in(instant: &str) -> Option<&str> {
     let (_, time) = instant.split_once('T')?;
     let time = time.strip_suffix('Z')?;

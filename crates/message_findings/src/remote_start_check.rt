@@ -52,7 +52,7 @@ pub(crate) fn check_sent_start(report: &mut Report, start: RemoteStartTransactio
 }
 
 /// Makes the charging profile of a RemoteStartTransaction, or reports its refusal. Warns, for
-/// `check` or `call`, of fields without an effect.
+/// `check` of a script or `call`, of fields without an effect.
 fn check_start_profile(report: &mut Report, parts: ProfileParts) -> Option<Profile> {
     if parts.transaction.is_some() {
         let message =

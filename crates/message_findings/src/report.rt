@@ -39,7 +39,8 @@ impl Report {
         }
     }
 
-    /// Takes the findings of `check` or `call` in messages so far, unless an allocation failed.
+    /// Takes the findings of `check` in a script or of `call` in messages so far, unless an
+    /// allocation failed.
     pub(crate) fn take_findings(&mut self) -> Result<Vec<Finding>, AllocError> {
         if self.is_short {
             return Err(AllocError);
@@ -47,7 +48,8 @@ impl Report {
         Ok(mem::replace(&mut self.findings, Vec::new(self.alloc)))
     }
 
-    /// Notes that an allocation for a finding of `check` or `call` in a message failed elsewhere.
+    /// Notes that an allocation for a finding of `check` in a script or of `call` in a message
+    /// failed elsewhere.
     pub(crate) fn fail(&mut self) {
         self.is_short = true;
     }
@@ -80,8 +82,8 @@ impl Report {
         self.add(Severity::Warning, message);
     }
 
-    /// Adds a warning of a charging profile in a message to the findings of `check` or `call`. It
-    /// names the purpose and the chargingProfileId.
+    /// Adds a warning of a charging profile in a message to the findings of `check` in a script or
+    /// of `call`. It names the purpose and the chargingProfileId.
     pub(crate) fn warn_of(
         &mut self,
         purpose: Purpose,
@@ -94,8 +96,8 @@ impl Report {
         }
     }
 
-    /// Adds a warning of a charging profile in a message to the findings of `check` or `call`. Does
-    /// so like `warn_of`, with a copy of this text about the profile.
+    /// Adds a warning of a charging profile in a message to the findings of `check` in a script or
+    /// of `call`. Does so like `warn_of`, with a copy of this text about the profile.
     pub(crate) fn warn_text_of(&mut self, purpose: Purpose, id: i32, message: &str) {
         let purpose = purpose_name(purpose);
         self.warn(format!(in self.alloc; "{purpose} {id}: {message}"));

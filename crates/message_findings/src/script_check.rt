@@ -132,8 +132,8 @@ impl ScriptCheck {
         }
     }
 
-    /// Follows, for the findings of `check` or `call` in messages, the effect of an event on the
-    /// waiting remote starts of its point. Without memory for it the report fails.
+    /// Follows, for the findings of `check` in a script or of `call`, how an event changes the
+    /// waiting remote starts of its point. Without memory for that the report fails.
     fn change_of_starts(&mut self, machine: &Machine, event: &Event<'_>) -> StartsChange {
         match self.starts.follow(machine, event) {
             Ok(change) => change,

@@ -60,8 +60,8 @@ fn check_frame(report: &mut Report, text: &LineMessage<'_>, frame: Frame<'_>) {
     }
 }
 
-/// Returns, for a warning of `check`, the status in a point's reply to a call of this action, if
-/// the call isn't done by it.
+/// Returns, for `check` of a script or a journal, the status in a point's reply to a call of this
+/// action. None if the point did the call.
 fn unaccepted_status<'memory>(
     action: ActionKind,
     payload: Node<'_, 'memory>,
@@ -163,8 +163,8 @@ pub(crate) fn why_dropped(
     }
 }
 
-/// Describes, for `check` or `call`, where a frame of OCPP-J stops being JSON, with the column in
-/// its line.
+/// Describes, for `check` of a script or `call`, where a frame of OCPP-J stops being JSON, with the
+/// column in its line.
 fn broken_at(alloc: Global, frame: &str, before: usize) -> Result<String, AllocError> {
     let fault = first_break(alloc, frame)?;
     let good = frame.get(..fault.offset).unwrap_or(frame);
@@ -174,7 +174,7 @@ fn broken_at(alloc: Global, frame: &str, before: usize) -> Result<String, AllocE
     format!(in alloc; "its JSON breaks at column {column}, where {fault}")
 }
 
-/// Returns, for `check` or `call`, the reason why a JSON text is no message of OCPP-J, such as a
+/// Returns, for `check` of a script or `call`, why a JSON text is no message of OCPP-J, such as a
 /// wrong first element or id.
 fn why_no_message(root: Node<'_, '_>) -> &'static str {
     let Some(entries) = root.list() else {

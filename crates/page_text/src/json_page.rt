@@ -163,15 +163,15 @@ impl JsonPage {
         Ok(text)
     }
 
-    /// Appends the key of a field to a JSON text, which is the output of `explain --json` or `show
-    /// --json`, or the status port's JSON.
+    /// Appends the key of a field to a JSON text that is written piece by piece, for `explain
+    /// --json`, `show --json` and the status port's JSON.
     fn key(&mut self, key: &str) {
         let written = self.out.key(key);
         self.keep(written);
     }
 
-    /// Appends a string value to a JSON text, which is the output of `explain --json` or `show
-    /// --json`, or the status port's JSON.
+    /// Appends a string value to a JSON text that is written piece by piece, for `explain --json`,
+    /// `show --json` and the status port's JSON.
     fn string(&mut self, text: &str) {
         let written = self.out.string(text);
         self.keep(written);
@@ -183,8 +183,8 @@ impl JsonPage {
         self.is_short = self.is_short || written.is_err();
     }
 
-    /// Copies the values and fields of a JSON text token by token into the one being written, the
-    /// output of `show --json`, since the writer takes no raw text.
+    /// Copies the values and fields of a JSON text token by token into the one being written piece
+    /// by piece for `show --json`. The writer takes no raw text.
     fn copy_tokens(&mut self, text: &str) -> Result<(), AllocError> {
         let mut scratch = Scratch::new(self.alloc);
         let mut reader = Reader::new(text, &mut scratch)?;

@@ -98,8 +98,8 @@ fn named(alloc: Global, profile: PrevailingProfile) -> Result<String, AllocError
     format!(in alloc; "{purpose} {id} (stack level {level}, at connector {connector})")
 }
 
-/// Returns whether a message is a ClearChargingProfile with criteria but no id or purpose. `check`
-/// or `call` then warns of each fuse limit that it removed.
+/// Returns whether a message is a ClearChargingProfile with criteria but no id or purpose. If so,
+/// `check` or `call` reports each fuse limit among the point's profiles that it removed.
 // A clear by connectorId or stackLevel matches profiles of each purpose, fuse limits among them.
 fn clears_at_large(alloc: Global, text: &str) -> Result<bool, AllocError> {
     let mut memory = ReadingMemory::new(alloc);
@@ -110,8 +110,8 @@ fn clears_at_large(alloc: Global, text: &str) -> Result<bool, AllocError> {
     }
 }
 
-/// Returns whether a frame is a ClearChargingProfile with criteria but no id or purpose. `check` or
-/// `call` then warns of each fuse limit that it removed.
+/// Returns whether a frame is a ClearChargingProfile with criteria but no id or purpose. If so,
+/// `check` or `call` reports each fuse limit among the point's profiles that it removed.
 fn is_clear_at_large(alloc: Global, frame: Frame<'_>) -> Result<bool, AllocError> {
     match frame {
         Frame::Call {
@@ -127,7 +127,7 @@ fn is_clear_at_large(alloc: Global, frame: Frame<'_>) -> Result<bool, AllocError
 }
 
 /// Returns whether the payload of a ClearChargingProfile has criteria but neither id nor purpose.
-/// `check` or `call` then warns of each fuse limit that it removed.
+/// If so, `check` or `call` reports each fuse limit among the point's profiles that it removed.
 fn has_large_criteria(alloc: Global, payload: Node<'_, '_>) -> Result<bool, AllocError> {
     match read_fields(alloc, ActionKind::ClearChargingProfile, payload) {
         Ok(Action::ClearChargingProfile(criteria)) => Ok(is_at_large(&criteria)),
@@ -136,8 +136,8 @@ fn has_large_criteria(alloc: Global, payload: Node<'_, '_>) -> Result<bool, Allo
     }
 }
 
-/// Returns whether a ClearChargingProfile has criteria but neither id nor purpose, so that `check`
-/// or `call` warns of each fuse limit that it removed.
+/// Returns whether a ClearChargingProfile has criteria but neither id nor purpose. If so, `check`
+/// or `call` reports each fuse limit among the point's profiles that it removed.
 // A clear without any has a warning of its own.
 fn is_at_large(criteria: &Criteria) -> bool {
     criteria.id.is_none() && criteria.purpose.is_none() && !has_no_criterion(criteria)

@@ -72,8 +72,8 @@ impl HistoryCheck {
         self.check_change(machine, event)
     }
 
-    /// Adds to the findings of `check` or `call` those in the change that an event made to the
-    /// profiles of its point.
+    /// Adds to the findings that `check` or `call` collects, event by event, those in the change
+    /// that an event made to its point's profiles.
     fn check_change(&mut self, machine: &Machine, event: &Event<'_>) -> Result<(), AllocError> {
         let Some(changed) = self.rows.read(machine, event)? else {
             return Ok(());
@@ -109,7 +109,8 @@ impl HistoryCheck {
     }
 }
 
-/// Returns the findings of `check` or `call` in the profiles that the point of this identity has.
+/// Returns the findings in the profiles of the point of this identity. `check` collects them for
+/// each point of the site at the end, `call` before and after a call.
 pub(crate) fn find_at_point(
     alloc: Global,
     machine: &Machine,
