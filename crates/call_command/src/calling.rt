@@ -143,7 +143,8 @@ fn check_point_of_url(alloc: Global, calling: Calling<'_>) -> Result<(), Program
     Ok(())
 }
 
-/// Returns the undo of the journal's line that `call --undo` requests, if that option is given.
+/// Returns the undo of a journal's line that the command `call --undo` requests, if that option is
+/// given.
 fn undo_in<R: Files<File = File> + Clock + Eprint + AllocGlobal>(
     rt: &R,
     calling: Calling<'_>,

@@ -74,8 +74,9 @@ impl RowAtConnector<'_> {
         self.row.profile.anchor(self.base_of(self.row))
     }
 
-    /// Returns until when an installed profile's schedule stays past its duration, if it is so at
-    /// `instant`. `explain`'s pages may give this as the reason why it never sets the limit.
+    /// Returns the instant until which an installed profile's schedule stays past its duration, if
+    /// it is so at `instant`. `explain`'s pages may give this as the reason why it never sets the
+    /// limit.
     pub(crate) fn over_until(&self, instant: Instant) -> Option<u64>
         ensures { IfSome result (IsSoUntil (Holds PastDuration self.now) instant) }
     {
@@ -89,8 +90,8 @@ impl RowAtConnector<'_> {
         Some(counts_on_until(profile, base, instant, offset))
     }
 
-    /// Returns until when no period of an installed profile has begun, if none has at `instant`.
-    /// `explain`'s pages may give this as the reason why it never sets the limit.
+    /// Returns the instant until which no period of an installed profile has begun, if none has at
+    /// `instant`. `explain`'s pages may give this as the reason why it never sets the limit.
     pub(crate) fn ahead_until(&self, instant: Instant) -> Option<u64>
         ensures { IfSome result (IsSoUntil (Holds BeforeFirstPeriod self.now) instant) }
     {
@@ -111,9 +112,9 @@ impl RowAtConnector<'_> {
         }
     }
 
-    /// Returns until when a profile of the same purpose and a higher stack level precedes an
-    /// installed one, if one does. `explain`'s pages may give this as the reason why the latter
-    /// never sets the limit.
+    /// Returns the instant until which a profile of the same purpose and a higher stack level
+    /// precedes an installed one, if one does. `explain`'s pages may say that the latter never sets
+    /// the limit because of it.
     pub(crate) fn above_until(&self, instant: Instant) -> Option<u64>
         ensures { IfSome result (IsSoUntil (Holds BelowHigherLevel self.now) instant) }
     {
@@ -121,8 +122,9 @@ impl RowAtConnector<'_> {
         self.other_until(profile.purpose, profile.stack_level + 1, instant)
     }
 
-    /// Returns until when a TxProfile with a limit precedes an installed TxDefaultProfile, if one
-    /// does. `explain`'s pages may give this as the reason why the latter never sets the limit.
+    /// Returns the instant until which a TxProfile with a limit precedes an installed
+    /// TxDefaultProfile, if one does. `explain`'s pages may say that the latter never sets the
+    /// limit because of it.
     pub(crate) fn tx_until(&self, instant: Instant) -> Option<u64>
         ensures { IfSome result (IsSoUntil (Holds BehindTxProfile self.now) instant) }
     {
@@ -132,8 +134,8 @@ impl RowAtConnector<'_> {
         }
     }
 
-    /// Returns until when a profile of a purpose at the stack level `least` or above has a limit,
-    /// if one has. It may precede a profile of which `explain`'s pages say that it never sets the
+    /// Returns the instant until which a profile of a purpose at the stack level `least` or above
+    /// has a limit, if one has. It may precede one that, by `explain`'s pages, never sets the
     /// limit.
     fn other_until(&self, purpose: Purpose, least: u32, instant: Instant) -> Option<u64>
         ensures { IfSome result (IsSoUntil (λ k. Reaches least (prevailing_row purpose
@@ -156,8 +158,8 @@ impl RowAtConnector<'_> {
     }
 }
 
-/// Returns until when a reason for `explain`'s pages holds by which a profile never sets the limit.
-/// It is the end of time if the reason always holds, and `None` if it never does.
+/// Returns the instant until which a reason on `explain`'s pages holds, why a profile never sets
+/// the limit. It is the end of time if the reason always holds, and `None` if it never does.
 pub(crate) fn always(holds: bool) -> Option<u64>
     ensures { result ≡ (if holds then Some (last_second + 1) else None) }
 {
@@ -177,8 +179,8 @@ pub(crate) fn before(bound: Option<Instant>, instant: Instant) -> Option<u64>
     }
 }
 
-/// Returns until when a profile keeps the limit that it has at `instant`, or keeps having none. The
-/// reasons on `explain`'s pages why a profile never sets the limit need it.
+/// Returns the instant until which a profile keeps the limit that it has at `instant`, or keeps
+/// having none. The reasons on `explain`'s pages why a profile never sets the limit need it.
 pub(crate) fn rate_until(profile: &Profile, base: Instant, instant: Instant) -> u64
     ensures { IsSoUntil
         (λ k. rate profile.now base k ≡ rate profile.now base instant) instant result }
@@ -189,8 +191,8 @@ pub(crate) fn rate_until(profile: &Profile, base: Instant, instant: Instant) -> 
     }
 }
 
-/// Returns an instant until which a profile with a limit keeps having one; it may have one for
-/// longer. So long it precedes one of which `explain`'s pages say that it never sets the limit.
+/// Returns an instant until which a profile with a limit keeps having one, though it may for
+/// longer. The reasons on `explain`'s pages why another never sets the limit need it.
 fn limit_until(profile: &Profile, base: Instant, instant: Instant) -> u64
     requires { is_some (rate profile.now base instant) ≡ true }
     ensures { IsSoUntil (λ k. is_some (rate profile.now base k) ≡ true) instant result }
@@ -215,8 +217,9 @@ fn valid_until(profile: &Profile, instant: Instant) -> u64
     }
 }
 
-/// Returns until when a schedule counts on from its offset at `instant`; a recurring one then
-/// begins again. The reasons on `explain`'s pages why a profile never sets the limit need it.
+/// Returns the instant until which a schedule counts on from its offset at `instant`; a recurring
+/// one then begins again. The reasons on `explain`'s pages why a profile never sets the limit need
+/// it.
 fn counts_on_until(profile: &Profile, base: Instant, instant: Instant, at: u64) -> u64
     requires { offset profile.now base instant ≡ Some at }
     ensures { IsSoUntil

@@ -33,8 +33,8 @@ impl RowInRequest<'_> {
         None
     }
 
-    /// Returns the first second at which a reason for `explain`'s pages fails by which a profile
-    /// never sets the limit. Takes the first connector where it fails.
+    /// Returns the first second at which a reason why a profile never sets the limit fails, for
+    /// `explain`'s pages. Takes the first connector where it fails.
     pub(crate) fn first_failing(&self, reason: NotCountedReason) -> Option<Instant>
         ensures { FoundFailing reason self.now result }
     {
@@ -55,9 +55,9 @@ impl RowInRequest<'_> {
         None
     }
 
-    /// Returns whether a reason for `explain`'s pages by which a profile never sets the limit holds
-    /// at each second, for each connector. If `BehindOthers` doesn't, the profile prevails at some
-    /// second.
+    /// Returns whether a reason why a profile never sets the limit holds at each second for each
+    /// connector. Then `explain`'s pages may give it. If `BehindOthers` doesn't, the profile
+    /// prevails at some second.
     pub(crate) fn is_throughout(&self, reason: NotCountedReason) -> bool
         ensures { MatchBool result (IsThroughout reason self.now) (FailsSomewhere reason self.now) }
     {

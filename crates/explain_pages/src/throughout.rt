@@ -12,9 +12,8 @@ use ocpp_scalars::Instant;
 use recurrence::rate_at;
 
 impl RowAtConnector<'_> {
-    /// Returns the first second of the request at which a reason for `explain`'s pages fails by
-    /// which a profile never sets the limit, if any. Where `BehindOthers` fails, the profile
-    /// prevails.
+    /// Returns the first second of the request at which a reason why a profile never sets the limit
+    /// fails, if any, for `explain`'s pages. Where `BehindOthers` fails, the profile prevails.
     pub(crate) fn first_failing(&self, reason: NotCountedReason) -> Option<Instant>
         ensures { FirstFailing reason self.now result }
     {
@@ -33,8 +32,8 @@ impl RowAtConnector<'_> {
         None
     }
 
-    /// Returns until when a reason for `explain`'s pages holds by which a profile never sets the
-    /// limit, if it holds at an instant.
+    /// Returns the instant until which a reason why a profile never sets the limit holds, for
+    /// `explain`'s pages, if it holds at `instant`.
     fn says_until(&self, reason: NotCountedReason, instant: Instant) -> Option<u64>
         ensures { MatchOption result (Fails reason self.now instant)
             (IsSoUntil (Says reason self.now) instant) }
@@ -48,8 +47,8 @@ impl RowAtConnector<'_> {
         }
     }
 
-    /// Returns until when an installed profile has no limit, if it has none at an instant.
-    /// `explain`'s pages may give this as the reason why it never sets the limit.
+    /// Returns the instant until which an installed profile has no limit, if it has none at
+    /// `instant`. `explain`'s pages may give this as the reason why it never sets the limit.
     fn no_limit_until(&self, instant: Instant) -> Option<u64>
         ensures { IfSome result (IsSoUntil (Says NoLimit self.now) instant) }
     {
@@ -60,9 +59,9 @@ impl RowAtConnector<'_> {
         }
     }
 
-    /// Returns until when an installed profile has no limit or others precede it, or `None` if it
-    /// prevails at an instant. `explain`'s pages may give this as the reason why it never sets the
-    /// limit.
+    /// Returns the instant until which an installed profile has no limit or others precede it, or
+    /// `None` if it prevails at `instant`. `explain`'s pages may give this as the reason why it
+    /// never sets the limit.
     fn behind_until(&self, instant: Instant) -> Option<u64>
         ensures { MatchOption result (Fails BehindOthers self.now instant)
             (IsSoUntil (Says BehindOthers self.now) instant) }
@@ -86,8 +85,9 @@ impl RowAtConnector<'_> {
         }
     }
 
-    /// Returns until when others precede an installed profile for a reason, if one holds at an
-    /// instant. `explain`'s pages may give it as the reason why the profile never sets the limit.
+    /// Returns the instant until which a reason holds for which others precede an installed
+    /// profile, if one holds at `instant`. `explain`'s pages may say that the profile never sets
+    /// the limit because of it.
     fn others_until(&self, instant: Instant) -> Option<u64>
         ensures { IfSome result (IsSoUntil (Says BehindOthers self.now) instant) }
     {
@@ -100,9 +100,9 @@ impl RowAtConnector<'_> {
         self.holds_until(WhyNot::BehindTxProfile, instant)
     }
 
-    /// Returns until when a reason why an installed profile doesn't prevail holds, if it holds at
-    /// an instant. `explain`'s pages may give it as the reason why the profile never sets the
-    /// limit.
+    /// Returns the instant until which a reason why an installed profile doesn't prevail holds, if
+    /// it holds at `instant`. `explain`'s pages may say that the profile never sets the limit
+    /// because of it.
     fn holds_until(&self, why: WhyNot, instant: Instant) -> Option<u64>
         ensures { IfSome result (IsSoUntil (Holds why self.now) instant) }
     {

@@ -289,9 +289,9 @@ fn gap_text(
     }
 }
 
-/// Describes, for a warning of `check` on a script or of `call`, when an operator's Daily profile
-/// sets no limit each day. Two offsets from its startSchedule say it. None if one of them lies
-/// after the calendar.
+/// Describes when an operator's Daily profile sets no limit each day, between two offsets from its
+/// startSchedule. `check` of a script or `call` warns of that. None if one offset leads past the
+/// calendar.
 fn clock_text(
     alloc: Global,
     start: Instant,

@@ -83,8 +83,8 @@ impl PendingRemoteStarts {
         known.follow(alloc, machine, event)
     }
 
-    /// Returns the remote starts that wait at the point at this index of the site. They are as of
-    /// the events of a script or a journal that `check` or `call` followed so far.
+    /// Returns the remote starts that wait at the point at this index of the site, after the events
+    /// of a script or a journal that `check` or `call` has followed.
     fn known(&mut self, place: usize) -> Result<Option<&mut PointStarts>, AllocError> {
         for _place in self.points.len()..place.saturating_add(1) {
             self.points.push(PointStarts {
