@@ -40,7 +40,7 @@ pub fn check_site(alloc: Global, bytes: &[u8]) -> Result<Vec<Finding>, AllocErro
     }
 }
 
-/// Returns a list of one finding, which ends the check of a site file by `check`.
+/// Returns a list of the one finding with which `check` of a site file ends.
 fn alone(alloc: Global, finding: Finding) -> Result<Vec<Finding>, AllocError> {
     let mut findings = Vec::new(alloc);
     findings.push(finding)?;

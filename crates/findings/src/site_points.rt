@@ -49,8 +49,7 @@ struct Connectors {
 }
 
 impl CheckedPoints {
-    /// Begins the check of a site file's points by `check`, before the first point, without
-    /// findings.
+    /// Begins the findings of `check` in a site file's points, before the first point.
     pub(crate) fn new(alloc: Global) -> CheckedPoints {
         CheckedPoints {
             alloc,

@@ -15,8 +15,8 @@ pub(crate) struct JudgedAudit {
     pub outcome: AuditOutcome,
 }
 
-/// Returns a point's last audit (a GetCompositeSchedule to compare) after its reply confirmed a
-/// call. `check` reports a finding about that reply in a script or a journal.
+/// Returns a point's last audit (a GetCompositeSchedule to compare) after a reply of the point
+/// confirmed a call. `check` reports a finding about that reply in a script or a journal.
 // That may be another call than the audit's, so its number is compared with the reply's id later.
 pub(crate) fn judged_audit(machine: &Machine, point: &str) -> Option<JudgedAudit> {
     let audit = machine.audit_of(point)?;

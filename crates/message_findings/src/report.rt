@@ -39,8 +39,8 @@ impl Report {
         }
     }
 
-    /// Takes the findings of `check` or `call` so far, in messages of a script or a journal or in
-    /// one to be sent, unless an allocation failed.
+    /// Takes the findings of `check` or `call` so far, in a script, a journal or a message to be
+    /// sent, unless an allocation failed.
     pub(crate) fn take_findings(&mut self) -> Result<Vec<Finding>, AllocError> {
         if self.is_short {
             return Err(AllocError);
@@ -48,8 +48,8 @@ impl Report {
         Ok(mem::replace(&mut self.findings, Vec::new(self.alloc)))
     }
 
-    /// Notes that an allocation failed elsewhere for a finding of `check` or `call` in a message of
-    /// a script or a journal, or in one to be sent.
+    /// Notes that an allocation failed elsewhere for a finding of `check` or `call` in a script, a
+    /// journal or a message to be sent.
     pub(crate) fn fail(&mut self) {
         self.is_short = true;
     }

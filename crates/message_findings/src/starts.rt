@@ -83,8 +83,8 @@ impl PendingRemoteStarts {
         known.follow(alloc, machine, event)
     }
 
-    /// Returns the remote starts that wait at the point at this index of the site, after the events
-    /// of a script or a journal that `check` or `call` has followed.
+    /// Returns the remote starts that wait at the point at this index of the site. `check` or
+    /// `call` has followed the events of a script or a journal so far.
     fn known(&mut self, place: usize) -> Result<Option<&mut PointStarts>, AllocError> {
         for _place in self.points.len()..place.saturating_add(1) {
             self.points.push(PointStarts {
@@ -155,8 +155,8 @@ fn known_starts(
     Ok(starts)
 }
 
-/// Returns, for `check` of a script or a journal, the remote start that a transaction ended at its
-/// point without installing the start's profile, if any.
+/// Returns the remote start that a transaction ended at its point without installing the start's
+/// profile, if any, for `check` of a script or a journal.
 fn ended_start(
     alloc: Global,
     known: &PointStarts,

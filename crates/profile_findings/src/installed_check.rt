@@ -118,8 +118,8 @@ fn excess_finding(
     Ok(Some(finding_at_end(alloc, severity, point, message)?))
 }
 
-/// Makes a finding of `check` or `call` in the profiles that the point of this identity has after
-/// the script, the journal or a call to be sent.
+/// Makes a finding of `check` or `call` in the profiles of the point of this identity after a
+/// script, a journal or a call to be sent.
 fn finding_at_end(
     alloc: Global,
     severity: Severity,
