@@ -34,8 +34,8 @@ pub fn call_site<R: ClientRuntime + Files<File = File> + Input>(
     Ok(caller.status())
 }
 
-/// Sends the calls of `call`'s options to their points. Returns the exit status by what came of
-/// them at the points, if the replies are awaited.
+/// Sends the calls of the command `call`'s options to the central system, each for its points.
+/// Returns the exit status by what the points replied, if `call` waits for that.
 fn send_given<R: ClientRuntime + Files<File = File>>(
     caller: &mut Caller<'_, R>,
     calling: Calling<'_>,
@@ -48,8 +48,8 @@ fn send_given<R: ClientRuntime + Files<File = File>>(
     say_outcomes(caller.rt, calling, visits.as_slice())
 }
 
-/// Returns the calls of `call`'s options, those of an undo first. Leaves out faulty ones, and
-/// prints why.
+/// Returns the calls that the options of the command `call` give, those of an undo first. Leaves
+/// out faulty ones, and prints why.
 fn calls_of<R: Files<File = File> + Print + Eprint + AllocGlobal>(
     caller: &mut Caller<'_, R>,
     calling: Calling<'_>,
@@ -60,7 +60,7 @@ fn calls_of<R: Files<File = File> + Print + Eprint + AllocGlobal>(
     Ok(caller.passed(given)?)
 }
 
-/// Returns the options of `call` for sending messages. Reads the login from its file.
+/// Returns the options of the command `call` for sending messages. Reads the login from its file.
 fn send_options<'a, R: Files<File = File> + Eprint + AllocGlobal>(
     rt: &R,
     calling: Calling<'a>,
@@ -73,7 +73,7 @@ fn send_options<'a, R: Files<File = File> + Eprint + AllocGlobal>(
     })
 }
 
-/// Returns the site of `call`'s site file, if one is named.
+/// Returns the site of the site file that the options of the command `call` name, if they name one.
 fn site_in<R: Files<File = File> + Eprint + AllocGlobal>(
     rt: &R,
     calling: Calling<'_>,
@@ -84,8 +84,8 @@ fn site_in<R: Files<File = File> + Eprint + AllocGlobal>(
     }
 }
 
-/// Returns which calls of `call` go to which points: that of the undone line or of the URL, or all.
-/// Leaves out calls that are held back, and prints why.
+/// Returns which calls the command `call` sends for which points: that of the undone line or of the
+/// URL, or all. Leaves out calls that are held back, and prints why.
 fn visits_of<R: Files<File = File> + Clock + Print + Eprint + AllocGlobal>(
     caller: &mut Caller<'_, R>,
     calling: Calling<'_>,
@@ -107,7 +107,8 @@ fn visits_of<R: Files<File = File> + Clock + Print + Eprint + AllocGlobal>(
     Ok(visits)
 }
 
-/// Refuses a URL of `call` that can't be an operator's, and options without those that they need.
+/// Refuses a URL of the command `call` that can't be an operator's, and options without those that
+/// they need.
 fn check_url(alloc: Global, calling: Calling<'_>) -> Result<(), ProgramFault> {
     let wants_site = calling.all || calling.folder.is_some();
     if wants_site != calling.site.is_some() {
@@ -125,7 +126,8 @@ fn check_url(alloc: Global, calling: Calling<'_>) -> Result<(), ProgramFault> {
     check_point_of_url(alloc, calling)
 }
 
-/// Refuses a URL of `call` that isn't an operator's, or that of one point if the calls go to all.
+/// Refuses a URL of the command `call` that isn't an operator's, or that of one point if the calls
+/// go to all.
 fn check_point_of_url(alloc: Global, calling: Calling<'_>) -> Result<(), ProgramFault> {
     // An undo has its point from the line, so its URL may lack the identity.
     let lacks_point = calling.all || calling.undo.is_some() && is_without_point(calling.url);
@@ -141,7 +143,8 @@ fn check_point_of_url(alloc: Global, calling: Calling<'_>) -> Result<(), Program
     Ok(())
 }
 
-/// Returns the undo of the journal's line that `--undo` requests, if there is one.
+/// Returns the undo of a journal's line that the command `call --undo` requests, if that option is
+/// given.
 fn undo_in<R: Files<File = File> + Clock + Eprint + AllocGlobal>(
     rt: &R,
     calling: Calling<'_>,
@@ -155,7 +158,8 @@ fn undo_in<R: Files<File = File> + Clock + Eprint + AllocGlobal>(
     Ok(Some(undo_of(rt, folder, site, number)?))
 }
 
-/// Takes the calls to a charge point out of an undo that `call --undo` requests, if there is one.
+/// Takes the calls out of the undo that the command `call --undo` requests, if there is one. They
+/// are sent before those of the other options.
 fn undo_calls(alloc: Global, undo: &mut Option<Undo>) -> Vec<GivenCall> {
     match undo {
         Some(undo) => mem::replace(&mut undo.calls, Vec::new(alloc)),
@@ -163,7 +167,8 @@ fn undo_calls(alloc: Global, undo: &mut Option<Undo>) -> Vec<GivenCall> {
     }
 }
 
-/// Returns the points to which `call` sends this many calls: all of the site, or that of the URL.
+/// Returns the points for which the command `call` sends this many calls: all of the site, or that
+/// of the URL.
 fn plain_visits(
     alloc: Global,
     calling: Calling<'_>,
@@ -180,8 +185,8 @@ fn plain_visits(
     }
 }
 
-/// Returns the visit by which `call` sends the calls of an undo to the point of the undone line.
-/// The operator's URL lacks its identity, or has it.
+/// Returns the visit by which the command `call --undo` sends its calls for the point of the undone
+/// line. Refuses an operator's URL that names another point.
 fn undo_visit(
     alloc: Global,
     url: &str,

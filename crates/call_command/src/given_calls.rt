@@ -34,14 +34,16 @@ pub fn given_calls<R: Files<File = File> + Eprint + AllocGlobal>(
     Ok(calls)
 }
 
-/// Returns the ClearChargingProfile that an operator sends by `call`, with this payload.
+/// Returns the ClearChargingProfile that the option `--clear` of the command `call` sends, with
+/// this payload.
 fn clear_of(alloc: Global, payload: &str) -> Result<GivenCall, AllocError> {
     let frame = clear_call(alloc, payload)?;
     let payload = String::from_str(alloc, payload)?;
     Ok(GivenCall::with_json("clear", payload, frame))
 }
 
-/// Returns the SetChargingProfile that an operator sends by `call`, with the payload of a file.
+/// Returns the SetChargingProfile that the option `--set-profile` of the command `call` sends, with
+/// the payload of a file.
 fn set_profile_of<R: Files<File = File> + Eprint + AllocGlobal>(
     rt: &R,
     path: &str,
@@ -51,8 +53,8 @@ fn set_profile_of<R: Files<File = File> + Eprint + AllocGlobal>(
     Ok(GivenCall::with_json("set-profile", payload, frame))
 }
 
-/// Adds the operator's calls by the options `--ask`, `--audit` and `--status` of `call`, which
-/// change nothing.
+/// Adds the operator's calls by the options `--ask`, `--audit` and `--status` of the command
+/// `call`, which change nothing.
 fn push_questions(
     alloc: Global,
     calling: Calling<'_>,
@@ -73,7 +75,8 @@ fn push_questions(
     Ok(())
 }
 
-/// Returns the number of the connector at which a transaction is to start by `--remote-start`.
+/// Returns the number of the connector at which the option `--remote-start` of the command `call`
+/// requests a transaction.
 fn connector_of(starting: Starting<'_>) -> Result<u32, ProgramFault> {
     match starting.connector.parse::<u32>() {
         Ok(connector) => Ok(connector),
@@ -81,8 +84,8 @@ fn connector_of(starting: Starting<'_>) -> Result<u32, ProgramFault> {
     }
 }
 
-/// Returns an operator's RemoteStartTransaction at a connector, with the profile of its file if one
-/// is given.
+/// Returns the RemoteStartTransaction that the option `--remote-start` of the command `call` sends,
+/// with the profile of its file if one is given.
 fn remote_start_of<R: Files<File = File> + Eprint + AllocGlobal>(
     rt: &R,
     connector: u32,

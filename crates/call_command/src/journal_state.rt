@@ -8,8 +8,8 @@ use std::alloc::AllocGlobal;
 use std::fs::File;
 use std::rt::{Clock, Files};
 
-/// Follows the journal of a folder on a site, and lets a reader read its events. Returns the state
-/// at its end. Prints only the progress.
+/// Follows the journal of a folder on a site for the command `call --data`, and lets a reader read
+/// its events. Returns the state at its end. Prints only the progress.
 pub(crate) fn state_of_journal<
     R: Files<File = File> + Clock + Eprint + AllocGlobal,
     E: EventReader,

@@ -28,7 +28,8 @@ pub(crate) struct OutcomeReader<'a, R> {
 
 impl<'a, R: Clock> OutcomeReader<'a, R> {
     /// Returns a reader before the first event of the journal, for a site of this many points. It
-    /// waits this many seconds at most for the replies to the calls of `call`.
+    /// waits this many seconds at most for the points' replies to the calls of the command `call
+    /// --wait`.
     pub(crate) fn new(
         rt: &'a R,
         alloc: Global,
@@ -46,8 +47,8 @@ impl<'a, R: Clock> OutcomeReader<'a, R> {
         })
     }
 
-    /// Records the numbers of the calls that `call` has sent: they are in the journal before they
-    /// are answered.
+    /// Records the number after the last call to each visited point, so that `call --wait` knows
+    /// its calls. The journal has these before the central system answers the command `call`.
     fn note_ends(&mut self, machine: &Machine) {
         let visits = self.visits;
         for visit in visits.iter().skip(self.ends.len()) {
@@ -61,8 +62,8 @@ impl<'a, R: Clock> OutcomeReader<'a, R> {
         }
     }
 
-    /// Returns whether the point of the visit at this index hasn't replied to all its calls. There
-    /// is none if what was sent, such as a PointStatus, adds no call to the point.
+    /// Returns whether the point of the visit at this index hasn't replied to all calls of the
+    /// command `call`. If none was for the point, such as with a PointStatus, returns false.
     pub(crate) fn is_awaited(&self, machine: &Machine, place: usize) -> bool {
         let (Some(visit), Some(end)) = (self.visits.get(place), self.ends.get(place)) else {
             return false;
@@ -73,7 +74,8 @@ impl<'a, R: Clock> OutcomeReader<'a, R> {
         }
     }
 
-    /// Returns whether a visited point hasn't replied to all its calls.
+    /// Returns whether a point hasn't replied to all calls of the command `call`, so that `call
+    /// --wait` goes on waiting.
     fn awaits_any(&self, machine: &Machine) -> bool {
         for place in 0..self.visits.len() {
             if self.is_awaited(machine, place) {
@@ -83,7 +85,8 @@ impl<'a, R: Clock> OutcomeReader<'a, R> {
         false
     }
 
-    /// Returns whether `call` has waited as long as it may. Without a clock it doesn't wait.
+    /// Returns whether the command `call` has waited as long as its option `--wait` says. Without a
+    /// clock it doesn't wait.
     fn is_over(&self) -> bool {
         let (Some(begun), Ok(now)) = (self.begun, Instant::now(self.rt)) else {
             return true;

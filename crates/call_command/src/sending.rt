@@ -50,7 +50,8 @@ pub fn send_calls<R: ClientRuntime>(
     Ok(())
 }
 
-/// Connects as the operator of a charge point, and sends the calls that go to that point.
+/// Connects for the command `call` as the operator of a charge point, and sends the calls for that
+/// point to the central system.
 fn send_to<R: ClientRuntime>(
     caller: &mut Caller<'_, R>,
     calls: &[GivenCall],
@@ -94,7 +95,8 @@ pub fn send_lines<R: ClientRuntime, S: Read + Drop>(
     Ok(())
 }
 
-/// Connects to the operator's URL, or to that of this point, unless `call` is a dry run.
+/// Connects the command `call` to the operator's URL, or to that of this point, unless it is a dry
+/// run.
 fn reach<R: ClientRuntime>(
     caller: &Caller<'_, R>,
     point: Option<&str>,
@@ -108,8 +110,8 @@ fn reach<R: ClientRuntime>(
     Ok(Destination { label, client })
 }
 
-/// Returns an operator's client, connected to the URL of `call`, or to the one that it makes for
-/// this point.
+/// Returns an operator's client, connected to the URL of the command `call`, or to the one that it
+/// makes for this point.
 fn connected<R: ClientRuntime>(
     caller: &Caller<'_, R>,
     point: Option<&str>,
@@ -121,7 +123,8 @@ fn connected<R: ClientRuntime>(
     Ok(OperatorClient::new(alloc, socket))
 }
 
-/// Returns the address of the operator's URL, or of the one that `call` makes of it for this point.
+/// Returns the address of the operator's URL of the command `call`, or of the one that it makes of
+/// that URL for this point.
 fn address_of(alloc: Global, url: &str, point: Option<&str>) -> Result<Address, ClientFault> {
     match point {
         Some(point) => Address::of_operator(alloc, url_of_point(alloc, url, point)?.as_str()),
@@ -129,7 +132,8 @@ fn address_of(alloc: Global, url: &str, point: Option<&str>) -> Result<Address, 
     }
 }
 
-/// Sends an operator's message and prints its answer, or prints the message in a dry run of `call`.
+/// Sends an operator's message to the central system and prints its answer, or prints the message
+/// in a dry run of the command `call`.
 fn send<R: ClientRuntime, N: Display + Copy + Drop>(
     caller: &mut Caller<'_, R>,
     callee: &mut Destination<R>,
@@ -154,7 +158,7 @@ fn send<R: ClientRuntime, N: Display + Copy + Drop>(
     }
 }
 
-/// Closes the connection by which `call` was the operator of a point, if there is one.
+/// Closes the connection by which the command `call` was the operator of a point, if there is one.
 fn leave<R: RandomSource + Drop>(callee: Destination<R>) {
     let Destination { label, client } = callee;
     drop(label);

@@ -33,8 +33,8 @@ pub fn check_visits<R: Files<File = File> + Clock + Print + Eprint + AllocGlobal
     check_from(caller, machine, calls, visits)
 }
 
-/// Keeps in the visits of `call` only the calls that their points would accept in this state of the
-/// site, and after the calls before. Prints the findings.
+/// Keeps in the visits of the command `call` only the calls that their points would accept. The
+/// state is this one of the site after the calls before. Prints the findings.
 fn check_from<R: Clock + Print + Eprint + AllocGlobal>(
     caller: &mut Caller<'_, R>,
     machine: Machine,
@@ -54,8 +54,8 @@ fn check_from<R: Clock + Print + Eprint + AllocGlobal>(
     Ok(caller.say_shared(&shared)?)
 }
 
-/// Notes which number the next call to each visited point has in this state, so that `call` knows
-/// its own calls later.
+/// Notes which number the next call to each visited point has in this state, so that the command
+/// `call` knows its own calls later.
 fn note_next_calls(machine: &Machine, visits: &mut Vec<Visit>) {
     for visit in visits {
         if let Some(outbox) = machine.outbox_of(visit.id.as_str()) {
@@ -64,8 +64,8 @@ fn note_next_calls(machine: &Machine, visits: &mut Vec<Visit>) {
     }
 }
 
-/// Returns those calls of `call` to a point that have no fault by the point's state. They are the
-/// next lines of the script that is played.
+/// Returns those calls of the command `call` for a point that have no fault by the point's state,
+/// or all with `--force`. They are the next lines of the script that is played.
 fn passed_calls<R: Print + Eprint + AllocGlobal>(
     caller: &mut Caller<'_, R>,
     played: &mut PlayedCalls<'_>,

@@ -75,8 +75,8 @@ pub fn hold_undo<R: Print + Eprint + AllocGlobal>(
     Ok(())
 }
 
-/// Prints the beginning of the journal's line that an undo of `call` is to revert to standard
-/// error.
+/// Prints to standard error the beginning of the journal's line that the command `call --undo` is
+/// to revert.
 fn say_line<R: Eprint + AllocGlobal>(rt: &R, number: u64, line: &str) -> Result<(), AllocError> {
     let mut shown = String::new(rt.alloc());
     for character in line.chars().take(LONGEST_SHOWN) {
@@ -86,7 +86,7 @@ fn say_line<R: Eprint + AllocGlobal>(rt: &R, number: u64, line: &str) -> Result<
     Ok(())
 }
 
-/// Prints to standard error which charging profiles an undo of `call` can't restore.
+/// Prints to standard error which charging profiles the command `call --undo` can't restore.
 fn say_lost<R: Eprint>(rt: &R, lost: &[LostProfile]) {
     for LostProfile { id, connector } in lost {
         let _ = eprintln!(rt;

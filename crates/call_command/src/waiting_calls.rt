@@ -43,8 +43,8 @@ pub fn say_outcomes<R: Files<File = File> + Clock + Eprint + AllocGlobal>(
     }
 }
 
-/// Follows the journal of a folder, up to this many seconds if `call` waits for replies, and prints
-/// to standard error how the calls came out. Returns the exit status by that.
+/// Follows the journal of a folder, up to this many seconds if the command `call` waits for
+/// replies. Prints to standard error how its calls came out. Returns the exit status by that.
 fn say_followed<R: Files<File = File> + Clock + Eprint + AllocGlobal>(
     rt: &R,
     wait: Option<u64>,
@@ -64,8 +64,8 @@ fn say_followed<R: Files<File = File> + Clock + Eprint + AllocGlobal>(
     Ok(status)
 }
 
-/// Prints to standard error which calls of `call` their points rejected, and which points didn't
-/// reply in time. Returns the exit status by that.
+/// Prints to standard error which calls of the command `call` their points rejected, and which
+/// points didn't reply in time. Returns the exit status by that.
 fn say_rejected<R: Clock + Eprint>(
     rt: &R,
     machine: &Machine,
@@ -91,8 +91,8 @@ fn say_rejected<R: Clock + Eprint>(
     status
 }
 
-/// Prints to standard error which calls of `call` a point rejected. Returns the exit status by
-/// that.
+/// Prints to standard error which calls of the command `call` a point rejected. Returns the exit
+/// status by that.
 fn say_rejected_by<R: Eprint>(rt: &R, visit: &Visit, calls: &PointCalls) -> u8 {
     let mut status = 0;
     for rejected in &calls.rejected {
@@ -107,8 +107,8 @@ fn say_rejected_by<R: Eprint>(rt: &R, visit: &Visit, calls: &PointCalls) -> u8 {
     status
 }
 
-/// Prints to standard error which of the points that `call` calls aren't connected, or have calls
-/// that wait.
+/// Prints to standard error which of the points that the command `call` visited aren't connected,
+/// or have calls that wait.
 fn say_of_points<R: Eprint>(rt: &R, machine: &Machine, visits: &[Visit]) {
     for visit in visits {
         let outbox = machine.outbox_of(visit.id.as_str());
@@ -118,8 +118,8 @@ fn say_of_points<R: Eprint>(rt: &R, machine: &Machine, visits: &[Visit]) {
     }
 }
 
-/// Prints to standard error if a point that `call` calls isn't connected, or has calls that wait
-/// behind the one in flight.
+/// Prints to standard error if a point that the command `call` visited isn't connected, or has
+/// calls that wait behind the one in flight.
 fn say_of_point<R: Eprint>(rt: &R, id: &str, outbox: &Outbox) {
     if outbox.link().is_none() {
         let (count, waits) = counted(outbox.len());
@@ -133,8 +133,8 @@ fn say_of_point<R: Eprint>(rt: &R, id: &str, outbox: &Outbox) {
     }
 }
 
-/// Returns how many calls wait for a point, and the words for it in `call`'s line on standard
-/// error.
+/// Returns how many calls wait for a point, and the words for it in a line of the command `call` on
+/// standard error.
 fn counted(calls: usize) -> (usize, &'static str) {
     (
         calls,

@@ -34,8 +34,8 @@ pub(crate) struct CellMaker<'a> {
 }
 
 impl<'a> CellMaker<'a> {
-    /// Returns a formatter of the intervals of an explained schedule as table cells, with times
-    /// local to a zone or in UTC.
+    /// Returns a formatter of an explained schedule's intervals as cells of `explain`'s table and
+    /// HTML page, and for its picture's description. Times are local to a zone or in UTC.
     pub(crate) fn new(
         explained: &'a ExplainedRequest<'a>,
         zone: Option<ZoneClock<'a>>,
@@ -48,8 +48,8 @@ impl<'a> CellMaker<'a> {
         }
     }
 
-    /// Formats the next interval of an explained schedule as table cells: its times, its length,
-    /// its limit and the cause.
+    /// Formats the next interval of an explained schedule for `explain`'s table, HTML page or
+    /// picture: its times, its length, its limit and the cause.
     pub(crate) fn cells(
         &mut self,
         alloc: Global,
@@ -80,8 +80,8 @@ impl<'a> CellMaker<'a> {
         })
     }
 
-    /// Returns the start or the end of an explained schedule's interval as a time of day, after its
-    /// date if `dated`.
+    /// Returns the start or the end of an explained schedule's interval as a time of day for
+    /// `explain`'s pages, after its date if `dated`.
     fn time(&self, alloc: Global, time: ClockTime, dated: bool) -> Result<String, AllocError> {
         let mut out = Page::new(alloc);
         if dated {

@@ -19,8 +19,8 @@ pub(crate) struct ClockTime {
 }
 
 impl ClockTime {
-    /// Returns the date and time of day in UTC of a moment in seconds since 1970, for the times of
-    /// an explained schedule.
+    /// Returns the date and time of day in UTC of a moment in seconds since 1970, for the pages of
+    /// `explain`.
     pub(crate) fn of(moment: u64) -> ClockTime {
         // A request may end one second after the last instant, which is 24:00 of the last day.
         if moment > LAST_SECOND {
@@ -35,14 +35,14 @@ impl ClockTime {
         }
     }
 
-    /// Returns the local time in a zone of a moment of an explained schedule, or the UTC time
-    /// without a zone.
+    /// Returns the local time in a zone of a moment of an explained schedule for `explain`'s pages,
+    /// or the UTC time without a zone.
     pub(crate) fn shown(zone: Option<ZoneClock<'_>>, moment: u64) -> ClockTime {
         ClockTime::of(shown_at(zone, moment))
     }
 }
 
-/// Appends a time of day of an explained schedule, `hh:mm` or `hh:mm:ss`.
+/// Appends a time of day of an explained schedule to a page of `explain`: `hh:mm` or `hh:mm:ss`.
 pub(crate) fn push_time(out: &mut Page, second: u64, with_seconds: bool) {
     push_two_digits(out, second / 3600);
     out.push(':');
@@ -67,14 +67,14 @@ fn push_digit(out: &mut Page, digit: u64) {
     out.push(digit.unwrap_or('0'));
 }
 
-/// Appends the date of a day of an explained schedule, `YYYY-MM-DD`.
+/// Appends the date of a day of an explained schedule to a page of `explain`: `YYYY-MM-DD`.
 pub(crate) fn push_date(alloc: Global, out: &mut Page, day: u64) {
     if let Some(instant) = Instant::try_new(day.saturating_mul(DAY)) {
         out.push_made(date_text(alloc, instant));
     }
 }
 
-/// Returns the date of an instant of an explained schedule, `YYYY-MM-DD`.
+/// Returns the date of an instant of an explained schedule for a page of `explain`: `YYYY-MM-DD`.
 fn date_text(alloc: Global, instant: Instant) -> Result<String, AllocError> {
     let text = instant_text(alloc, instant)?;
     match text.as_str().split_once('T') {
@@ -83,7 +83,7 @@ fn date_text(alloc: Global, instant: Instant) -> Result<String, AllocError> {
     }
 }
 
-/// Returns an instant of an explained schedule as `YYYY-MM-DDThh:mm:ssZ`.
+/// Returns an instant of an explained schedule for a page of `explain`: `YYYY-MM-DDThh:mm:ssZ`.
 pub(crate) fn instant_text(alloc: Global, instant: Instant) -> Result<String, AllocError> {
     let mut text = String::new(alloc);
     push_instant(&mut text, instant)?;
@@ -104,8 +104,8 @@ pub(crate) fn weekday(day: u64) -> &'static str {
     }
 }
 
-/// Returns whether a time of an explained schedule isn't a whole minute, local to a zone or in UTC,
-/// so that its times need seconds.
+/// Returns whether a time of an explained schedule isn't a whole minute, local to a zone or in UTC.
+/// Then the pages of `explain` show its times with seconds.
 pub(crate) fn needs_seconds(explained: &ExplainedRequest<'_>, zone: Option<ZoneClock<'_>>) -> bool {
     for interval in explained.intervals {
         if has_seconds(zone, explained.moment(interval.start))
@@ -117,8 +117,8 @@ pub(crate) fn needs_seconds(explained: &ExplainedRequest<'_>, zone: Option<ZoneC
     has_seconds(zone, explained.moment(0)) || has_seconds(zone, explained.end())
 }
 
-/// Returns whether a moment of an explained schedule isn't a whole minute, local to a zone or in
-/// UTC.
+/// Returns whether a moment of an explained schedule isn't a whole minute for a page of `explain`,
+/// local to a zone or in UTC.
 fn has_seconds(zone: Option<ZoneClock<'_>>, moment: u64) -> bool {
     shown_at(zone, moment) % 60 != 0
 }

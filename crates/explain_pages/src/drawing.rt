@@ -23,7 +23,7 @@ pub(crate) struct PictureInput<'a> {
     pub(crate) limit: &'a Steps,
 }
 
-/// Appends the SVG path data of a line along steps, in the picture of an explained schedule.
+/// Appends the SVG path data of a line along steps to `explain`'s picture.
 pub(crate) fn push_path(out: &mut Page, scale: Scale, steps: &Steps) {
     let mut is_down = false;
     for step in &steps.items {
@@ -58,8 +58,8 @@ pub(crate) fn push_limit_line(out: &mut Page, scale: Scale, steps: &Steps) {
     out.push_str("\"/>\n");
 }
 
-/// Appends the line of a profile or a ceiling to `explain`'s picture, styled by the place of its
-/// entry.
+/// Appends the line of a profile or a ceiling to `explain`'s picture, styled by its place among the
+/// picture's lines.
 pub(crate) fn push_entry_line(out: &mut Page, scale: Scale, place: usize, entry: &LimitEntry) {
     match &entry.line {
         LimitLine::Steps(steps) => {
@@ -86,16 +86,16 @@ pub(crate) fn ceiling_class(entry: &LimitEntry) -> &'static str {
     }
 }
 
-/// Appends the CSS classes of a profile's colour and dash pattern in `explain`'s picture, by the
-/// profile's place.
+/// Appends the CSS classes of a profile's colour and dash pattern in `explain`'s picture, by its
+/// place among the picture's lines.
 pub(crate) fn push_style(out: &mut Page, place: usize) {
     // Six colours and eight dashes give 24 different lines before one repeats.
     let (colour, dash) = (place % 6, place % 8);
     write!(out, "c{colour} d{dash}");
 }
 
-/// Appends the letter of an entry in `explain`'s picture by its place: A to Z, then A1, B1 and so
-/// on.
+/// Appends the letter of a profile's or a ceiling's line in `explain`'s picture, by its place among
+/// the lines: A to Z, then A1, B1 and so on.
 pub(crate) fn push_letter(out: &mut Page, place: usize) {
     out.push((b'A' + (place % 26) as u8) as char);
     if place >= 26 {
@@ -150,7 +150,7 @@ pub(crate) fn push_time_axis(
 }
 
 /// Returns the second of the explained request at which a moment is, at most the request's
-/// duration, to place it in the picture.
+/// duration, to place the moment in `explain`'s picture.
 fn second_at(explained: &ExplainedRequest<'_>, moment: u64) -> u32 {
     let second = moment.saturating_sub(explained.moment(0));
     second.min(u64::from(explained.ask.duration)) as u32

@@ -29,8 +29,8 @@ pub(crate) enum LimitLine {
     Nothing,
 }
 
-/// Returns the entries of `explain`'s picture: the profiles that have a limit in the time of the
-/// request, the ceilings, and the other causes of limits.
+/// Returns the entries of the legend in `explain`'s picture: the profiles that have a limit in the
+/// time of the request, the ceilings, and the other causes of limits.
 pub(crate) fn entries_of(
     alloc: Global,
     explained: &ExplainedRequest<'_>,
@@ -55,13 +55,13 @@ pub(crate) fn entries_of(
     Ok(entries)
 }
 
-/// Returns the place of a limit's cause among the entries of `explain`'s picture.
+/// Returns the place of a limit's cause among the legend's entries in `explain`'s picture.
 pub(crate) fn place_of(entries: &[LimitEntry], cause: Cause) -> Option<usize> {
     entries.iter().position(|entry| entry.cause == cause)
 }
 
-/// Returns the entry of a profile in `explain`'s picture if it may set a limit, and has one in the
-/// time of the request.
+/// Returns the legend's entry of a profile in `explain`'s picture. There is one if the profile may
+/// set a limit, and has one in the time of the request.
 fn profile_entry(
     alloc: Global,
     explained: &ExplainedRequest<'_>,
@@ -74,15 +74,15 @@ fn profile_entry(
     Ok(steps.and_then(|steps| stepped_entry(row, steps)))
 }
 
-/// Returns whether a profile's row may set a limit of the explained request: it applies to the
-/// connector, and has the transaction that it needs.
+/// Returns whether an installed profile may set a limit of the explained request, so that `explain`
+/// draws it: it applies to the connector, and has the transaction that it needs.
 fn may_count(explained: &ExplainedRequest<'_>, row: &Row) -> bool {
     let started = started_for(&explained.view, &explained.ask, row);
     applies(explained, row) && has_its_transaction(row.profile.purpose, started)
 }
 
-/// Returns the limits of a profile's row in the time of the request, as the steps of its line in
-/// `explain`'s picture.
+/// Returns the limits of an installed profile in the time of the explained request, as the steps of
+/// its line in `explain`'s picture.
 fn steps_of(
     alloc: Global,
     explained: &ExplainedRequest<'_>,
@@ -93,8 +93,8 @@ fn steps_of(
     profile_steps(alloc, &row.profile, base, ask)
 }
 
-/// Returns the entry of a profile's row in `explain`'s picture with its steps, if one of them has a
-/// limit.
+/// Returns the legend's entry of an installed profile in `explain`'s picture, with the steps of its
+/// line, if one of them has a limit.
 fn stepped_entry(row: &Row, steps: Steps) -> Option<LimitEntry> {
     if steps.has_limit() {
         Some(LimitEntry {
@@ -118,15 +118,16 @@ pub fn profile_of(row: &Row) -> PrevailingProfile
     }
 }
 
-/// Returns whether a profile's row applies to the connector of the explained request.
+/// Returns whether an installed profile applies to the connector of the explained request, so that
+/// `explain` may draw it.
 fn applies(explained: &ExplainedRequest<'_>, row: &Row) -> bool {
     let connector = explained.ask.connector;
     connector == 0 || row.connector == 0 || row.connector == connector
 }
 
-/// Returns the start of the transaction from which a profile's row counts: the one at the connector
-/// of the explained request. For the whole point it is the one at the row's connector, or else the
-/// first one.
+/// Returns, for `explain`, the start of the transaction from which an installed profile counts: the
+/// one at the explained connector. For the whole point it is the one at the profile's connector, or
+/// else the first one.
 fn started_for(view: &View<'_>, ask: &Ask, row: &Row) -> Option<Instant> {
     if ask.connector > 0 {
         return view.active_since(ask.connector as usize);
@@ -145,7 +146,8 @@ pub fn reason_instant(view: &View<'_>, ask: &Ask, row: &Row) -> Instant {
     first_limit(&row.profile, base, ask)
 }
 
-/// Appends the ceilings of the connector and of the point to the entries of `explain`'s picture.
+/// Appends the ceilings of the connector and of the point to the legend's entries in `explain`'s
+/// picture.
 fn push_ceilings(
     entries: &mut Vec<LimitEntry>,
     explained: &ExplainedRequest<'_>,

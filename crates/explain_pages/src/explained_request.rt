@@ -50,7 +50,8 @@ pub enum NotCountedReason {
 }
 
 impl ExplainedRequest<'_> {
-    /// Returns the first second after the explained request, in seconds since 1970.
+    /// Returns the first second after the explained request, in seconds since 1970, for the pages
+    /// of `explain`.
     pub(crate) fn end(&self) -> u64
         ensures value { result ≡ self.now.ask.start + self.now.ask.duration }
         ensures small { result < 2 ^ 40 }
@@ -58,7 +59,8 @@ impl ExplainedRequest<'_> {
         self.ask.start.seconds() + u64::from(self.ask.duration)
     }
 
-    /// Returns a second of the explained request, in seconds since 1970.
+    /// Returns a second of the explained request, in seconds since 1970, for the pages of
+    /// `explain`.
     pub(crate) fn moment(&self, second: u32) -> u64
         ensures value { result ≡ self.now.ask.start + second }
         ensures small { result < 2 ^ 40 }

@@ -20,8 +20,8 @@ use recurrence::{next_change, rate_at};
 const END_OF_TIME: u64 = LAST_SECOND + 1;
 
 impl RowAtConnector<'_> {
-    /// Returns whether a profile's row is installed at another connector. `explain` gives this as a
-    /// reason why the profile doesn't prevail.
+    /// Returns whether an installed profile is at another connector than the one for which it is
+    /// checked. `explain`'s pages may give this as the reason why the profile never sets the limit.
     pub(crate) fn is_elsewhere(&self) -> bool
         ensures { result ≡ is_elsewhere self.now.row.now.profile.purpose self.now.at
             self.now.row.now.connector }
@@ -34,8 +34,8 @@ impl RowAtConnector<'_> {
         }
     }
 
-    /// Returns whether a profile's row needs a transaction and there is none. `explain` gives this
-    /// as a reason why the profile doesn't prevail.
+    /// Returns whether an installed profile needs a transaction and there is none. `explain`'s
+    /// pages may give this as the reason why the profile never sets the limit.
     pub(crate) fn lacks_transaction(&self) -> bool
         ensures { result
             ≡ lacks_transaction (point_state self.now.view) self.now.at self.now.row.now }
@@ -44,8 +44,8 @@ impl RowAtConnector<'_> {
             && self.view.active_since(self.at).is_none()
     }
 
-    /// Returns whether the row that `explain` checks is a TxDefaultProfile of connector 0, and the
-    /// connector has its own at the same stack level.
+    /// Returns whether a TxDefaultProfile at connector 0 is hidden by the connector's own one at
+    /// that stack level. `explain`'s pages may give this as the reason why it never sets the limit.
     pub(crate) fn is_hidden(&self) -> bool
         ensures { result ≡ true
             → is_hidden (point_state self.now.view) self.now.at self.now.row.now ≡ true }
@@ -56,8 +56,8 @@ impl RowAtConnector<'_> {
             && !is_candidate(Purpose::TxDefaultProfile, self.view.rows, self.at, self.row)
     }
 
-    /// Returns the instant from which `explain` counts the seconds of a charging profile's row
-    /// without a start of its own.
+    /// Returns the instant from which an installed profile's schedule counts if it has no start of
+    /// its own. The reasons on `explain`'s pages why it never sets the limit need it.
     pub(crate) fn base_of(&self, row: &Row) -> Instant
         ensures { result ≡ base row.now (active_since (point_state self.now.view) self.now.at)
             self.now.ask.start }
@@ -65,7 +65,8 @@ impl RowAtConnector<'_> {
         row.base(self.view.active_since(self.at), self.ask.start)
     }
 
-    /// Returns the start of the charging schedule of the profile that `explain` checks.
+    /// Returns the start of an installed profile's schedule, for the reasons on `explain`'s pages
+    /// why the profile never sets the limit.
     pub(crate) fn anchor(&self) -> Instant
         ensures { result ≡ anchor self.now.row.now.profile (base self.now.row.now
             (active_since (point_state self.now.view) self.now.at) self.now.ask.start) }
@@ -73,8 +74,9 @@ impl RowAtConnector<'_> {
         self.row.profile.anchor(self.base_of(self.row))
     }
 
-    /// Returns the instant until which the schedule of the profile that `explain` checks stays past
-    /// its duration, if it is past it at `instant`.
+    /// Returns the instant until which an installed profile's schedule stays past its duration, if
+    /// it is so at `instant`. `explain`'s pages may give this as the reason why it never sets the
+    /// limit.
     pub(crate) fn over_until(&self, instant: Instant) -> Option<u64>
         ensures { IfSome result (IsSoUntil (Holds PastDuration self.now) instant) }
     {
@@ -88,8 +90,8 @@ impl RowAtConnector<'_> {
         Some(counts_on_until(profile, base, instant, offset))
     }
 
-    /// Returns the instant until which no period of the profile that `explain` checks has begun, if
-    /// none has at `instant`.
+    /// Returns the instant until which no period of an installed profile has begun, if none has at
+    /// `instant`. `explain`'s pages may give this as the reason why it never sets the limit.
     pub(crate) fn ahead_until(&self, instant: Instant) -> Option<u64>
         ensures { IfSome result (IsSoUntil (Holds BeforeFirstPeriod self.now) instant) }
     {
@@ -110,8 +112,9 @@ impl RowAtConnector<'_> {
         }
     }
 
-    /// Returns the instant until which another profile of the same purpose has precedence over the
-    /// one that `explain` checks, if one has. Its stack level is higher.
+    /// Returns the instant until which a profile of the same purpose and a higher stack level
+    /// precedes an installed one, if one does. `explain`'s pages may say that the latter never sets
+    /// the limit because of it.
     pub(crate) fn above_until(&self, instant: Instant) -> Option<u64>
         ensures { IfSome result (IsSoUntil (Holds BelowHigherLevel self.now) instant) }
     {
@@ -119,8 +122,9 @@ impl RowAtConnector<'_> {
         self.other_until(profile.purpose, profile.stack_level + 1, instant)
     }
 
-    /// Returns the instant until which a TxProfile with a limit has precedence over the row that
-    /// `explain` checks, if one has. The row is a TxDefaultProfile's then.
+    /// Returns the instant until which a TxProfile with a limit precedes an installed
+    /// TxDefaultProfile, if one does. `explain`'s pages may say that the latter never sets the
+    /// limit because of it.
     pub(crate) fn tx_until(&self, instant: Instant) -> Option<u64>
         ensures { IfSome result (IsSoUntil (Holds BehindTxProfile self.now) instant) }
     {
@@ -131,7 +135,8 @@ impl RowAtConnector<'_> {
     }
 
     /// Returns the instant until which a profile of a purpose at the stack level `least` or above
-    /// has a limit, if one has. It may have precedence over the row that `explain` checks.
+    /// has a limit, if one has. It may precede one that, by `explain`'s pages, never sets the
+    /// limit.
     fn other_until(&self, purpose: Purpose, least: u32, instant: Instant) -> Option<u64>
         ensures { IfSome result (IsSoUntil (λ k. Reaches least (prevailing_row purpose
             (point_state self.now.view) self.now.at self.now.ask.start k)) instant) }
@@ -153,16 +158,16 @@ impl RowAtConnector<'_> {
     }
 }
 
-/// Returns the instant until which a reason of `explain` holds: the end of time if it always holds,
-/// and `None` if it never does.
+/// Returns the instant until which a reason on `explain`'s pages holds, why a profile never sets
+/// the limit. It is the end of time if the reason always holds, and `None` if it never does.
 pub(crate) fn always(holds: bool) -> Option<u64>
     ensures { result ≡ (if holds then Some (last_second + 1) else None) }
 {
     if holds { Some(END_OF_TIME) } else { None }
 }
 
-/// Returns the seconds of a profile's `validFrom` or schedule start if that is still to come. Until
-/// then `explain` may give this as the reason.
+/// Returns the seconds of a profile's `validFrom` or schedule start if that is still to come.
+/// `explain`'s pages may give this as the reason why the profile never sets the limit.
 pub(crate) fn before(bound: Option<Instant>, instant: Instant) -> Option<u64>
     ensures { IfSome result (λ until. (instant < until) × (bound ≡ Some until)) }
 {
@@ -174,8 +179,8 @@ pub(crate) fn before(bound: Option<Instant>, instant: Instant) -> Option<u64>
     }
 }
 
-/// Returns the instant until which a charging profile keeps the limit that it has at `instant`, or
-/// keeps having none, for `explain`'s reasons.
+/// Returns the instant until which a profile keeps the limit that it has at `instant`, or keeps
+/// having none. The reasons on `explain`'s pages why a profile never sets the limit need it.
 pub(crate) fn rate_until(profile: &Profile, base: Instant, instant: Instant) -> u64
     ensures { IsSoUntil
         (λ k. rate profile.now base k ≡ rate profile.now base instant) instant result }
@@ -186,8 +191,8 @@ pub(crate) fn rate_until(profile: &Profile, base: Instant, instant: Instant) -> 
     }
 }
 
-/// Returns, for `explain`'s reasons, an instant until which a charging profile with a limit keeps
-/// having one. It may have one for longer.
+/// Returns an instant until which a profile with a limit keeps having one, though it may for
+/// longer. The reasons on `explain`'s pages why another never sets the limit need it.
 fn limit_until(profile: &Profile, base: Instant, instant: Instant) -> u64
     requires { is_some (rate profile.now base instant) ≡ true }
     ensures { IsSoUntil (λ k. is_some (rate profile.now base k) ≡ true) instant result }
@@ -200,8 +205,8 @@ fn limit_until(profile: &Profile, base: Instant, instant: Instant) -> u64
     rate_until(profile, base, instant)
 }
 
-/// Returns, for `explain`'s reasons, the end of the validity of a profile that is valid at an
-/// instant: its `validTo`, or the end of time.
+/// Returns the end of the validity of a profile that is valid at an instant: its `validTo`, or the
+/// end of time. The reasons on `explain`'s pages why another never sets the limit need it.
 fn valid_until(profile: &Profile, instant: Instant) -> u64
     requires { is_before instant profile.now.valid_to ≡ true }
     ensures { IsSoUntil (λ k. is_before k profile.now.valid_to ≡ true) instant result }
@@ -212,8 +217,9 @@ fn valid_until(profile: &Profile, instant: Instant) -> u64
     }
 }
 
-/// Returns, for `explain`'s reasons, the instant until which a charging schedule counts on from its
-/// offset at `instant`. A recurring one then begins again.
+/// Returns the instant until which a schedule counts on from its offset at `instant`; a recurring
+/// one then begins again. The reasons on `explain`'s pages why a profile never sets the limit need
+/// it.
 fn counts_on_until(profile: &Profile, base: Instant, instant: Instant, at: u64) -> u64
     requires { offset profile.now base instant ≡ Some at }
     ensures { IsSoUntil

@@ -33,8 +33,8 @@ pub fn write_json(alloc: Global, explained: &ExplainedRequest<'_>) -> Result<Str
     line.finish_line()
 }
 
-/// Appends the fields of the request to the JSON of an explained schedule: point, connector, unit,
-/// start and duration.
+/// Appends the fields of the request to the JSON of `explain --json`: point, connector, unit, start
+/// and duration.
 fn push_asked(line: &mut JsonPage, explained: &ExplainedRequest<'_>) {
     line.text("point", explained.point);
     line.number("connector", u64::from(explained.ask.connector));
@@ -43,8 +43,8 @@ fn push_asked(line: &mut JsonPage, explained: &ExplainedRequest<'_>) {
     line.number("duration", u64::from(explained.ask.duration));
 }
 
-/// Appends an interval to the JSON of an explained schedule, with its limit, its cause and its
-/// shares.
+/// Appends an interval of an explained schedule to the JSON of `explain --json`, with its limit,
+/// its cause and its shares.
 fn push_interval(line: &mut JsonPage, explained: &ExplainedRequest<'_>, interval: &Interval) {
     let known = explained.known;
     line.begin_object();
@@ -60,7 +60,7 @@ fn push_interval(line: &mut JsonPage, explained: &ExplainedRequest<'_>, interval
     line.end_object();
 }
 
-/// Appends a connector's share of a summed limit to the JSON of an explained schedule.
+/// Appends a connector's share of a summed limit to the JSON of `explain --json`.
 fn push_share(line: &mut JsonPage, share: &Share, known: &[KnownProfile<'_>]) {
     line.begin_object();
     line.number("connector", u64::from(share.connector));
@@ -68,8 +68,8 @@ fn push_share(line: &mut JsonPage, share: &Share, known: &[KnownProfile<'_>]) {
     line.end_object();
 }
 
-/// Appends the fields `limit` and `cause` of an interval or a share to the JSON of an explained
-/// schedule.
+/// Appends the fields `limit` and `cause` of an interval or a share to the JSON of `explain
+/// --json`.
 fn push_limit(line: &mut JsonPage, limit: u32, cause: Cause, known: &[KnownProfile<'_>]) {
     line.tenths("limit", limit);
     line.object("cause");
@@ -89,7 +89,7 @@ fn push_limit(line: &mut JsonPage, limit: u32, cause: Cause, known: &[KnownProfi
     line.end_object();
 }
 
-/// Appends the fields that identify a charging profile to the JSON of an explained schedule.
+/// Appends the fields that identify a charging profile to the JSON of `explain --json`.
 fn push_profile(line: &mut JsonPage, profile: PrevailingProfile) {
     line.integer("chargingProfileId", profile.id);
     line.text("purpose", purpose_name(profile.purpose));
@@ -97,8 +97,7 @@ fn push_profile(line: &mut JsonPage, profile: PrevailingProfile) {
     line.number("connector", u64::from(profile.connector));
 }
 
-/// Appends a profile that never sets the limit, with the reason, to the JSON of an explained
-/// schedule.
+/// Appends a profile that never sets the limit, with the reason, to the JSON of `explain --json`.
 fn push_not_counted(line: &mut JsonPage, one: &NotCounted) {
     line.begin_object();
     push_profile(line, one.profile);

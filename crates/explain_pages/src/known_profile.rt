@@ -17,7 +17,8 @@ pub struct KnownProfile<'a> {
     pub since: Instant,
 }
 
-/// Returns the state of the profile that causes a limit, if it is one of these.
+/// Returns the state at its point of the profile that causes a limit, if it is one of these.
+/// `explain`'s table, HTML page, picture and JSON name it.
 pub(crate) fn known_cause<'a, 'b>(
     known: &'a [KnownProfile<'b>],
     cause: Cause,
@@ -28,8 +29,8 @@ pub(crate) fn known_cause<'a, 'b>(
     known.iter().find(|found| found.profile == profile)
 }
 
-/// Appends to the cause of a limit that the point isn't known to have the profile, if it is one of
-/// these and the point doesn't hold it.
+/// Appends to a limit's cause on a page of `explain` that the point isn't known to have the
+/// profile. Appends nothing unless the profile is one of these and the point doesn't hold it.
 pub(crate) fn push_known(out: &mut Page, known: &[KnownProfile<'_>], cause: Cause) {
     let Some(found) = known_cause(known, cause) else {
         return;

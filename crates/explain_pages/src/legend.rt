@@ -25,8 +25,8 @@ pub(crate) fn lower_edge(entries: usize) -> u64 {
         .saturating_add(FIRST + 24)
 }
 
-/// Appends the legend of `explain`'s picture: the limit, and each entry with its letter, a piece of
-/// its line and its name.
+/// Appends the legend of `explain`'s picture: the limit, and each profile and ceiling with its
+/// letter, a piece of its line and its name.
 pub(crate) fn push_legend(alloc: Global, out: &mut Page, sketch: PictureInput<'_>) {
     push_sample(out, "limit", FIRST);
     push_text(out, limit_text(alloc, sketch), FIRST);
@@ -38,15 +38,16 @@ pub(crate) fn push_legend(alloc: Global, out: &mut Page, sketch: PictureInput<'_
     }
 }
 
-/// Returns the middle of an entry's line in the legend of `explain`'s picture, by the entry's
-/// place.
+/// Returns the middle of a line in the legend of `explain`'s picture, by the place of its entry, a
+/// profile or a ceiling.
 fn middle_of(place: usize) -> u64 {
     (place as u64)
         .saturating_mul(LINE)
         .saturating_add(FIRST + LINE)
 }
 
-/// Appends the letter of an entry and a piece of its line to the legend of `explain`'s picture.
+/// Appends the letter of a profile or a ceiling and a piece of its line to the legend of
+/// `explain`'s picture.
 fn push_entry(out: &mut Page, place: usize, entry: &LimitEntry, middle: u64) {
     let base = middle.saturating_add(4);
     write!(out, "<text class=\"letter\" x=\"{LEFT}\" y=\"{base}\">");
@@ -70,7 +71,8 @@ fn push_sample(out: &mut Page, class: &str, middle: u64) {
     write!(out, "<path class=\"{class}\" d=\"M{from} {middle}H{to}\"/>");
 }
 
-/// Appends the name of the limit or of an entry to its line in the legend of `explain`'s picture.
+/// Appends the name of the limit, of a profile or of a ceiling to its line in the legend of
+/// `explain`'s picture.
 fn push_text(out: &mut Page, made: Result<String, AllocError>, middle: u64) {
     let (x, base) = (LEFT + 100, middle.saturating_add(4));
     write!(out, "<text x=\"{x}\" y=\"{base}\">");
@@ -87,8 +89,8 @@ fn limit_text(alloc: Global, sketch: PictureInput<'_>) -> Result<String, AllocEr
     text.finish()
 }
 
-/// Returns the name of an entry in the legend of `explain`'s picture, with a note if the picture
-/// cuts its line or leaves it out.
+/// Returns the name of a profile or a ceiling in the legend of `explain`'s picture. Adds a note if
+/// the picture cuts its line or leaves it out.
 fn entry_text(
     alloc: Global,
     explained: &ExplainedRequest<'_>,

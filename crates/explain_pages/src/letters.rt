@@ -12,7 +12,8 @@ const APART: (u64, u64) = (20, 13);
 /// The number of positions tried before a letter is left out.
 const TRIES: usize = 12;
 
-/// Appends to `explain`'s picture the letter of each entry above the beginning of its line.
+/// Appends to `explain`'s picture the letter of each profile and ceiling above the beginning of its
+/// line.
 pub(crate) fn push_letters(
     alloc: Global,
     out: &mut Page,
@@ -34,8 +35,8 @@ pub(crate) fn push_letters(
     Ok(())
 }
 
-/// Returns the spot of an entry's letter in `explain`'s picture: above the start of its line, or at
-/// the right edge for a ceiling.
+/// Returns the spot of a line's letter in `explain`'s picture: above the start of a profile's line,
+/// or at the right edge for a ceiling.
 fn beginning(scale: Scale, line: &LimitLine) -> Option<(u64, u64)> {
     match line {
         LimitLine::Level(_) if scale.is_passed_by(line) => None,
@@ -52,7 +53,7 @@ fn beginning(scale: Scale, line: &LimitLine) -> Option<(u64, u64)> {
     }
 }
 
-/// Returns the height of an entry's letter in `explain`'s picture, just above a limit's line.
+/// Returns the height of a line's letter in `explain`'s picture, just above a limit's line.
 fn above(scale: Scale, limit: u32) -> u64 {
     scale.y(limit).saturating_sub(6)
 }

@@ -12,8 +12,8 @@ use ocpp_scalars::Instant;
 use profile::Purpose;
 
 impl RowInRequest<'_> {
-    /// Returns the first connector of the explained request for which a profile's row is checked,
-    /// to find why it never sets the limit.
+    /// Returns the first connector for which an installed profile is checked, to find the reason on
+    /// `explain`'s pages why it never sets the limit.
     pub(crate) fn first_connector(&self) -> Option<u32>
         ensures { FoundConnector self.now result }
     {
@@ -33,8 +33,8 @@ impl RowInRequest<'_> {
         None
     }
 
-    /// Returns the first second at which a reason that `explain` may give for a profile fails, for
-    /// the first connector where it does.
+    /// Returns the first second at which a reason why a profile never sets the limit fails, for
+    /// `explain`'s pages. Takes the first connector where it fails.
     pub(crate) fn first_failing(&self, reason: NotCountedReason) -> Option<Instant>
         ensures { FoundFailing reason self.now result }
     {
@@ -55,17 +55,17 @@ impl RowInRequest<'_> {
         None
     }
 
-    /// Returns whether a reason why a profile never sets the limit holds at each second of the
-    /// explained request, for each connector. If `BehindOthers` doesn't, the row prevails at some
-    /// second.
+    /// Returns whether a reason why a profile never sets the limit holds at each second for each
+    /// connector. Then `explain`'s pages may give it. If `BehindOthers` doesn't, the profile
+    /// prevails at some second.
     pub(crate) fn is_throughout(&self, reason: NotCountedReason) -> bool
         ensures { MatchBool result (IsThroughout reason self.now) (FailsSomewhere reason self.now) }
     {
         self.first_failing(reason).is_none()
     }
 
-    /// Returns the row of a profile that never sets the limit, as `explain` checks it for a
-    /// connector.
+    /// Returns an installed profile as it is checked for a connector, to find the reason on
+    /// `explain`'s pages why it never sets the limit.
     fn looked_at(&self, connector: u32) -> RowAtConnector<'_>
         ensures { IsOf self.now connector result }
     {
@@ -83,8 +83,8 @@ impl RowInRequest<'_> {
         }
     }
 
-    /// Returns whether `explain` checks the row of a profile that never sets the limit for one
-    /// connector alone.
+    /// Returns whether an installed profile is checked for one connector alone, to find the reason
+    /// on `explain`'s pages why it never sets the limit.
     fn is_of_one(&self) -> bool
         ensures { result ≡ is_of_one self.now.ask.connector self.now.row.now }
     {
@@ -92,8 +92,8 @@ impl RowInRequest<'_> {
             || matches!(self.row.profile.purpose, Purpose::ChargePointMaxProfile)
     }
 
-    /// Returns whether a connector has a transaction, and the profile's row may apply to it. If so,
-    /// `explain` checks there why the profile never sets the limit.
+    /// Returns whether a connector has a transaction, and an installed profile may apply to it.
+    /// There the reason on `explain`'s pages why the profile never sets the limit is checked.
     fn is_of_active(&self, connector: u32) -> bool
         ensures { result ≡ is_of_active (point_state self.now.view) self.now.row.now connector }
     {

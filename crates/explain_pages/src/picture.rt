@@ -36,8 +36,8 @@ pub fn write_picture(
     out.finish()
 }
 
-/// Appends the element `svg` with the picture of an explained schedule, for the SVG file and for
-/// the HTML page.
+/// Appends the element `svg` with `explain`'s picture of a schedule, for its SVG file (also the
+/// status port's) and for its HTML page.
 pub(crate) fn push_picture(
     alloc: Global,
     out: &mut Page,

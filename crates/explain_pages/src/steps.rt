@@ -43,7 +43,7 @@ impl Steps {
 }
 
 /// Returns the limits of a charging profile over the explained request, counted from a base, as the
-/// steps of its line in the picture.
+/// steps of its line in `explain`'s picture.
 pub(crate) fn profile_steps(
     alloc: Global,
     profile: &Profile,
@@ -75,9 +75,9 @@ pub(crate) fn profile_steps(
     })
 }
 
-/// Returns the first instant of the explained request at which a charging profile has a limit,
-/// counted from a base. If none of the first `MAX_STEPS` steps has one, it is the start of the
-/// request.
+/// Returns the first instant of the request at which a profile has a limit, counted from a base.
+/// `explain`'s pages give a reason as of it. If none of the first `MAX_STEPS` steps has one, it is
+/// the request's start.
 pub(crate) fn first_limit(profile: &Profile, base: Instant, ask: &Ask) -> Instant {
     let mut instant = ask.start;
     for _ in 0..MAX_STEPS {
@@ -93,14 +93,14 @@ pub(crate) fn first_limit(profile: &Profile, base: Instant, ask: &Ask) -> Instan
 }
 
 /// Returns the second of the explained request at which an instant is, at most the request's
-/// duration.
+/// duration, for a line in `explain`'s picture.
 fn second_of(ask: &Ask, instant: Instant) -> u32 {
     let second = instant.seconds().saturating_sub(ask.start.seconds());
     second.min(u64::from(ask.duration)) as u32
 }
 
-/// Returns the limits of an explained schedule's intervals, as the steps of the thick line in its
-/// picture.
+/// Returns the limits of an explained schedule's intervals, as the steps of the thick line in
+/// `explain`'s picture.
 pub(crate) fn interval_steps(
     alloc: Global,
     explained: &ExplainedRequest<'_>,

@@ -84,8 +84,8 @@ fn push_changes(alloc: Global, out: &mut Page, clock: ZoneClock<'_>, columns: Op
     }
 }
 
-/// Returns the heading of an explained schedule: the point, the connector, and the start, end and
-/// length of the explained time.
+/// Returns the heading of `explain`'s table, HTML page or picture: the point, the connector, and
+/// the start, end and length of the explained time.
 pub(crate) fn heading(
     alloc: Global,
     explained: &ExplainedRequest<'_>,
@@ -103,7 +103,8 @@ pub(crate) fn heading(
     text.finish()
 }
 
-/// Returns the charge point and the connector of an explained schedule in words.
+/// Returns the charge point and the connector of an explained schedule in words, for `explain`'s
+/// table, HTML page or picture.
 pub(crate) fn place(alloc: Global, explained: &ExplainedRequest<'_>) -> Result<String, AllocError> {
     let mut text = Page::new(alloc);
     text.push_str(explained.point);
@@ -116,8 +117,8 @@ pub(crate) fn place(alloc: Global, explained: &ExplainedRequest<'_>) -> Result<S
     text.finish()
 }
 
-/// Appends, for `explain`, the moment `second` seconds after the start of its request, as date and
-/// time in a zone or in UTC.
+/// Appends the moment `second` seconds after the start of `explain`'s request to its table, HTML
+/// page or picture. It has a date and a time, in a zone or in UTC.
 pub(crate) fn push_moment(
     alloc: Global,
     out: &mut Page,
@@ -264,7 +265,8 @@ fn push_intervals(
     }
 }
 
-/// Returns the largest limit of an explained schedule's intervals, in tenths.
+/// Returns the largest limit of an explained schedule's intervals, in tenths, for the bars of
+/// `explain`'s table and the scale of its picture.
 pub(crate) fn largest_limit(explained: &ExplainedRequest<'_>) -> u32 {
     let mut largest = 0;
     for interval in explained.intervals {

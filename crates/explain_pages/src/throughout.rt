@@ -12,8 +12,8 @@ use ocpp_scalars::Instant;
 use recurrence::rate_at;
 
 impl RowAtConnector<'_> {
-    /// Returns the first second of the explained request at which a reason why a profile never sets
-    /// the limit fails, if there is one. Where `BehindOthers` fails, the row prevails.
+    /// Returns the first second of the request at which a reason why a profile never sets the limit
+    /// fails, if any, for `explain`'s pages. Where `BehindOthers` fails, the profile prevails.
     pub(crate) fn first_failing(&self, reason: NotCountedReason) -> Option<Instant>
         ensures { FirstFailing reason self.now result }
     {
@@ -32,8 +32,8 @@ impl RowAtConnector<'_> {
         None
     }
 
-    /// Returns until when a reason that `explain` may give for a profile that never sets the limit
-    /// holds, if it holds at an instant.
+    /// Returns the instant until which a reason why a profile never sets the limit holds, for
+    /// `explain`'s pages, if it holds at `instant`.
     fn says_until(&self, reason: NotCountedReason, instant: Instant) -> Option<u64>
         ensures { MatchOption result (Fails reason self.now instant)
             (IsSoUntil (Says reason self.now) instant) }
@@ -47,8 +47,8 @@ impl RowAtConnector<'_> {
         }
     }
 
-    /// Returns until when the charging profile that `explain` checks has no limit, if it has none
-    /// at an instant.
+    /// Returns the instant until which an installed profile has no limit, if it has none at
+    /// `instant`. `explain`'s pages may give this as the reason why it never sets the limit.
     fn no_limit_until(&self, instant: Instant) -> Option<u64>
         ensures { IfSome result (IsSoUntil (Says NoLimit self.now) instant) }
     {
@@ -59,8 +59,9 @@ impl RowAtConnector<'_> {
         }
     }
 
-    /// Returns until when the profile that `explain` checks has no limit or others take precedence,
-    /// or `None` if it prevails at an instant.
+    /// Returns the instant until which an installed profile has no limit or others precede it, or
+    /// `None` if it prevails at `instant`. `explain`'s pages may give this as the reason why it
+    /// never sets the limit.
     fn behind_until(&self, instant: Instant) -> Option<u64>
         ensures { MatchOption result (Fails BehindOthers self.now instant)
             (IsSoUntil (Says BehindOthers self.now) instant) }
@@ -84,8 +85,9 @@ impl RowAtConnector<'_> {
         }
     }
 
-    /// Returns until when a reason holds for which other profiles come before the row that
-    /// `explain` checks, if one holds at an instant.
+    /// Returns the instant until which a reason holds for which others precede an installed
+    /// profile, if one holds at `instant`. `explain`'s pages may say that the profile never sets
+    /// the limit because of it.
     fn others_until(&self, instant: Instant) -> Option<u64>
         ensures { IfSome result (IsSoUntil (Says BehindOthers self.now) instant) }
     {
@@ -98,8 +100,9 @@ impl RowAtConnector<'_> {
         self.holds_until(WhyNot::BehindTxProfile, instant)
     }
 
-    /// Returns until when a reason why the profile that `explain` checks doesn't prevail holds, if
-    /// it holds at an instant.
+    /// Returns the instant until which a reason why an installed profile doesn't prevail holds, if
+    /// it holds at `instant`. `explain`'s pages may say that the profile never sets the limit
+    /// because of it.
     fn holds_until(&self, why: WhyNot, instant: Instant) -> Option<u64>
         ensures { IfSome result (IsSoUntil (Holds why self.now) instant) }
     {

@@ -33,8 +33,8 @@ pub fn not_counted(
     Ok(rest)
 }
 
-/// Returns the profile of the row at a place as one that never sets the limit of the explained
-/// request, with the reason.
+/// Returns the installed profile at this index as one that `explain`'s pages list, with the reason,
+/// since it never sets the limit.
 fn not_counted_at(view: &View<'_>, ask: &Ask, place: usize) -> NotCounted
     requires within { place < length view.now.rows.now }
     ensures { HasReason (point_state view.now) ask.now result }
@@ -53,7 +53,8 @@ fn not_counted_at(view: &View<'_>, ask: &Ask, place: usize) -> NotCounted
 }
 
 impl RowInRequest<'_> {
-    /// Returns the reason why the profile of the row never sets the limit of the explained request.
+    /// Returns the reason why an installed profile never sets the limit, for the list of such
+    /// profiles on `explain`'s pages.
     fn reason(&self) -> NotCountedReason
         ensures { IsReason result (point_state self.now.view) self.now.ask self.now.row.now }
     {
@@ -63,8 +64,8 @@ impl RowInRequest<'_> {
         }
     }
 
-    /// Returns the reason that `explain` gives why a profile, checked for a connector, never sets
-    /// the limit. It is the most telling one there, if it holds throughout.
+    /// Returns the reason why a profile, checked for a connector, never sets the limit, for
+    /// `explain`'s pages. It is the most telling one there, if it holds throughout.
     fn reason_at(&self, connector: u32) -> NotCountedReason
         requires row_at_connector { IsLookedAt self.now connector }
         ensures { IsReason result (point_state self.now.view) self.now.ask self.now.row.now }
@@ -78,7 +79,7 @@ impl RowInRequest<'_> {
         }
     }
 
-    /// Returns the reason that `explain` gives why a profile never sets the limit, if no single
+    /// Returns the reason why a profile never sets the limit, for `explain`'s pages, if no single
     /// reason is the most telling one throughout.
     fn reason_of_many(&self, connector: u32) -> NotCountedReason
         requires row_at_connector { IsLookedAt self.now connector }

@@ -53,7 +53,7 @@ pub fn sentence(reason: NotCountedReason) -> &'static str {
     }
 }
 
-/// Returns the sentence of `explain` for a reason why a profile doesn't prevail.
+/// Returns the sentence on `explain`'s pages for a reason why a profile doesn't prevail.
 fn why_not_sentence(why: WhyNot) -> &'static str {
     match why {
         WhyNot::OtherConnector => "It is at another connector.",
@@ -140,7 +140,7 @@ pub fn push_cause(out: &mut Page, cause: Cause) {
 }
 
 /// Appends the cause of a limit in a few words, for `explain`'s picture and for a connector's share
-/// of a sum.
+/// of a sum on `explain`'s pages.
 pub(crate) fn push_short_cause(out: &mut Page, cause: Cause) {
     match cause {
         Cause::Profile(profile) => push_short_profile(out, profile),
@@ -171,8 +171,8 @@ pub fn push_why(out: &mut Page, reason: &Reason, unit: Unit, known: &[KnownProfi
     }
 }
 
-/// Appends a share of a summed limit to `explain`'s pages or the status page, with its cause:
-/// `connector 1 10.0 A by TxProfile 4`.
+/// Appends a connector's share of a summed limit to a page of `explain` or the status page, with
+/// its cause: `connector 1 10.0 A by TxProfile 4`.
 fn push_share(out: &mut Page, share: &Share, unit: Unit) {
     let connector = share.connector;
     write!(out, "connector {connector} ");

@@ -65,12 +65,14 @@ pub fn first_break(alloc: Global, text: &str) -> Result<JsonBreak, AllocError> {
 }
 
 impl Nesting {
-    /// Returns whether the outermost value of a text has ended.
+    /// Returns whether the outermost value of a text has ended, for the finding where a site file
+    /// or a message stops being JSON.
     fn is_closed(&self) -> bool {
         self.open.is_empty() && !self.wants_value
     }
 
-    /// Takes the next token of a text. Returns whether the object or list around it allows it.
+    /// Takes the next token of a site file or a message, for the finding where it stops being JSON.
+    /// Returns whether the object or list around the token allows it.
     fn takes(&mut self, token: Token<'_>) -> Result<bool, AllocError> {
         let wants_value = mem::replace(&mut self.wants_value, false);
         let around = self.open.last().copied();
@@ -96,8 +98,8 @@ impl Nesting {
     }
 }
 
-/// Makes the break of a text at the offset of a token. `is_whole` says whether a whole value comes
-/// before it.
+/// Makes the finding's break of a text that isn't JSON, a site file or a message, at the offset of
+/// a token. `is_whole` says whether a whole value comes before it.
 fn break_at(text: &str, offset: usize, is_whole: bool) -> JsonBreak {
     let before = text.get(..offset).unwrap_or(text).trim_end();
     // The reader passes a comma with the value before it, and gives no token for it.
@@ -119,8 +121,8 @@ fn break_at(text: &str, offset: usize, is_whole: bool) -> JsonBreak {
     }
 }
 
-/// Returns the cure of a common mistake where a text stops being JSON: at the character `found`,
-/// with another before it.
+/// Returns the cure of a common mistake, for the finding that a site file or a message stops being
+/// JSON: at the character `found`, with another before it.
 fn hint_of(before: Option<char>, found: char) -> Option<&'static str> {
     match (before, found) {
         (Some(','), ']' | '}') => Some("the comma before it is one too many"),
@@ -159,7 +161,8 @@ impl fmt::Display for JsonBreak {
     }
 }
 
-/// Returns whether a character is visible in print, for the message about a text that isn't JSON.
+/// Returns whether a character is visible in print, for a finding that a site file or a message
+/// isn't JSON.
 // A no-break space looks like a space, and a byte order mark like nothing: their codes are printed.
 fn is_printable(character: char) -> bool {
     match character {

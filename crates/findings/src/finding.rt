@@ -145,8 +145,8 @@ pub fn sort_by_line(findings: &mut Vec<Finding>) -> Result<(), AllocError> {
     findings.sort_by_key(|finding| line_of(&finding.place))
 }
 
-/// Returns a finding's line in a script or a journal, or a number below or above all lines, to sort
-/// findings by it.
+/// Returns a finding's line in a script or a journal, by which `check` sorts its findings. Without
+/// a line it is a number below or above all lines.
 fn line_of(place: &Location) -> u64 {
     match place {
         Location::Line { number, .. } => *number,
@@ -189,7 +189,8 @@ pub fn has_fault(findings: &[Finding]) -> bool
         .any(|finding| matches!(finding.severity, Severity::Fault))
 }
 
-/// Returns whether one of these findings is a warning, for the exit status of `check`.
+/// Returns, for the exit status of `check`, whether one of these findings is a warning, in a site
+/// file, a file of keys, a script or a journal.
 fn has_warning(findings: &[Finding]) -> bool
     ensures { result ≡ has_warning findings.now }
 {

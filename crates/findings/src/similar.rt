@@ -31,8 +31,8 @@ pub fn is_similar(alloc: Global, found: &str, name: &str) -> Result<bool, AllocE
     Ok(distance_to(alloc, found, name)?.is_some())
 }
 
-/// Returns by how many letters a misspelled name differs from one that may be meant, 0 if only in
-/// case. `None` if they are equal or aren't similar.
+/// Returns by how many letters a name in a site file or a message differs from one that a finding
+/// suggests, 0 if only in case. `None` if they are equal or aren't similar.
 fn distance_to(alloc: Global, found: &str, name: &str) -> Result<Option<usize>, AllocError> {
     if found == name || found.len() > MAX_COMPARED || name.len() > MAX_COMPARED {
         return Ok(None);

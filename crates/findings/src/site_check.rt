@@ -40,21 +40,21 @@ pub fn check_site(alloc: Global, bytes: &[u8]) -> Result<Vec<Finding>, AllocErro
     }
 }
 
-/// Returns a list of one finding, which ends the check of a site file.
+/// Returns a list of the one finding with which `check` of a site file ends.
 fn alone(alloc: Global, finding: Finding) -> Result<Vec<Finding>, AllocError> {
     let mut findings = Vec::new(alloc);
     findings.push(finding)?;
     Ok(findings)
 }
 
-/// Describes the break of a site file that isn't JSON throughout, with its place.
+/// Describes, for `check`, the break of a site file that isn't JSON throughout, with its place.
 fn describe_break(alloc: Global, text: &str) -> Result<(Location, String), AllocError> {
     let fault = first_break(alloc, text)?;
     let message = format!(in alloc; "the JSON breaks where {fault}")?;
     Ok((place_in_text(text, fault.offset), message))
 }
 
-/// Returns the findings in a site file from which a tree can be read.
+/// Returns the findings of `check` in a site file from which a JSON tree can be read.
 fn check_text(alloc: Global, text: &str) -> Result<Vec<Finding>, AllocError> {
     if let Some(findings) = pass_over(alloc, text, false)? {
         return Ok(findings);
@@ -72,8 +72,8 @@ fn check_text(alloc: Global, text: &str) -> Result<Vec<Finding>, AllocError> {
     Ok(findings)
 }
 
-/// Goes through the text of a site file, which may be marked, and returns the findings, or none if
-/// the text isn't JSON.
+/// Goes through the text of a site file, which may be marked, and returns the findings of `check`,
+/// or none if the text isn't JSON.
 fn pass_over(
     alloc: Global,
     text: &str,
@@ -90,7 +90,7 @@ fn pass_over(
     Ok(Some(findings))
 }
 
-/// Reads the unit and the points of a site file, and adds the findings in them.
+/// Reads the unit and the points of a site file, and adds the findings of `check` in them.
 fn read_fields<'a>(
     pass: &mut SitePass<'a>,
     reader: &mut Reader<'a>,
@@ -129,7 +129,7 @@ fn read_fields<'a>(
     Ok(())
 }
 
-/// Adds the fault that a site file is a JSON value other than an object.
+/// Adds to the findings of `check` the fault that a site file is a JSON value other than an object.
 fn add_no_object(
     alloc: Global,
     whole: Glance<'_>,
@@ -142,7 +142,8 @@ fn add_no_object(
     Ok(())
 }
 
-/// Adds the faults of a site file's `unit` and `points`, with the findings in the points.
+/// Adds to the findings of `check` the faults of a site file's `unit` and `points`, with the
+/// findings in the points.
 fn add_site(
     alloc: Global,
     fields: [KnownField<'_>; 2],
@@ -162,7 +163,7 @@ fn add_site(
     Ok(())
 }
 
-/// Returns whether a value in a site file is valid as its `unit`.
+/// Returns, for a finding of `check`, whether a value in a site file is valid as its `unit`.
 fn is_unit(value: Option<Glance<'_>>) -> bool {
     match value {
         Some(Glance::Text(text)) => Unit::named(text).is_some(),

@@ -36,7 +36,7 @@ pub(crate) struct SitePass<'a> {
 }
 
 impl<'a> SitePass<'a> {
-    /// Begins before the first value of a site file.
+    /// Begins the pass of `check` through a site file, before the first value.
     pub(crate) fn new(alloc: Global, text: &'a str, is_marked: bool) -> SitePass<'a> {
         SitePass {
             alloc,
@@ -49,12 +49,13 @@ impl<'a> SitePass<'a> {
         }
     }
 
-    /// Notes whether an allocation failed for a finding in a site file.
+    /// Notes whether an allocation failed for a finding of `check` in a site file.
     pub(crate) fn note(&mut self, outcome: Result<(), AllocError>) {
         self.is_short |= outcome.is_err();
     }
 
-    /// Begins the next value of a site file, if it is a list (`[`) or an object (`{`) as wanted.
+    /// Begins the next value of a site file that `check` reads, if it is a list (`[`) or an object
+    /// (`{`) as wanted.
     pub(crate) fn begins(&self, reader: &mut Reader<'a>, wanted: u8) -> bool {
         let is_wanted = self.next_byte(reader) == Some(wanted);
         if is_wanted {
@@ -63,12 +64,13 @@ impl<'a> SitePass<'a> {
         is_wanted
     }
 
-    /// Returns the first byte of the next token of a site file.
+    /// Returns the first byte of the next token of a site file that `check` reads.
     fn next_byte(&self, reader: &Reader<'a>) -> Option<u8> {
         self.text.as_bytes().get(reader.offset()).copied()
     }
 
-    /// Reads the next value of a site file, without the contents of a list or an object.
+    /// Reads the next value of a site file for `check`, without the contents of a list or an
+    /// object.
     pub(crate) fn read_value(&self, reader: &mut Reader<'a>) -> Result<Glance<'a>, Invalid> {
         let value = match self.next_byte(reader) {
             Some(b'[') => Glance::List,
@@ -79,7 +81,7 @@ impl<'a> SitePass<'a> {
         Ok(value)
     }
 
-    /// Reads the next value of a site file that is neither a list nor an object.
+    /// Reads the next value of a site file for `check`, which is neither a list nor an object.
     fn read_scalar(&self, reader: &mut Reader<'a>) -> Result<Glance<'a>, Invalid> {
         match reader.next() {
             Some(Token::String(text)) => match after_mark(text, b'n') {
@@ -93,7 +95,7 @@ impl<'a> SitePass<'a> {
         }
     }
 
-    /// Returns a name or a string of a site file without its mark, a letter before it.
+    /// Returns a name or a string of a site file without its mark, a letter before it, for `check`.
     fn unmarked(&self, text: &'a str) -> &'a str {
         if self.is_marked {
             text.get(1..).unwrap_or(text)
@@ -102,7 +104,7 @@ impl<'a> SitePass<'a> {
         }
     }
 
-    /// Returns the place of a finding at an offset in the text of a site file.
+    /// Returns the place of a finding of `check` at an offset in the text of a site file.
     fn place(&self, offset: usize) -> Location {
         if self.is_marked {
             Location::File
@@ -111,8 +113,9 @@ impl<'a> SitePass<'a> {
         }
     }
 
-    /// Reads the next name in an object of a site file. Returns the index of its known field, or
-    /// the number of known fields if it is none of them. Returns none at the end of the object.
+    /// Reads the next name in an object of a site file for `check`. Returns the index of its known
+    /// field, or the number of known fields if it is none of them. Returns none at the end of the
+    /// object.
     pub(crate) fn next_field(
         &mut self,
         reader: &mut Reader<'a>,
@@ -137,7 +140,8 @@ impl<'a> SitePass<'a> {
         Ok(Some(fields.len()))
     }
 
-    /// Warns of a duplicate field of a site file, unless there are too many.
+    /// Adds to the findings of `check` a warning of a duplicate field of a site file, unless there
+    /// are too many.
     fn warn_repeated(&mut self, name: &str, offset: usize) -> Result<(), AllocError> {
         if self.repeated.len() >= MAX_REPORTED {
             return Ok(());
@@ -150,8 +154,8 @@ impl<'a> SitePass<'a> {
         Ok(())
     }
 
-    /// Warns of an unknown field of a site file, unless there are too many. Notes it at the known
-    /// field that is probably meant.
+    /// Adds to the findings of `check` a warning of an unknown field of a site file, unless there
+    /// are too many. Notes the name at the known field that is probably meant.
     fn warn_unknown(
         &mut self,
         fields: &mut [KnownField<'a>],
@@ -185,8 +189,8 @@ impl<'a> SitePass<'a> {
         Ok(())
     }
 
-    /// Appends the warnings of a site file's unknown and duplicate fields, unless an allocation
-    /// failed.
+    /// Appends the warnings of a site file's unknown and duplicate fields to the findings of
+    /// `check`, unless an allocation failed.
     pub(crate) fn append_to(self, findings: &mut Vec<Finding>) -> Result<(), AllocError> {
         let SitePass {
             alloc,

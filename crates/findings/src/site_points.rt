@@ -49,7 +49,7 @@ struct Connectors {
 }
 
 impl CheckedPoints {
-    /// Begins before the first point of a site file, without findings.
+    /// Begins the findings of `check` in a site file's points, before the first point.
     pub(crate) fn new(alloc: Global) -> CheckedPoints {
         CheckedPoints {
             alloc,
@@ -60,7 +60,8 @@ impl CheckedPoints {
         }
     }
 
-    /// Reads the list of points of a site file, which has begun, and checks each of them.
+    /// Reads the list of points of a site file, which has begun, and checks each of them for
+    /// `check`.
     pub(crate) fn read<'a>(
         &mut self,
         pass: &mut SitePass<'a>,
@@ -83,7 +84,8 @@ impl CheckedPoints {
         Ok(())
     }
 
-    /// Adds a fault for an entry in the list of points of a site file that is no object.
+    /// Adds to the findings of `check` a fault for an entry in the list of points of a site file
+    /// that is no object.
     fn add_other(&mut self, index: usize, value: Glance<'_>) -> Result<(), AllocError> {
         let message = format!(in self.alloc;
             "{value}; expected an object with id, ceiling and connectors"
@@ -91,7 +93,7 @@ impl CheckedPoints {
         self.add(Finding::fault(Location::Point { index, id: None }, message))
     }
 
-    /// Reads a point of a site file, whose object has begun, and checks it.
+    /// Reads a point of a site file, whose object has begun, and checks it for `check`.
     fn read_point<'a>(
         &mut self,
         pass: &mut SitePass<'a>,
@@ -131,7 +133,7 @@ impl CheckedPoints {
         Ok(())
     }
 
-    /// Checks a point of a site file, and adds the findings in it.
+    /// Checks a point of a site file, and adds the findings of `check` in it.
     fn check(
         &mut self,
         index: usize,
@@ -170,8 +172,8 @@ impl CheckedPoints {
         }
     }
 
-    /// Describes the fault of the `id` of a point in a site file, if it isn't valid or is that of
-    /// an earlier point. Notes this point otherwise.
+    /// Describes, for `check`, the fault of the `id` of a site file's point, if it isn't valid or
+    /// is that of an earlier point. Otherwise notes the `id`.
     fn id_fault(
         &mut self,
         index: usize,
@@ -193,7 +195,7 @@ impl CheckedPoints {
         }
     }
 
-    /// Adds a finding in the points of a site file, unless there are too many.
+    /// Adds a finding of `check` in the points of a site file, unless there are too many.
     fn add(&mut self, finding: Finding) -> Result<(), AllocError> {
         if self.findings.len() >= MAX_FOUND {
             self.more = true;
@@ -203,8 +205,8 @@ impl CheckedPoints {
         Ok(())
     }
 
-    /// Appends the findings in the points of a site file: a fault if there are too few or too many
-    /// points, those in each, and a warning if there are more findings.
+    /// Appends the findings of `check` in the points of a site file: a fault if there are too few
+    /// or too many points, those in each, and a warning if there are more findings.
     pub(crate) fn append_to(self, findings: &mut Vec<Finding>) -> Result<(), AllocError> {
         let CheckedPoints {
             alloc,
@@ -229,7 +231,7 @@ impl CheckedPoints {
 }
 
 impl Connectors {
-    /// Begins before the first connector of a point in a site file.
+    /// Begins before the first connector of a point in a site file that `check` reads.
     fn new(alloc: Global) -> Connectors {
         Connectors {
             count: 0,
@@ -238,7 +240,8 @@ impl Connectors {
         }
     }
 
-    /// Reads the list of the ceilings of a point's connectors in a site file, which has begun.
+    /// Reads for `check` the list of the ceilings of a point's connectors in a site file, which has
+    /// begun.
     fn read<'a>(
         &mut self,
         pass: &mut SitePass<'a>,
@@ -256,7 +259,8 @@ impl Connectors {
         Ok(())
     }
 
-    /// Adds the ceiling of a point's connector in a site file, or a message if it isn't valid.
+    /// Adds the ceiling of a point's connector in a site file, or a message of `check` if it isn't
+    /// valid.
     fn add(&mut self, alloc: Global, index: usize, value: Glance<'_>) -> Result<(), AllocError> {
         if let Some(ceiling) = ceiling_of(value) {
             self.together = self.together.saturating_add(ceiling);
@@ -267,8 +271,8 @@ impl Connectors {
         Ok(())
     }
 
-    /// Adds the faults of the list of a point's connectors in a site file. Returns the sum of their
-    /// ceilings, 0 if one isn't valid.
+    /// Adds the faults of the list of a point's connectors in a site file, for `check`. Returns the
+    /// sum of their ceilings, 0 if one isn't valid.
     fn add_faults(self, alloc: Global, faults: &mut Vec<String>) -> Result<u64, AllocError> {
         let Connectors {
             count,
@@ -286,7 +290,8 @@ impl Connectors {
     }
 }
 
-/// Returns the ceiling of a point or a connector in a site file, in tenths, if its value is valid.
+/// Returns the ceiling of a point or a connector in a site file, in tenths, if its value is valid,
+/// for `check`.
 fn ceiling_of(value: Glance<'_>) -> Option<u64> {
     match value {
         Glance::Number(text) => read_tenths(text).ok().map(u64::from),
@@ -294,18 +299,20 @@ fn ceiling_of(value: Glance<'_>) -> Option<u64> {
     }
 }
 
-/// Returns whether a text in a site file is valid as the `id` of a point.
+/// Returns, for a finding of `check`, whether a text in a site file is valid as the `id` of a
+/// point.
 fn is_point_id(id: &str) -> bool {
     !id.is_empty() && id.len() <= MAX_ID_CHARACTERS && id.bytes().all(is_id_byte)
 }
 
-/// Returns whether the `id` of a point in a site file may contain this byte.
+/// Returns, for a finding of `check`, whether the `id` of a point in a site file may contain this
+/// byte.
 fn is_id_byte(byte: u8) -> bool {
     matches!(byte, b'A'..=b'Z' | b'a'..=b'z' | b'0'..=b'9' | b'.' | b'_' | b'-' | b'~')
 }
 
-/// Returns the place of a finding in a point of a site file, with its identity if that is a string
-/// that isn't empty.
+/// Returns the place of a finding of `check` in a point of a site file. It has the point's identity
+/// if that is a string that isn't empty.
 fn place_of(alloc: Global, index: usize, id: &KnownField<'_>) -> Result<Location, AllocError> {
     let id = match id.value {
         Some(Glance::Text(id)) if !id.is_empty() => {
@@ -317,8 +324,8 @@ fn place_of(alloc: Global, index: usize, id: &KnownField<'_>) -> Result<Location
     Ok(Location::Point { index, id })
 }
 
-/// Describes, for a remark, that the ceilings of a point's connectors in a site file add up to more
-/// than the point's.
+/// Describes, for a remark of `check`, that the ceilings of a point's connectors in a site file add
+/// up to more than the point's.
 // It is no warning, since this is so at most points.
 fn together_message(alloc: Global, ceiling: u64, together: u64) -> Result<String, AllocError> {
     let together = tenths_text(alloc, together)?;

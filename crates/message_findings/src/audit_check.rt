@@ -15,8 +15,8 @@ pub(crate) struct JudgedAudit {
     pub outcome: AuditOutcome,
 }
 
-/// Returns the last audit of a point (its GetCompositeSchedule to compare) for `check`, after a
-/// reply of the point confirmed a call.
+/// Returns a point's last audit (a GetCompositeSchedule to compare) after a reply of the point
+/// confirmed a call. `check` reports a finding about that reply in a script or a journal.
 // That may be another call than the audit's, so its number is compared with the reply's id later.
 pub(crate) fn judged_audit(machine: &Machine, point: &str) -> Option<JudgedAudit> {
     let audit = machine.audit_of(point)?;
@@ -28,8 +28,9 @@ pub(crate) fn judged_audit(machine: &Machine, point: &str) -> Option<JudgedAudit
     })
 }
 
-/// Checks, for `check`, a point's reply to an audit (a GetCompositeSchedule). Warns if its schedule
-/// differs from what the central system means, or is missing. Remarks if they can't be compared.
+/// Checks, for `check`, a point's reply to an audit (a GetCompositeSchedule) in a script or a
+/// journal. Warns if its schedule differs from what the central system means, or is missing.
+/// Remarks if they can't be compared.
 pub(crate) fn check_verdict(report: &mut Report, audit: &JudgedAudit) {
     let JudgedAudit {
         connector,

@@ -29,7 +29,8 @@ pub(crate) struct LineCall<'a, 'node, 'memory> {
     pub payload: Node<'node, 'memory>,
 }
 
-/// Checks a CALL in a line of a script: whether its sender has the action, then its payload.
+/// Checks, for `check` or `call`, a CALL in a line of a script or a journal: whether its sender has
+/// the action, then its payload.
 pub(crate) fn check_call(report: &mut Report, call: &LineCall<'_, '_, '_>) {
     let kind = ActionKind::named(call.action);
     if call.text.sender == Sender::Hold && kind != Some(ActionKind::GetCompositeSchedule) {
@@ -42,14 +43,14 @@ pub(crate) fn check_call(report: &mut Report, call: &LineCall<'_, '_, '_>) {
     }
 }
 
-/// Reports, for `check` or `call`, a CALL with an action that its sender doesn't have. Adds the
-/// action that was probably meant.
+/// Reports, for `check` of a script or `call`, a CALL with an action that its sender doesn't have.
+/// Adds the action that was probably meant.
 pub(crate) fn refuse_action(report: &mut Report, sender: Side, name: &str) {
     report.fault(unknown_action_message(report.alloc, sender, name));
 }
 
-/// Describes, for `check` or `call`, a CALL's action that its sender doesn't have. Adds the action
-/// that was probably meant.
+/// Describes, for `check` of a script or `call`, a CALL's action that its sender doesn't have. Adds
+/// the action that was probably meant.
 fn unknown_action_message(alloc: Global, sender: Side, name: &str) -> Result<String, AllocError> {
     let actions = actions_of(alloc, sender)?;
     let sender = match sender {
@@ -70,8 +71,8 @@ fn unknown_action_message(alloc: Global, sender: Side, name: &str) -> Result<Str
     }
 }
 
-/// Returns the names of the actions that an operator or a point may send. `check` or `call`
-/// suggests one of them.
+/// Returns the names of the actions that an operator or a point may send. `check` of a script or
+/// `call` suggests one of them for a misspelled action.
 fn actions_of(alloc: Global, side: Side) -> Result<Vec<&'static str>, AllocError> {
     let mut names = Vec::new(alloc);
     for kind in ActionKind::all() {
@@ -82,7 +83,8 @@ fn actions_of(alloc: Global, side: Side) -> Result<Vec<&'static str>, AllocError
     Ok(names)
 }
 
-/// Checks the payload of a CALL in a line of a script: its fields, then its request.
+/// Checks, for `check` or `call`, the payload of a CALL in a line of a script or a journal: its
+/// fields, then its request.
 fn check_action(report: &mut Report, call: &LineCall<'_, '_, '_>, kind: ActionKind) {
     let alloc = report.alloc;
     let Ok(fields) = payload_fields(alloc, call.text.frame, kind) else {
@@ -104,7 +106,8 @@ fn check_action(report: &mut Report, call: &LineCall<'_, '_, '_>, kind: ActionKi
     }
 }
 
-/// Checks the request of a CALL in a line of a script, whose fields are right, by its action.
+/// Checks, for `check` or `call`, the request of a CALL in a line of a script or a journal by its
+/// action. The CALL's fields are valid.
 fn check_asked(report: &mut Report, call: &LineCall<'_, '_, '_>, action: Action) {
     match action {
         Action::SetChargingProfile { connector, profile } => {
@@ -124,8 +127,8 @@ fn check_asked(report: &mut Report, call: &LineCall<'_, '_, '_>, action: Action)
     }
 }
 
-/// Reports the refusal of a CALL in a script whose action has no other check, unless it depends on
-/// the point's state.
+/// Reports, for `check` or `call`, the refusal of a CALL in a script that no other check covers,
+/// unless it depends on the point's state.
 fn check_refused(report: &mut Report, text: &LineMessage<'_>) {
     match text.refusal() {
         Some(Refusal::UnknownPoint) => refuse_point(report, text),
@@ -134,7 +137,7 @@ fn check_refused(report: &mut Report, text: &LineMessage<'_>) {
     }
 }
 
-/// Warns, for `check` or `call`, of duplicate fields of an operator's CALL.
+/// Warns, for `check` of a script or `call`, of duplicate fields of an operator's CALL.
 pub(crate) fn warn_repeated(report: &mut Report, fields: &PayloadFields) {
     for name in &fields.repeated {
         report.warn(format!(in report.alloc;
@@ -143,7 +146,7 @@ pub(crate) fn warn_repeated(report: &mut Report, fields: &PayloadFields) {
     }
 }
 
-/// Warns, for `check` or `call`, of unknown fields of an operator's CALL.
+/// Warns, for `check` of a script or `call`, of unknown fields of an operator's CALL.
 pub(crate) fn warn_unknown(report: &mut Report, kind: ActionKind, fields: &PayloadFields) {
     // OCPP doesn't have these two actions, so it doesn't define their fields.
     let whose = match kind {
@@ -155,8 +158,8 @@ pub(crate) fn warn_unknown(report: &mut Report, kind: ActionKind, fields: &Paylo
     }
 }
 
-/// Describes, for a warning of `check` or `call`, an unknown field of an operator's CALL, and the
-/// field that was probably meant.
+/// Describes, for a warning of `check` on a script or of `call`, an unknown field of an operator's
+/// CALL. Adds the field that was probably meant.
 fn unknown_field_message(
     alloc: Global,
     field: &UnknownField,
@@ -172,8 +175,8 @@ fn unknown_field_message(
     }
 }
 
-/// Checks a ClearChargingProfile in a line of a script: whether the site has its point, and its
-/// fields that are no criteria.
+/// Checks, for `check` or `call`, a ClearChargingProfile in a line of a script or a journal:
+/// whether the site has its point, and its fields that are no criteria.
 // An unknown field of a clear has a warning of its own: it may clear more than is meant.
 fn check_clear(
     report: &mut Report,
@@ -187,8 +190,8 @@ fn check_clear(
     warn_of_clear(report, call.payload, criteria, fields);
 }
 
-/// Warns, for `check` or `call`, of a ClearChargingProfile that clears more than it seems to. It
-/// has no criterion, or has fields that are none.
+/// Warns, for `check` of a script or `call`, of a ClearChargingProfile that clears more than it
+/// seems to. It has no criterion, or has fields that are no criteria.
 // Unknown fields are ignored, so a clear whose only criterion is misspelled clears everything.
 pub(crate) fn warn_of_clear(
     report: &mut Report,
@@ -207,8 +210,8 @@ pub(crate) fn warn_of_clear(
     }
 }
 
-/// Returns whether a ClearChargingProfile without a criterion has fields, unknown or null, so that
-/// `call` takes it for a mistake.
+/// Returns whether an operator's ClearChargingProfile without a criterion has fields, unknown or
+/// null. `call` then takes it for a mistake and doesn't send it.
 pub(crate) fn has_fields(payload: Node<'_, '_>, fields: &PayloadFields) -> bool {
     for row in fields_of(ActionKind::ClearChargingProfile) {
         if payload.field(row.name().text()).is_some() {
@@ -218,8 +221,8 @@ pub(crate) fn has_fields(payload: Node<'_, '_>, fields: &PayloadFields) -> bool 
     !fields.unknown.is_empty()
 }
 
-/// Describes, for a warning of `check` or `call`, a ClearChargingProfile without a criterion, and
-/// the criteria that were probably meant.
+/// Describes, for a warning of `check` on a script or of `call`, a ClearChargingProfile without a
+/// criterion, and the criteria that were probably meant.
 fn clears_all_message(
     alloc: Global,
     payload: Node<'_, '_>,
@@ -245,8 +248,8 @@ fn clears_all_message(
     Ok(message)
 }
 
-/// Returns the criterion of a ClearChargingProfile that is probably meant by an unknown field of
-/// this name, for a warning of `check` or `call`.
+/// Returns, for `check` of a script or `call`, the criterion of a ClearChargingProfile that an
+/// unknown field of this name probably means.
 // These names are from other messages or OCPP 2.0.1, and not similar enough for `similar_name`.
 fn criterion_meant(alloc: Global, name: &str) -> Result<Option<&'static str>, AllocError> {
     match name {
@@ -261,20 +264,21 @@ fn criterion_meant(alloc: Global, name: &str) -> Result<Option<&'static str>, Al
     }
 }
 
-/// Reports that the site lacks the point of a message in a script. Adds the identity that is
-/// probably meant.
+/// Reports, for `check`, that the site lacks the point of a message in a script. Adds the identity
+/// that is probably meant.
 pub(crate) fn refuse_point(report: &mut Report, text: &LineMessage<'_>) {
     let message = unknown_point(report, text.site, text.point);
     report.fault(message);
 }
 
-/// Returns the point of the site that a line of a script names, if the site has it.
+/// Returns the site's point that a line of a script names, if there is one. The findings of `check`
+/// or `call` about the line's message need it.
 pub(crate) fn point_of<'a>(text: &LineMessage<'a>) -> Option<SitePoint<'a>> {
     text.site.point(text.site.place_of(text.point)?)
 }
 
-/// Checks a GetCompositeSchedule or an AuditPoint in a script by its answer. Reports a refusal
-/// unless it depends on the point's state.
+/// Checks, for `check` or `call`, a GetCompositeSchedule or an AuditPoint in a script by its
+/// answer. Reports a refusal unless it depends on the point's state.
 fn check_ask(report: &mut Report, text: &LineMessage<'_>, connector: u32, duration: u32) {
     match text.rejection() {
         None => {}
@@ -292,7 +296,8 @@ fn check_ask(report: &mut Report, text: &LineMessage<'_>, connector: u32, durati
     }
 }
 
-/// Describes the value in an operator's CALL in a script for which the site refuses it.
+/// Describes, for a fault of `check` or `call`, the connector or the unit for which the site
+/// refuses an operator's CALL in a script.
 pub(crate) fn place_found(
     alloc: Global,
     text: &LineMessage<'_>,
@@ -309,8 +314,8 @@ pub(crate) fn place_found(
     }
 }
 
-/// Describes the unit of the site file, for the fault that an operator's CALL has the other
-/// chargingRateUnit.
+/// Describes the unit of the site file, for a fault of `check` in a script or of `call`: an
+/// operator's CALL has the other chargingRateUnit.
 pub(crate) fn unit_found(site: &Site) -> &'static str {
     match site.unit() {
         Unit::A => "the site's is \"A\"",
@@ -318,8 +323,8 @@ pub(crate) fn unit_found(site: &Site) -> &'static str {
     }
 }
 
-/// Reports, for `check` or `call`, the refusal of an operator's CALL with its sentence, and with
-/// the value found if that is known.
+/// Reports, for `check` or `call`, the refusal of a CALL in a script or one to be sent. Adds its
+/// sentence, and the value found if that is known.
 pub(crate) fn reject(report: &mut Report, refusal: Refusal, found: Option<&str>) {
     let name = refusal.name();
     let why = sentence(refusal);
@@ -329,8 +334,8 @@ pub(crate) fn reject(report: &mut Report, refusal: Refusal, found: Option<&str>)
     }
 }
 
-/// Reports, for `check` or `call`, the refusal of an operator's CALL with its sentence and the
-/// value found, unless an allocation for that value failed.
+/// Reports, for `check` or `call`, the refusal of a CALL in a script or one to be sent. Adds its
+/// sentence and the value found, unless an allocation for that value failed.
 pub(crate) fn reject_found(
     report: &mut Report,
     refusal: Refusal,
@@ -342,7 +347,8 @@ pub(crate) fn reject_found(
     }
 }
 
-/// Checks a StartTransaction in a line of a script. Reports a connector that the point lacks.
+/// Checks, for `check`, a point's StartTransaction in a line of a script or a journal. Reports a
+/// connector that the point lacks.
 fn check_start(report: &mut Report, text: &LineMessage<'_>, connector: u32) {
     let Some(point) = point_of(text) else {
         return;

@@ -13,8 +13,8 @@ struct ObjectPlace<'node, 'memory> {
     object: PayloadObject<'node, 'memory>,
 }
 
-/// Describes, for a fault of `check` or `call`, the CALLERROR that a CALL gets, with the field, the
-/// value found there and the value wanted.
+/// Describes, for a fault of `check` in a script or of `call`, the CALLERROR that a CALL gets. Adds
+/// the field, the value found there and the value wanted.
 pub(crate) fn field_fault_message(
     alloc: Global,
     payload: Node<'_, '_>,
@@ -46,8 +46,8 @@ pub(crate) fn field_fault_message(
     format!(in alloc; "{code}: {path}{field}")
 }
 
-/// Returns the field of the payload that the fault of a CALL names, if it names one, for the
-/// message of `check` or `call`.
+/// Returns the field of the payload that the fault of a CALL names, if any, for `check` of a script
+/// or `call`.
 fn field_of(fault: CallFault) -> Option<FieldName> {
     match fault {
         CallFault::OccurenceConstraintViolation(field)
@@ -57,8 +57,9 @@ fn field_of(fault: CallFault) -> Option<FieldName> {
     }
 }
 
-/// Returns the outermost object of a CALL's payload whose table has a field of this name, and the
-/// path to it. If an object on the path is absent, returns the last one that is present.
+/// Finds, for `check` of a script or `call`, the outermost object of a CALL's payload whose table
+/// has a field of this name. Returns the path to it too. If an object on the path is absent,
+/// returns the last one that is present.
 // A fault names its field without a path, so the payload is searched for it.
 fn place_of_field<'node, 'memory>(
     alloc: Global,
@@ -88,8 +89,8 @@ fn place_of_field<'node, 'memory>(
     Ok(place)
 }
 
-/// Returns the first entry in a list of a CALL's payload with this field at fault, its list and its
-/// index.
+/// Finds, for `check` of a script or `call`, the first object with this field at fault in a list of
+/// a CALL's payload. Returns the list, the index and the object.
 fn first_bad<'node, 'memory>(
     object: PayloadObject<'node, 'memory>,
     name: &str,
@@ -116,8 +117,8 @@ fn first_bad<'node, 'memory>(
     None
 }
 
-/// Returns whether a field of an object in a list of a CALL's payload has no fault, such as a
-/// period's limit. The objects of lists have no fields of other kinds.
+/// Returns, for `check` of a script or `call`, whether a field of an object in a list of a CALL's
+/// payload is valid. The objects of lists have only whole numbers and limits.
 fn is_right(object: Node<'_, '_>, row: FieldRow) -> bool {
     let name = row.name().text();
     match row.kind() {
@@ -135,13 +136,14 @@ fn is_right(object: Node<'_, '_>, row: FieldRow) -> bool {
     }
 }
 
-/// Returns whether a field of a CALL's payload is optional, so that its absence is no fault.
+/// Returns whether a field of a CALL's payload is optional, so that its absence is no fault for
+/// `check` of a script or `call`.
 fn may_be_absent(row: FieldRow) -> bool {
     matches!(row, FieldRow::Optional(_, _))
 }
 
-/// Describes, for a fault of `check` or `call`, the value wanted at a field of a CALL's payload, by
-/// its name or its kind.
+/// Describes, for `check` of a script or `call`, the value wanted at a field of a CALL, by its name
+/// or its kind.
 fn wanted_of(row: FieldRow) -> &'static str {
     match row.name() {
         FieldName::StackLevel => "a whole number from 0 to 99",
@@ -150,8 +152,8 @@ fn wanted_of(row: FieldRow) -> &'static str {
     }
 }
 
-/// Describes, for a fault of `check` or `call`, the value wanted at a field of this kind in a
-/// CALL's payload.
+/// Describes, for a fault of `check` in a script or of `call`, the value wanted at a field of this
+/// kind in a CALL's payload.
 fn wanted_of_kind(kind: FieldKind) -> &'static str {
     match kind {
         FieldKind::Whole => "a whole number from -2147483648 to 2147483647",

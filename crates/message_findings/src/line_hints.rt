@@ -46,8 +46,8 @@ fn word_at(line: &str, place: usize) -> &str {
     line.split(' ').nth(place).unwrap_or("")
 }
 
-/// Describes the fault of a script's line that has none of the forms of lines, with the probable
-/// mistake.
+/// Describes, for `check`, the fault of a script's line that has none of the forms of lines, with
+/// the probable mistake.
 fn bad_line(alloc: Global, text: &str) -> Result<String, AllocError> {
     let hint = form_hint(alloc, text)?;
     let fault = ScriptLineFault::BadLine;
@@ -201,8 +201,8 @@ fn instant_hint(word: &str, fault: InstantFault) -> &'static str {
     "is no instant"
 }
 
-/// Returns a hint at the point that an unknown identity in a script probably means, for the first
-/// 1,000 such identities.
+/// Returns, for a fault of `check`, a hint at the site's point that an unknown identity in a script
+/// probably means. Only the first 1,000 such identities get one.
 fn point_hint(report: &mut Report, site: &Site, id: &str) -> Result<String, AllocError> {
     let alloc = report.alloc;
     if !report.takes_hint() {

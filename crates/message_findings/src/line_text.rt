@@ -20,7 +20,8 @@ pub(crate) enum Sender {
 }
 
 impl Sender {
-    /// Returns the sender of a message of this side in a line of a script without a `hold`.
+    /// Returns the sender of a message that `check` or `call` checks, an operator or a point, in a
+    /// line of a script without a `hold`.
     pub(crate) fn of_side(side: Side) -> Sender {
         match side {
             Side::Operator => Sender::Operator,
@@ -28,8 +29,8 @@ impl Sender {
         }
     }
 
-    /// Returns the side that sends the message in a line of a script: an operator, also in a `hold`
-    /// line, or a point.
+    /// Returns the side that sends a message that `check` or `call` checks: an operator, also in a
+    /// `hold` line of a script, or a point.
     pub(crate) fn side(self) -> Side {
         match self {
             Sender::Operator | Sender::Hold => Side::Operator,
@@ -60,7 +61,8 @@ pub(crate) struct LineMessage<'a> {
 }
 
 impl<'a> LineMessage<'a> {
-    /// Makes the message of a script's line, with the output that `replay` prints for it.
+    /// Makes the message of a script's line for the findings of `check` or `call`, with the output
+    /// that `replay` prints for the line.
     pub(crate) fn new(
         site: &'a Site,
         played: &'a PlayedLine<'_>,
@@ -80,8 +82,8 @@ impl<'a> LineMessage<'a> {
         }
     }
 
-    /// Makes the message of an event in a journal, for `check`. It changed something, so it isn't
-    /// refused.
+    /// Makes the message of a journal's event for the findings of `check`. It changed something, so
+    /// it has no refusal as a script's message may.
     pub(crate) fn noted(
         site: &'a Site,
         event: &Event<'a>,
@@ -102,7 +104,8 @@ impl<'a> LineMessage<'a> {
         }
     }
 
-    /// Returns the reason of a `Rejected`, if that is the answer to this message of a script.
+    /// Returns the reason of a `Rejected`, if that is the answer to this message of a script. A
+    /// finding of `check` or `call` names it.
     pub(crate) fn rejection(&self) -> Option<Refusal> {
         for line in self.printed {
             if let PrintedLine::Answer {
@@ -116,8 +119,8 @@ impl<'a> LineMessage<'a> {
         None
     }
 
-    /// Returns the reason of a `Rejected` or of a CALLERROR, if that is the answer to this message
-    /// of a script.
+    /// Returns the reason of a `Rejected` or a CALLERROR, if that is the answer to this message of
+    /// a script. A finding of `check` or `call` names it.
     pub(crate) fn refusal(&self) -> Option<Refusal> {
         for line in self.printed {
             let PrintedLine::Answer { response, .. } = line else {
@@ -133,8 +136,8 @@ impl<'a> LineMessage<'a> {
     }
 }
 
-/// Returns a script's line as a text, empty if the line isn't UTF-8. Also returns the number of
-/// bytes up to the first that isn't UTF-8.
+/// Returns a script's line as a text for the findings of `check` or `call`, empty if it isn't
+/// UTF-8. Also returns the number of bytes up to the first that isn't UTF-8.
 pub(crate) fn utf8_of(line: &[u8]) -> (&str, usize) {
     match std::str::from_utf8(line) {
         Ok(text) => (text, line.len()),

@@ -55,7 +55,8 @@ struct Walk {
     next: PayloadPart,
 }
 
-/// Returns the unknown and the duplicate fields of an operator's CALL. A point's has none.
+/// Returns the unknown and the duplicate fields of an operator's CALL, for warnings of `check` on a
+/// script or of `call`. A point's CALL has none.
 // Of a point's CALL only some fields are read, so its other fields aren't unknown ones.
 pub(crate) fn payload_fields(
     alloc: Global,
@@ -79,7 +80,8 @@ pub(crate) fn payload_fields(
 }
 
 impl Walk {
-    /// Reads the payload of a CALL, the fourth element of its frame (OCPP-J 1.6, chapter 4).
+    /// Reads the payload of an operator's CALL, the fourth element of its frame (OCPP-J 1.6,
+    /// chapter 4). `check` of a script or `call` warns of its unknown and duplicate fields.
     fn read(&mut self, frame: &str) -> Result<(), AllocError> {
         let mut scratch = Scratch::new(self.alloc);
         let mut reader = Reader::new(frame, &mut scratch)?;
@@ -97,7 +99,8 @@ impl Walk {
         Ok(())
     }
 
-    /// Takes the next token of an operator's payload.
+    /// Takes the next token of an operator's payload, to find unknown and duplicate fields for
+    /// warnings of `check` on a script or of `call`.
     fn take(&mut self, token: Token<'_>) -> Result<(), AllocError> {
         let next = mem::replace(&mut self.next, PayloadPart::Other);
         match token {
@@ -124,7 +127,8 @@ impl Walk {
         }
     }
 
-    /// Opens an object or a list of an operator's payload.
+    /// Opens an object or a list of an operator's payload. `check` of a script or `call` warns of
+    /// unknown and duplicate fields in it.
     fn begin(&mut self, part: PayloadPart) -> Result<(), AllocError> {
         self.open.push(OpenPart {
             part,
@@ -133,7 +137,8 @@ impl Walk {
         Ok(())
     }
 
-    /// Takes the next name in an object of an operator's payload. It may be unknown or a duplicate.
+    /// Takes the next name in an object of an operator's payload. If it is unknown or a duplicate,
+    /// `check` of a script or `call` warns of it.
     fn take_name(&mut self, name: &str) -> Result<(), AllocError> {
         let Some(open) = self.open.last_mut() else {
             return Ok(());
@@ -158,7 +163,8 @@ impl Walk {
         Ok(())
     }
 
-    /// Adds an unknown field of an operator's payload, unless there are too many.
+    /// Adds an unknown field of an operator's payload, for a warning of `check` on a script or of
+    /// `call`, unless there are too many.
     fn add_unknown(&mut self, known: &'static [FieldRow], name: &str) -> Result<(), AllocError> {
         if self.found.unknown.len() < MAX_REPORTED {
             let name = String::from_str(self.alloc, name)?;

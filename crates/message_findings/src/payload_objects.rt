@@ -26,8 +26,8 @@ pub(crate) struct PayloadList<'node, 'memory> {
 }
 
 impl<'node, 'memory> PayloadObject<'node, 'memory> {
-    /// Returns the object in this object of a CALL's payload, such as the schedule of a profile,
-    /// with its field. No table has two such fields.
+    /// Returns, for `check` of a script or `call`, the object in this object of a CALL's payload,
+    /// such as a profile's schedule. Also returns its field. No object has two such fields.
     pub(crate) fn inner(self) -> Option<(FieldName, PayloadObject<'node, 'memory>)> {
         for row in self.fields {
             if let FieldKind::Object(kind) = row.kind() {
@@ -40,8 +40,8 @@ impl<'node, 'memory> PayloadObject<'node, 'memory> {
         None
     }
 
-    /// Returns the list of objects in this object of a CALL's payload, such as the periods of a
-    /// schedule. No table has two such fields.
+    /// Returns, for `check` of a script or `call`, the list of objects in this object of a CALL's
+    /// payload, such as a schedule's periods. No object has two such fields.
     pub(crate) fn list(self) -> Option<PayloadList<'node, 'memory>> {
         for row in self.fields {
             if let FieldKind::Objects(kind) = row.kind() {
@@ -58,8 +58,8 @@ impl<'node, 'memory> PayloadObject<'node, 'memory> {
     }
 }
 
-/// Returns the field of this name in the table of an object of a CALL's payload, if the table has
-/// it.
+/// Looks up a field by its name in the table of an object of a CALL's payload, for `check` of a
+/// script or `call`.
 pub(crate) fn row_named(fields: &[FieldRow], name: &str) -> Option<FieldRow> {
     for row in fields {
         if row.name().text() == name {
@@ -69,8 +69,8 @@ pub(crate) fn row_named(fields: &[FieldRow], name: &str) -> Option<FieldRow> {
     None
 }
 
-/// Returns the names in a table of the fields of a CALL's payload, in their order. A misspelled
-/// name is compared with them.
+/// Returns the names in a table of the fields of a CALL's payload, in their order. `check` of a
+/// script or `call` compares a misspelled name with them.
 pub(crate) fn names_of(
     alloc: Global,
     fields: &[FieldRow],

@@ -9,7 +9,7 @@ use replay::PrintedLine;
 use std::alloc::{AllocError, Global};
 
 /// Returns whether the refusal of a message in a script depends on the point's state or the length
-/// of a schedule.
+/// of a schedule. `check` or `call` then reports it by the answer alone.
 // The check of a message by itself leaves these out, so that none is reported twice.
 pub(crate) fn depends_on_state(refusal: Refusal) -> bool {
     matches!(
@@ -42,8 +42,8 @@ pub fn check_printed(
     report.take_findings()
 }
 
-/// Checks an answer in the output of a script's line. Reports a refusal that depends on the point's
-/// state, and a clear without a match.
+/// Checks, for `check` or `call`, an answer in the output of a script's line. Reports a refusal
+/// that depends on the point's state, and a clear without a match.
 fn check_answer(report: &mut Report, response: &Response) {
     match response {
         Response::Rejected(refusal) | Response::Error(CallFault::Refused(refusal)) => {

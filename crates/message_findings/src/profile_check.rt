@@ -11,8 +11,8 @@ use profile_findings::never_rated;
 use site_rules::{SitePoint, admit};
 use std::alloc::{AllocError, Global};
 
-/// Checks a SetChargingProfile in a line of a script, whose fields are right: its refusal by the
-/// site, and its probable mistakes.
+/// Checks, for `check` or `call`, a SetChargingProfile in a line of a script or a journal: its
+/// refusal by the site, and its probable mistakes. Its fields are valid.
 pub(crate) fn check_install(
     report: &mut Report,
     text: &LineMessage<'_>,
@@ -35,7 +35,7 @@ pub(crate) fn check_install(
 }
 
 /// Checks the profile of an operator's SetChargingProfile by itself before `call` sends it, without
-/// the site or a moment. Its fields are right.
+/// the site or an instant. Its fields are valid.
 pub(crate) fn check_sent_profile(report: &mut Report, parts: ProfileParts) {
     if let Some(profile) = check_parts(report, parts) {
         warn_transaction(report, &profile);
@@ -44,7 +44,7 @@ pub(crate) fn check_sent_profile(report: &mut Report, parts: ProfileParts) {
 }
 
 /// Makes a charging profile of the fields in an operator's message, or reports their refusal.
-/// Warns, for `check` or `call`, of fields without an effect.
+/// Warns, for `check` of a script or `call`, of fields without an effect.
 pub(crate) fn check_parts(report: &mut Report, parts: ProfileParts) -> Option<Profile> {
     // This comes first, since a profile drops the fields that have no effect.
     warn_dropped(report, &parts);
@@ -65,8 +65,8 @@ pub(crate) fn warn_never_rated(report: &mut Report, profile: &Profile) {
     }
 }
 
-/// Warns of fields in an operator's message that have no effect with the charging profile's purpose
-/// or kind.
+/// Warns, for `check` of a script or `call`, of fields in an operator's message that have no effect
+/// with the charging profile's purpose or kind.
 fn warn_dropped(report: &mut Report, parts: &ProfileParts) {
     let (purpose, id) = (parts.purpose, parts.id);
     if parts.transaction.is_some() && !matches!(purpose, Purpose::TxProfile) {
@@ -84,8 +84,8 @@ fn warn_dropped(report: &mut Report, parts: &ProfileParts) {
     }
 }
 
-/// Reports, for `check` or `call`, the refusal of a charging profile that isn't well formed, with
-/// the value at fault.
+/// Reports, for `check` of a script or `call`, the refusal of a charging profile that isn't well
+/// formed, with the value at fault.
 fn refuse_parts(report: &mut Report, refusal: Refusal, parts: &ProfileParts) {
     let alloc = report.alloc;
     let periods = parts.schedule.periods.as_slice();
@@ -98,8 +98,8 @@ fn refuse_parts(report: &mut Report, refusal: Refusal, parts: &ProfileParts) {
     reject_found(report, refusal, found);
 }
 
-/// Describes the first chargingSchedulePeriod of a profile that doesn't start later than the one
-/// before it.
+/// Describes, for `check` of a script or `call`, the first chargingSchedulePeriod of a profile that
+/// doesn't start later than the one before it.
 fn out_of_order(alloc: Global, periods: &[Period]) -> Result<String, AllocError> {
     let mut before: Option<u32> = None;
     for (index, period) in periods.iter().enumerate() {
@@ -116,8 +116,8 @@ fn out_of_order(alloc: Global, periods: &[Period]) -> Result<String, AllocError>
     Ok(String::new(alloc))
 }
 
-/// Warns of an operator's TxProfile without a transactionId, which the point may take for the next
-/// car.
+/// Warns, for `check` of a script or `call`, of an operator's TxProfile without a transactionId,
+/// which the point may take for the next car.
 // The call may wait for the point until the transaction has ended, which doesn't cancel it.
 fn warn_transaction(report: &mut Report, profile: &Profile) {
     if matches!(profile.purpose, Purpose::TxProfile) && profile.transaction.is_none() {
@@ -129,8 +129,8 @@ fn warn_transaction(report: &mut Report, profile: &Profile) {
     }
 }
 
-/// Warns of a profile in a line of a script that never lowers a limit, since the ceilings of the
-/// site file are below it.
+/// Warns, for `check` of a script or `call`, of an operator's profile that never lowers a limit:
+/// the ceilings of the site file are below it.
 pub(crate) fn warn_ceiling(
     report: &mut Report,
     text: &LineMessage<'_>,
@@ -148,7 +148,8 @@ pub(crate) fn warn_ceiling(
     }
 }
 
-/// Describes a profile whose limits are all above this ceiling of the site file, in tenths.
+/// Describes, for `check` of a script or `call`, a profile whose limits are all above this ceiling
+/// of the site file, in tenths.
 fn ceiling_message(alloc: Global, ceiling: u32) -> Result<String, AllocError> {
     let ceiling = tenths_text(alloc, u64::from(ceiling))?;
     format!(in alloc;
@@ -156,8 +157,8 @@ fn ceiling_message(alloc: Global, ceiling: u32) -> Result<String, AllocError> {
     )
 }
 
-/// Returns the highest ceiling of the site file that a profile could lower, in tenths. A
-/// ChargePointMaxProfile could lower the point's ceiling. Any other could lower the lesser of the
+/// Returns, for `check` of a script or `call`, the highest ceiling that an operator's profile could
+/// lower, in tenths. It is the point's for a ChargePointMaxProfile, otherwise the lesser of the
 /// point's and the connector's. At connector 0 the highest ceiling of a connector counts.
 fn highest_ceiling(point: SitePoint<'_>, connector: u32, purpose: Purpose) -> u32 {
     if matches!(purpose, Purpose::ChargePointMaxProfile) {
@@ -172,8 +173,8 @@ fn highest_ceiling(point: SitePoint<'_>, connector: u32, purpose: Purpose) -> u3
     highest.min(point.ceiling)
 }
 
-/// Warns of a charging profile in a script that never sets a limit, or sets none at times that
-/// probably weren't meant.
+/// Warns, for `check` of a script or `call`, of a charging profile in an operator's message that
+/// never sets a limit. Also warns if it sets none at times that probably weren't meant.
 pub(crate) fn warn_rates(report: &mut Report, moment: Instant, profile: &Profile) {
     if let Some(why) = never_rated(profile) {
         return report.warn_text_of(profile.purpose, profile.id, never_sentence(why));
@@ -193,7 +194,8 @@ pub(crate) fn warn_rates(report: &mut Report, moment: Instant, profile: &Profile
     }
 }
 
-/// Describes a profile whose validTo is over when it is installed.
+/// Describes, for a warning of `check` on a script or of `call`, an operator's profile whose
+/// validTo is over when it is installed.
 fn over_message(alloc: Global, end: Instant) -> Result<String, AllocError> {
     let end = instant_text(alloc, end)?;
     format!(in alloc;
@@ -201,8 +203,9 @@ fn over_message(alloc: Global, end: Instant) -> Result<String, AllocError> {
     )
 }
 
-/// Warns of a profile's first chargingSchedulePeriod that starts at this offset or later, in
-/// seconds, when the duration, the day or the week is over.
+/// Warns, for `check` of a script or `call`, of the first chargingSchedulePeriod in an operator's
+/// message that starts at this offset or later, in seconds. The duration, the day or the week is
+/// over then.
 fn warn_past(report: &mut Report, profile: &Profile, whose: &str, end: u64) {
     for (index, period) in profile.schedule.periods.as_slice().iter().enumerate() {
         let start = period.start;
@@ -215,7 +218,8 @@ fn warn_past(report: &mut Report, profile: &Profile, whose: &str, end: u64) {
     }
 }
 
-/// Warns of the parts of a Daily or Weekly schedule after its day or week, and of its gaps.
+/// Warns, for `check` of a script or `call`, of a Daily or Weekly schedule in an operator's
+/// message: of its parts after its day or week, and of its gaps.
 fn warn_recurrence(report: &mut Report, profile: &Profile, recurrency: Recurrency) {
     let length = recurrency.length();
     let unit = match recurrency {
@@ -236,8 +240,8 @@ fn warn_recurrence(report: &mut Report, profile: &Profile, recurrency: Recurrenc
     warn_gaps(report, profile, recurrency);
 }
 
-/// Warns of the gaps of a Daily or Weekly schedule: after its duration, and before its first
-/// period.
+/// Warns, for `check` of a script or `call`, of the gaps of a Daily or Weekly schedule in an
+/// operator's message: after its duration, and before its first period.
 fn warn_gaps(report: &mut Report, profile: &Profile, recurrency: Recurrency) {
     let length = recurrency.length();
     let end = profile.schedule.duration.map_or(length, u64::from);
@@ -252,7 +256,8 @@ fn warn_gaps(report: &mut Report, profile: &Profile, recurrency: Recurrency) {
     }
 }
 
-/// Warns that a Daily or Weekly profile sets no limit between two offsets of its day or week.
+/// Warns, for `check` of a script or `call`, that a Daily or Weekly profile sets no limit between
+/// two offsets of its day or week.
 fn warn_gap(report: &mut Report, profile: &Profile, recurrency: Recurrency, from: u64, to: u64) {
     let Ok(when) = gap_text(report.alloc, profile, recurrency, from, to) else {
         return report.fail();
@@ -263,8 +268,9 @@ fn warn_gap(report: &mut Report, profile: &Profile, recurrency: Recurrency, from
     report.warn_of(profile.purpose, profile.id, message);
 }
 
-/// Describes the time of each day or week in which a Recurring profile sets no limit. Writes times
-/// of the clock if those are known, otherwise offsets in seconds.
+/// Describes, for a warning of `check` on a script or of `call`, when an operator's Recurring
+/// profile sets no limit in each day or week. Writes times of the clock if those are known,
+/// otherwise offsets in seconds.
 fn gap_text(
     alloc: Global,
     profile: &Profile,
@@ -283,8 +289,9 @@ fn gap_text(
     }
 }
 
-/// Describes the time of each day in which a Daily profile sets no limit, by two offsets from its
-/// startSchedule. None if one of them lies after the calendar.
+/// Describes when an operator's Daily profile sets no limit each day, between two offsets from its
+/// startSchedule. `check` of a script or `call` warns of that. None if one offset leads past the
+/// calendar.
 fn clock_text(
     alloc: Global,
     start: Instant,
@@ -306,7 +313,8 @@ fn clock_text(
     }
 }
 
-/// Returns the hour and the minute in the text of an instant, and the second unless it is 0.
+/// Returns the hour and the minute in the text of an instant, and the second unless it is 0. A
+/// warning of `check` on a script or of `call` about a Daily profile has them.
 fn time_in(instant: &str) -> Option<&str> {
     let (_, time) = instant.split_once('T')?;
     let time = time.strip_suffix('Z')?;

@@ -23,8 +23,8 @@ pub fn answer_sentence(alloc: Global, answer: &str) -> Result<Option<String>, Al
     }
 }
 
-/// Explains, for `central call`, the refusal in the answer to an operator's CALL, if it is a
-/// refusal.
+/// Explains, for `central call`, the refusal in the answer to an operator's CALL, if it is one, by
+/// the sentence that `check` has for it.
 fn sentence_of(
     alloc: Global,
     answer: Option<RejectedAnswer<'_>>,
@@ -42,8 +42,9 @@ fn sentence_of(
     }
 }
 
-/// Explains, for `central call`, the refusal of this name in the answer to an operator's CALL. None
-/// if there is no such refusal.
+/// Explains, for `central call`, the refusal of this name in the answer to an operator's CALL. Uses
+/// the sentence that `check` has for it, except for `OutOfMemory`. None if there is no such
+/// refusal.
 fn refusal_sentence(alloc: Global, name: &str) -> Result<Option<String>, AllocError> {
     let Some(refusal) = refusal_of(name) else {
         return Ok(None);
@@ -55,8 +56,8 @@ fn refusal_sentence(alloc: Global, name: &str) -> Result<Option<String>, AllocEr
     Ok(Some(format!(in alloc; "{refusal}: {why}")?))
 }
 
-/// Explains, for `central call`, the CALLERROR of this code in answer to an operator's CALL, with
-/// the field that the description names.
+/// Explains, for `central call`, the CALLERROR of this code in answer to an operator's CALL, by the
+/// sentence that `check` has for it. Adds the field that the description names.
 fn fault_sentence(alloc: Global, code: &str, field: &str) -> Result<Option<String>, AllocError> {
     let Some(fault) = fault_of(code) else {
         return Ok(None);

@@ -57,8 +57,8 @@ const FAULTS: [CallFault; 5] = [
     CallFault::PropertyConstraintViolation(FieldName::Id),
 ];
 
-/// Returns the rejection in the answer to an operator's CALL that `central call` explains, if the
-/// frame is an answer that isn't simply accepted.
+/// Returns the rejection in the answer to an operator's CALL, if the frame is an answer that isn't
+/// simply accepted. `central call` explains it by the sentence that `check` has for it.
 pub(crate) fn rejection_of<'memory>(root: Node<'_, 'memory>) -> Option<RejectedAnswer<'memory>> {
     let entries = root.list()?;
     match entries.get(0)?.number()? {
@@ -73,8 +73,8 @@ pub(crate) fn rejection_of<'memory>(root: Node<'_, 'memory>) -> Option<RejectedA
     }
 }
 
-/// Returns the rejection in the payload of the CALLRESULT to an operator's CALL, for `central call`
-/// to explain, if it has one.
+/// Returns the rejection in the payload of the CALLRESULT to an operator's CALL, if it has one.
+/// `central call` explains it by the sentence that `check` has for it.
 fn rejection_of_result<'memory>(payload: Node<'_, 'memory>) -> Option<RejectedAnswer<'memory>> {
     match text_field(payload, "status") {
         Field::Value("Rejected") => match text_field(payload, "reason") {
@@ -86,8 +86,8 @@ fn rejection_of_result<'memory>(payload: Node<'_, 'memory>) -> Option<RejectedAn
     }
 }
 
-/// Returns the refusal of this name in the answer to an operator's CALL, for `central call` to
-/// explain.
+/// Returns the refusal of this name in the answer to an operator's CALL. `central call` explains it
+/// by the sentence that `check` has for it.
 pub(crate) fn refusal_of(name: &str) -> Option<Refusal> {
     for refusal in &REFUSALS {
         if refusal.name() == name {
@@ -97,8 +97,8 @@ pub(crate) fn refusal_of(name: &str) -> Option<Refusal> {
     None
 }
 
-/// Returns the fault for which a CALLERROR to an operator has this code, with any field, for
-/// `central call` to explain.
+/// Returns the fault for which a CALLERROR to an operator has this code, with any field. `central
+/// call` explains it by the sentence that `check` has for it.
 pub(crate) fn fault_of(code: &str) -> Option<CallFault> {
     for fault in &FAULTS {
         if fault.code() == code {

@@ -11,8 +11,8 @@ use messages::{RemoteStartTransaction, purpose_name};
 use ocpp_scalars::Refusal;
 use profile::{Profile, ProfileParts, Purpose};
 
-/// Checks a RemoteStartTransaction in a line of a script, whose fields are right: its refusal and
-/// its profile.
+/// Checks, for `check` or `call`, a RemoteStartTransaction in a line of a script or a journal: its
+/// refusal and its profile. Its fields are valid.
 pub(crate) fn check_remote_start(
     report: &mut Report,
     text: &LineMessage<'_>,
@@ -40,7 +40,7 @@ pub(crate) fn check_remote_start(
 }
 
 /// Checks the profile of an operator's RemoteStartTransaction by itself before `call` sends it,
-/// without the site or a moment.
+/// without the site or an instant.
 pub(crate) fn check_sent_start(report: &mut Report, start: RemoteStartTransaction) {
     let RemoteStartTransaction { profile, .. } = start;
     let Some(parts) = profile else {
@@ -52,7 +52,7 @@ pub(crate) fn check_sent_start(report: &mut Report, start: RemoteStartTransactio
 }
 
 /// Makes the charging profile of a RemoteStartTransaction, or reports its refusal. Warns, for
-/// `check` or `call`, of fields without an effect.
+/// `check` of a script or `call`, of fields without an effect.
 fn check_start_profile(report: &mut Report, parts: ProfileParts) -> Option<Profile> {
     if parts.transaction.is_some() {
         let message =
@@ -67,8 +67,8 @@ fn check_start_profile(report: &mut Report, parts: ProfileParts) -> Option<Profi
     check_parts(report, parts)
 }
 
-/// Reports why a RemoteStartTransaction in a script is rejected, unless that depends on the point's
-/// state.
+/// Reports, for `check` or `call`, why a RemoteStartTransaction in a script is rejected, unless
+/// that depends on the point's state.
 fn refuse_start(
     report: &mut Report,
     text: &LineMessage<'_>,
@@ -93,7 +93,8 @@ fn refuse_start(
     }
 }
 
-/// Reports a RemoteStartTransaction in a script at a connector at which no transaction can start.
+/// Reports, for `check` or `call`, a RemoteStartTransaction in a script at a connector at which no
+/// transaction can start.
 fn reject_connector(report: &mut Report, text: &LineMessage<'_>, connector: u32) {
     let count = point_of(text).map_or(0, |point| point.ceilings.len());
     let found = format!(in report.alloc;
@@ -102,8 +103,8 @@ fn reject_connector(report: &mut Report, text: &LineMessage<'_>, connector: u32)
     reject_found(report, Refusal::UnknownConnector, found);
 }
 
-/// Warns of a transaction in a script without the profile of the remote start that waited at its
-/// connector.
+/// Warns, for `check`, of a transaction in a script or a journal without the profile of the remote
+/// start that waited at its connector.
 pub(crate) fn check_ended_start(report: &mut Report, ended: &EndedStart) {
     let id = ended.profile;
     let tag = Excerpt(ended.id_tag.as_str());

@@ -27,7 +27,8 @@ pub(crate) struct Report {
 }
 
 impl Report {
-    /// Begins the findings in a script or an operator's message, without any.
+    /// Begins the findings of `check` or `call` in the messages of a script or a journal, or in one
+    /// to be sent, without any.
     pub(crate) fn new(alloc: Global) -> Report {
         Report {
             alloc,
@@ -38,7 +39,8 @@ impl Report {
         }
     }
 
-    /// Takes the findings in a script or an operator's message so far, unless an allocation failed.
+    /// Takes the findings of `check` or `call` so far, in a script, a journal or a message to be
+    /// sent, unless an allocation failed.
     pub(crate) fn take_findings(&mut self) -> Result<Vec<Finding>, AllocError> {
         if self.is_short {
             return Err(AllocError);
@@ -46,19 +48,20 @@ impl Report {
         Ok(mem::replace(&mut self.findings, Vec::new(self.alloc)))
     }
 
-    /// Notes that an allocation for a finding in a script or an operator's message failed
-    /// elsewhere.
+    /// Notes that an allocation failed elsewhere for a finding of `check` or `call` in a script, a
+    /// journal or a message to be sent.
     pub(crate) fn fail(&mut self) {
         self.is_short = true;
     }
 
-    /// Sets the number of the line for the next findings in a script or a journal.
+    /// Sets the line of a script or a journal, by its number, on which the next findings of `check`
+    /// or `call` are.
     pub(crate) fn go_to(&mut self, line: u64) {
         self.line = line;
     }
 
     /// Returns whether one more unknown identity in a script may be compared with all those of the
-    /// site, and counts it.
+    /// site, and counts it. `check` then hints at a similar one.
     pub(crate) fn takes_hint(&mut self) -> bool {
         if self.hints == 0 {
             return false;
@@ -67,18 +70,20 @@ impl Report {
         true
     }
 
-    /// Adds a fault to the findings in a script or an operator's message, on the current line.
+    /// Adds a fault in a message to the findings of `check` or `call`, on the current line of the
+    /// script or the journal.
     pub(crate) fn fault(&mut self, message: Result<String, AllocError>) {
         self.add(Severity::Fault, message);
     }
 
-    /// Adds a warning to the findings in a script or an operator's message, on the current line.
+    /// Adds a warning of a message to the findings of `check` or `call`, on the current line of the
+    /// script or the journal.
     pub(crate) fn warn(&mut self, message: Result<String, AllocError>) {
         self.add(Severity::Warning, message);
     }
 
-    /// Adds a warning of a charging profile to the findings in a script or an operator's message.
-    /// It names the purpose and the chargingProfileId.
+    /// Adds a warning of a charging profile in a message to the findings of `check` in a script or
+    /// of `call`. It names the purpose and the chargingProfileId.
     pub(crate) fn warn_of(
         &mut self,
         purpose: Purpose,
@@ -91,26 +96,27 @@ impl Report {
         }
     }
 
-    /// Adds a warning of a charging profile to the findings, as `warn_of` does, with a copy of this
-    /// message about it.
+    /// Adds a warning of a charging profile in a message to the findings of `check` in a script or
+    /// of `call`. Does so like `warn_of`, with a copy of this text about the profile.
     pub(crate) fn warn_text_of(&mut self, purpose: Purpose, id: i32, message: &str) {
         let purpose = purpose_name(purpose);
         self.warn(format!(in self.alloc; "{purpose} {id}: {message}"));
     }
 
-    /// Adds a remark to the findings in a script, on the current line.
+    /// Adds a remark on a message to the findings of `check` or `call`, on the current line of the
+    /// script or the journal.
     pub(crate) fn remark(&mut self, message: Result<String, AllocError>) {
         self.add(Severity::Remark, message);
     }
 
-    /// Adds a warning to the findings in a script, on the current line, with a copy of this
-    /// message.
+    /// Adds a warning of a message to the findings of `check` or `call`, with a copy of this text.
+    /// It is on the current line of the script or the journal.
     pub(crate) fn warn_text(&mut self, message: &str) {
         self.warn(String::from_str(self.alloc, message));
     }
 
-    /// Adds a finding in a script or an operator's message, on the current line. A failed
-    /// allocation of its message counts as one of the report.
+    /// Adds a finding in a message to those of `check` or `call`, on the current line of the script
+    /// or the journal. A failed allocation of its text counts as one of the report.
     fn add(&mut self, severity: Severity, message: Result<String, AllocError>) {
         let Ok(message) = message else {
             return self.fail();

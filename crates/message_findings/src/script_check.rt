@@ -68,7 +68,8 @@ impl ScriptCheck {
         self.report.take_findings()
     }
 
-    /// Checks the message in a line of a script, and the remote start that ended with it.
+    /// Checks, for `check` or `call`, the message in a line of a script, and the remote start that
+    /// ended with it.
     fn check_sent(&mut self, machine: &Machine, played: &PlayedLine<'_>, sent: &SentText<'_>) {
         let text = LineMessage::new(machine.site(), played, sent);
         match change_in(played) {
@@ -112,8 +113,8 @@ impl ScriptCheck {
         self.report.take_findings()
     }
 
-    /// Checks the message of an event that changed something, and the remote start that ended with
-    /// it.
+    /// Checks, for `check` or `call`, a message of a script or a journal that changed something,
+    /// and the remote start that ended with it.
     fn check_change(&mut self, machine: &Machine, event: &Event<'_>, text: LineMessage<'_>) {
         let starts = self.change_of_starts(machine, event);
         let audit = match event.kind {
@@ -131,8 +132,8 @@ impl ScriptCheck {
         }
     }
 
-    /// Follows the effect of an event on the remote starts of its point. Without memory for it the
-    /// report fails.
+    /// Follows, for the findings of `check` in a script or of `call`, how an event changes the
+    /// waiting remote starts of its point. Without memory for that the report fails.
     fn change_of_starts(&mut self, machine: &Machine, event: &Event<'_>) -> StartsChange {
         match self.starts.follow(machine, event) {
             Ok(change) => change,
@@ -172,7 +173,7 @@ fn still_held(alloc: Global, line: &HeldLine) -> Result<Finding, AllocError> {
     Ok(Finding::remark(place, message))
 }
 
-/// Reports a `release` line of a script with the number of no held request.
+/// Reports, for `check`, a `release` line of a script with the number of no held request.
 fn unknown_request(report: &mut Report, number: u64) {
     let sentence = line_sentence(ScriptLineFault::UnknownRequest);
     report.fault(format!(in report.alloc;

@@ -89,8 +89,8 @@ pub fn json_break(alloc: Global, text: &str) -> Result<Option<String>, AllocErro
     Ok(Some(format!(in alloc; "{place}: the JSON breaks where {fault}")?))
 }
 
-/// Returns the findings of `call` in a CALL that it is to send, whose action an operator doesn't
-/// have.
+/// Returns the findings of `call` in a message before it sends it: a CALL with an action that an
+/// operator doesn't have.
 fn no_operators_action(alloc: Global, name: &str) -> Result<SentCheck, AllocError> {
     let mut report = Report::new(alloc);
     refuse_action(&mut report, Side::Operator, name);
@@ -101,8 +101,8 @@ fn no_operators_action(alloc: Global, name: &str) -> Result<SentCheck, AllocErro
     })
 }
 
-/// Returns the check by `call` of an operator's message without findings, and with the reason why
-/// it is no CALL if it isn't one.
+/// Returns the result of the check of an operator's message before `call` sends it: no findings,
+/// and the reason why it is no CALL if it isn't one.
 fn nothing_said(alloc: Global, no_call: Option<String>) -> SentCheck {
     SentCheck {
         no_call,
@@ -111,7 +111,7 @@ fn nothing_said(alloc: Global, no_call: Option<String>) -> SentCheck {
     }
 }
 
-/// Checks the fields of an operator's CALL, and then its request, before `call` sends it.
+/// Checks the fields of an operator's CALL, and then the profile in it, before `call` sends it.
 fn check_fields(
     alloc: Global,
     text: &str,
@@ -146,7 +146,7 @@ fn check_fields(
     })
 }
 
-/// Checks the profile of an operator's CALL, whose fields are right, before `call` sends it.
+/// Checks the profile of an operator's CALL, whose fields are valid, before `call` sends it.
 fn check_action(report: &mut Report, action: Action) {
     match action {
         Action::SetChargingProfile {

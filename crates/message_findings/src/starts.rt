@@ -57,7 +57,8 @@ pub(crate) struct PendingRemoteStarts {
 }
 
 impl PendingRemoteStarts {
-    /// Begins before the first event, with no remote start that waits at a point.
+    /// Begins before the first event of a script or a journal that `check` or `call` checks, with
+    /// no remote start that waits at a point.
     pub(crate) fn new(alloc: Global) -> PendingRemoteStarts {
         PendingRemoteStarts {
             alloc,
@@ -65,8 +66,8 @@ impl PendingRemoteStarts {
         }
     }
 
-    /// Follows the effect of an event on the remote starts that wait at its point, given the state
-    /// after it.
+    /// Follows, for `check` of a script or `call`, how an event changes the remote starts at its
+    /// point, given the state after it.
     pub(crate) fn follow(
         &mut self,
         machine: &Machine,
@@ -82,8 +83,8 @@ impl PendingRemoteStarts {
         known.follow(alloc, machine, event)
     }
 
-    /// Returns the remote starts that wait at the point at this index of the site, by the events so
-    /// far.
+    /// Returns the remote starts that wait at the point at this index of the site. `check` or
+    /// `call` has followed the events of a script or a journal so far.
     fn known(&mut self, place: usize) -> Result<Option<&mut PointStarts>, AllocError> {
         for _place in self.points.len()..place.saturating_add(1) {
             self.points.push(PointStarts {
@@ -96,7 +97,8 @@ impl PendingRemoteStarts {
 }
 
 impl StartsChange {
-    /// Returns the change by an event without an effect on the remote starts of its point.
+    /// Returns the change by an event without an effect on remote starts, for the findings of
+    /// `check` in a script or of `call`.
     pub(crate) fn none() -> StartsChange {
         StartsChange {
             replies_to: None,
@@ -106,7 +108,8 @@ impl StartsChange {
 }
 
 impl PointStarts {
-    /// Follows the effect of an event on the remote starts that wait at this point.
+    /// Follows, for the findings of `check` in a script or of `call`, how an event changes the
+    /// remote starts that wait at this point.
     fn follow(
         &mut self,
         alloc: Global,
@@ -132,7 +135,8 @@ impl PointStarts {
     }
 }
 
-/// Returns the remote starts that wait at a point in this state.
+/// Returns the remote starts that wait at a point in this state of a script or a journal. `check`
+/// keeps them for a warning when one ends.
 fn known_starts(
     alloc: Global,
     machine: &Machine,
@@ -151,8 +155,8 @@ fn known_starts(
     Ok(starts)
 }
 
-/// Returns the remote start that a transaction ended at its point, if it had a profile that isn't
-/// installed.
+/// Returns the remote start that a transaction ended at its point without installing the start's
+/// profile, if any, for `check` of a script or a journal.
 fn ended_start(
     alloc: Global,
     known: &PointStarts,
@@ -180,20 +184,22 @@ fn ended_start(
     }
 }
 
-/// Returns the id of the active transaction at a connector of a point. If the id changes, another
-/// transaction has begun.
+/// Returns the id of the active transaction at a connector in a script or a journal. If it changes,
+/// another transaction has begun, and `check` may warn of the remote start that waited.
 fn active_at(machine: &Machine, point: &str, connector: u32) -> Option<i32> {
     let active = machine.book_of(point)?.transaction_at(connector)?;
     Some(active.id)
 }
 
-/// Returns whether the idTags of a remote start and of the transaction after it are the same.
+/// Returns whether the idTags of a remote start and of the transaction after it are the same, for
+/// `check` of a script or a journal.
 // An idTag is a CiString, whose case doesn't count. Here that holds for ASCII letters.
 fn is_same_tag(tag: &IdTag, other: &IdTag) -> bool {
     tag.as_str().eq_ignore_ascii_case(other.as_str())
 }
 
-/// Returns whether a connector has the TxProfile of this id, which came with a remote start.
+/// Returns whether a connector has the TxProfile of this id, which came with a remote start. If
+/// not, `check` of a script or a journal warns.
 fn has_tx_profile(book: &PointBook, connector: u32, id: i32) -> bool {
     book.view().rows.iter().any(|row| {
         row.connector == connector

@@ -15,7 +15,8 @@ use ocppj_frame::{
 use replay::ScriptLineFault;
 use std::alloc::{AllocError, Global};
 
-/// Checks the message in a line of a script, or of an event in a journal, as a frame of OCPP-J.
+/// Checks, for `check` or `call`, the message in a line of a script, or of an event in a journal,
+/// as a frame of OCPP-J.
 pub(crate) fn check_text(report: &mut Report, memory: &mut ReadingMemory, text: &LineMessage<'_>) {
     match read_frame(memory, text.frame) {
         Ok(frame) => return check_frame(report, text, frame),
@@ -26,7 +27,8 @@ pub(crate) fn check_text(report: &mut Report, memory: &mut ReadingMemory, text: 
     check_dropped(report, memory, text)
 }
 
-/// Checks a frame in a line of a script: a CALL by its action, a reply by its status.
+/// Checks, for `check` or `call`, a frame in a line of a script or a journal: a CALL by its action,
+/// a reply by its status.
 fn check_frame(report: &mut Report, text: &LineMessage<'_>, frame: Frame<'_>) {
     match frame {
         Frame::Call {
@@ -58,8 +60,8 @@ fn check_frame(report: &mut Report, text: &LineMessage<'_>, frame: Frame<'_>) {
     }
 }
 
-/// Returns, for a warning of `check`, the status in a point's reply to a call of this action, if
-/// the call isn't done by it.
+/// Returns, for `check` of a script or a journal, the status in a point's reply to a call of this
+/// action. None if the point did the call.
 fn unaccepted_status<'memory>(
     action: ActionKind,
     payload: Node<'_, 'memory>,
@@ -75,9 +77,9 @@ fn unaccepted_status<'memory>(
     }
 }
 
-/// Checks a reply in a line of a script, or of an event in a journal. Warns of an operator's reply,
-/// and of a point that doesn't accept the call in flight or isn't in step by an audit. Ignores a
-/// point's reply that confirms no call.
+/// Checks, for `check`, a reply in a script or a journal. Warns of an operator's reply, and of a
+/// point that doesn't accept the call in flight or isn't in step by an audit. Ignores a point's
+/// reply that confirms no call.
 fn check_reply(report: &mut Report, text: &LineMessage<'_>, id: &str, status: Option<&str>) {
     if text.sender != Sender::Point {
         return report.warn_text(
@@ -97,7 +99,7 @@ fn check_reply(report: &mut Report, text: &LineMessage<'_>, id: &str, status: Op
     }
 }
 
-/// Warns of a point in a script that doesn't accept the call in flight.
+/// Warns, for `check`, of a point in a script or a journal that doesn't accept the call in flight.
 fn warn_not_accepted(report: &mut Report, text: &LineMessage<'_>, id: &str, status: &str) {
     let effect = if text.replies_to == Some(ActionKind::RemoteStartTransaction) {
         "it starts no transaction, and the remote start waits no more"
@@ -111,7 +113,7 @@ fn warn_not_accepted(report: &mut Report, text: &LineMessage<'_>, id: &str, stat
     ));
 }
 
-/// Reports a `hold` line of a script that is no request for a composite schedule.
+/// Reports, for `check`, a `hold` line of a script that is no request for a composite schedule.
 pub(crate) fn not_composite(report: &mut Report, text: &LineMessage<'_>, why: &str) {
     let fault = ScriptLineFault::NotComposite;
     let rule = line_sentence(fault);
@@ -119,7 +121,8 @@ pub(crate) fn not_composite(report: &mut Report, text: &LineMessage<'_>, why: &s
     report.fault(format!(in report.alloc; "{fault}: {rule}, and {why}: {frame}"));
 }
 
-/// Reports a CALL in a line of a script whose action is no string or whose payload is no object.
+/// Reports, for `check` or `call`, a CALL in a line of a script whose action is no string or whose
+/// payload is no object.
 fn check_malformed(report: &mut Report, text: &LineMessage<'_>) {
     if text.sender == Sender::Hold {
         return not_composite(report, text, "it is malformed");
@@ -129,7 +132,8 @@ fn check_malformed(report: &mut Report, text: &LineMessage<'_>) {
     report.fault(format!(in report.alloc; "FormationViolation: {sentence}: {frame}"));
 }
 
-/// Reports a frame in a line of a script that is no message of OCPP-J, with the reason.
+/// Reports, for `check`, a frame in a line of a script that is no message of OCPP-J, with the
+/// reason.
 fn check_dropped(report: &mut Report, memory: &mut ReadingMemory, text: &LineMessage<'_>) {
     let before = character_count(text.line).saturating_sub(character_count(text.frame));
     let Ok(why) = why_dropped(report.alloc, memory, text.frame, before) else {
@@ -159,8 +163,8 @@ pub(crate) fn why_dropped(
     }
 }
 
-/// Describes, for `check` or `call`, where a frame of OCPP-J stops being JSON, with the column in its
-/// line.
+/// Describes, for `check` of a script or `call`, where a frame of OCPP-J stops being JSON, with the
+/// column in its line.
 fn broken_at(alloc: Global, frame: &str, before: usize) -> Result<String, AllocError> {
     let fault = first_break(alloc, frame)?;
     let good = frame.get(..fault.offset).unwrap_or(frame);
@@ -170,7 +174,7 @@ fn broken_at(alloc: Global, frame: &str, before: usize) -> Result<String, AllocE
     format!(in alloc; "its JSON breaks at column {column}, where {fault}")
 }
 
-/// Returns, for `check` or `call`, the reason why a JSON text is no message of OCPP-J, such as a
+/// Returns, for `check` of a script or `call`, why a JSON text is no message of OCPP-J, such as a
 /// wrong first element or id.
 fn why_no_message(root: Node<'_, '_>) -> &'static str {
     let Some(entries) = root.list() else {

@@ -5,8 +5,8 @@ use crate::report::Report;
 use messages::{ActionKind, FieldKind, FieldRow, Side, fields_of};
 use ocppj_frame::{Field, Node, text_field};
 
-/// Adds a remark for each instant without a zone in an operator's payload, which counts as UTC. A
-/// point's payload has no remarks.
+/// Adds, for `check` of a script or `call`, a remark on each instant without a zone in an
+/// operator's payload, which counts as UTC. A point's payload has no remarks.
 // A local time that counts as UTC shifts a schedule by hours. RFC 3339 requires an offset.
 pub(crate) fn remark_unzoned(report: &mut Report, kind: ActionKind, payload: Node<'_, '_>) {
     if !kind.side().is_same(Side::Operator) {
@@ -25,7 +25,8 @@ pub(crate) fn remark_unzoned(report: &mut Report, kind: ActionKind, payload: Nod
     }
 }
 
-/// Adds a remark for each instant without a zone in one object of an operator's payload.
+/// Adds, for `check` of a script or `call`, a remark on each instant without a zone in one object
+/// of an operator's payload.
 fn remark_fields(report: &mut Report, object: PayloadObject<'_, '_>) {
     for row in object.fields {
         if row.kind() == FieldKind::Time {
@@ -34,8 +35,8 @@ fn remark_fields(report: &mut Report, object: PayloadObject<'_, '_>) {
     }
 }
 
-/// Adds a remark if the instant in this field of an operator's payload has no zone, so that it
-/// counts as UTC.
+/// Adds, for `check` of a script or `call`, a remark if the instant in this field of an operator's
+/// payload has no zone. It then counts as UTC.
 fn remark_field(report: &mut Report, object: PayloadObject<'_, '_>, row: FieldRow) {
     let name = row.name().text();
     match text_field(object.node, name) {
@@ -46,8 +47,8 @@ fn remark_field(report: &mut Report, object: PayloadObject<'_, '_>, row: FieldRo
     }
 }
 
-/// Returns whether an instant in an operator's payload has `Z` or an offset after its `T`. Without
-/// a `T`, returns true.
+/// Returns, for `check` of a script or `call`, whether an instant in an operator's payload has `Z`
+/// or an offset after its `T`. Without a `T`, returns true.
 // A date has hyphens too, so only the part after the `T` is searched.
 fn has_zone(text: &str) -> bool {
     match text.split_once(['T', 't']) {

@@ -195,7 +195,8 @@ impl<'a, R: Print + Eprint + AllocGlobal> Caller<'a, R> {
         Ok(())
     }
 
-    /// Prints the findings in an operator's message to standard error, before `call` sends it.
+    /// Prints the findings in an operator's message to standard error, before it is decided whether
+    /// `call` sends the message.
     fn say_of<N: Display + Copy + Drop>(
         &self,
         name: N,
@@ -207,8 +208,8 @@ impl<'a, R: Print + Eprint + AllocGlobal> Caller<'a, R> {
         self.say_findings("", name, checked.findings.as_slice())
     }
 
-    /// Prints the findings in an operator's message to standard error, for `call`, each after the
-    /// label of its point and the name of the message.
+    /// Prints the findings in a message that `call` is to send to standard error, each after the
+    /// label of its point and the message's name.
     fn say_findings<N: Display + Copy + Drop>(
         &self,
         label: &str,
@@ -227,8 +228,8 @@ impl<'a, R: Print + Eprint + AllocGlobal> Caller<'a, R> {
         Ok(())
     }
 
-    /// Prints the faults in an operator's message to standard error, for `call`, each after the
-    /// label of its point and the name of the message.
+    /// Prints the faults in a message that `call` is to send to standard error, each after the
+    /// label of its point and the message's name.
     fn say_faults(&self, label: &str, name: &str, findings: &[Finding]) -> Result<(), ClientFault> {
         for finding in findings {
             if let Severity::Fault = finding.severity {
@@ -259,7 +260,8 @@ impl<'a, R: Print + Eprint + AllocGlobal> Caller<'a, R> {
         self.print(format!(in self.rt.alloc(); "! {name} {why}")?)
     }
 
-    /// Notes in the exit status of `call` that an operator's message was refused or wasn't sent.
+    /// Notes, for the exit status of `call`, that an operator's message wasn't sent, or was sent
+    /// and refused.
     fn note_refused(&mut self) {
         self.status = self.status.max(REFUSED);
     }
@@ -279,8 +281,8 @@ impl<'a, R: Print + Eprint + AllocGlobal> Caller<'a, R> {
     }
 }
 
-/// Returns whether a fault of an operator's connection may concern one point only, so that the
-/// other points get their calls.
+/// Returns whether a fault of an operator's connection may concern one point only, so that `call`
+/// still sends the calls to the other points.
 // Any other fault, such as one of standard output, would recur at the other points.
 fn is_of_one_point(fault: ClientFault) -> bool {
     matches!(fault, ClientFault::Closed | ClientFault::Socket)

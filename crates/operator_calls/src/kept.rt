@@ -41,7 +41,8 @@ pub(crate) fn installed_profiles(
     Ok(kept)
 }
 
-/// Returns the payload of the SetChargingProfile by which an undo installs a profile again.
+/// Returns the payload of the SetChargingProfile by which an undo of `call` installs a profile
+/// again.
 fn payload_of(alloc: Global, row: &Row) -> Result<String, AllocError> {
     let connector = row.connector;
     let mut payload = format!(in alloc; "{{\"connectorId\":{connector},\"csChargingProfiles\":")?;
@@ -50,8 +51,8 @@ fn payload_of(alloc: Global, row: &Row) -> Result<String, AllocError> {
     Ok(payload)
 }
 
-/// Returns the number of the active transaction at a connector of a point. An undo installs a
-/// TxProfile again only in its own transaction.
+/// Returns the number of the active transaction at a connector of a point. An undo of `call`
+/// installs a TxProfile again only in its own transaction.
 pub(crate) fn transaction_of(machine: &Machine, point: &str, connector: u32) -> Option<i32> {
     let book = machine.book_of(point)?;
     let transaction = book.transaction_at(connector)?;

@@ -43,8 +43,8 @@ pub(crate) struct PointFollower {
 }
 
 impl PointFollower {
-    /// Begins to look for changes by the journal's lines after the one that an undo reverts, with
-    /// its point's profiles after that line.
+    /// Begins to follow the journal after the line that `call --undo` reverts, to find later
+    /// changes of its point's profiles. Begins with its profiles after that line.
     pub(crate) fn begin(
         alloc: Global,
         machine: &Machine,
@@ -57,8 +57,8 @@ impl PointFollower {
         })
     }
 
-    /// Records how an event at the undo's point after the undone line changed its profiles, given
-    /// the state after it.
+    /// Records how an event after the line that `call --undo` reverts changed the profiles of its
+    /// point, given the state after the event.
     pub(crate) fn follow(
         &mut self,
         machine: &Machine,
@@ -78,8 +78,8 @@ impl PointFollower {
         Ok(())
     }
 
-    /// Records that an event after the undone line installed these profiles at the undo's point, or
-    /// removed them.
+    /// Records that an event after the line that `call --undo` reverts installed these profiles at
+    /// its point, or removed them.
     fn add_changes(
         &mut self,
         event: &Event<'_>,
@@ -97,7 +97,7 @@ impl PointFollower {
         Ok(())
     }
 
-    /// Returns the later changes that an undo reverts too, for a warning to the operator. Of
+    /// Returns the later changes that `call --undo` reverts too, to warn the operator of them. Of
     /// several changes of one profile the last counts.
     pub(crate) fn taken_back(
         self,
@@ -125,8 +125,8 @@ impl PointFollower {
         Ok(taken)
     }
 
-    /// Returns whether a line of the journal after this change installed the same profile at the
-    /// undo's point again, or removed it again.
+    /// Returns whether a line of the journal after this change installed or removed the same
+    /// profile again. `call --undo` then doesn't warn of this change.
     fn is_outdated(&self, change: &LaterChange) -> bool {
         self.changes.iter().any(|other| {
             other.line > change.line
@@ -135,7 +135,8 @@ impl PointFollower {
         })
     }
 
-    /// Returns the install by the later line of this number at the point of an undo, if it has one.
+    /// Returns the install by the later line of this number at the point that `call --undo`
+    /// restores, if the line has one.
     fn install_in(&self, line: u64) -> Option<LaterChange> {
         self.changes
             .iter()
@@ -144,7 +145,8 @@ impl PointFollower {
     }
 }
 
-/// Returns the names of those charging profiles of an undo's point that aren't among the others.
+/// Returns the names of those profiles of the point that `call --undo` restores which aren't among
+/// the others.
 fn without(
     alloc: Global,
     profiles: &[InstalledProfile],

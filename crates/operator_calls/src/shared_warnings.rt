@@ -30,7 +30,8 @@ impl SharedWarnings {
         }
     }
 
-    /// Adds the findings in a call of this name to a point, except faults.
+    /// Adds the findings, except faults, in a call of this name that `call` is to send to a point.
+    /// Those that several points share are printed once.
     pub(crate) fn add(
         &mut self,
         point: &str,
@@ -47,7 +48,8 @@ impl SharedWarnings {
         Ok(())
     }
 
-    /// Adds a warning of `call` at a point: to the points that have the same one, or as a new one.
+    /// Adds a warning or a remark on what `call` is to send to a point: to the points that have the
+    /// same one, or as a new one.
     fn add_text(&mut self, point: &str, text: String) -> Result<(), AllocError> {
         for warning in self.warnings.iter_mut() {
             if warning.text.as_str() == text.as_str() {
@@ -60,7 +62,8 @@ impl SharedWarnings {
         Ok(())
     }
 
-    /// Returns the lines for standard error, each with its points in front.
+    /// Returns the warnings on what `call` is to send that points share, as lines for standard
+    /// error. Each has its points in front.
     pub(crate) fn lines(&self) -> Result<Vec<String>, AllocError> {
         let mut lines = Vec::new(self.alloc);
         for warning in &self.warnings {

@@ -131,8 +131,8 @@ impl UndoReader {
 }
 
 impl UndoneLine {
-    /// Keeps the message of an event of the undone line, to print it to the operator, with the name
-    /// of who sent it if the journal has it.
+    /// Keeps the message of the line that `call --undo` reverts, to print it to the operator. It
+    /// has the name of its sender if the journal has it.
     fn add_text(&mut self, event: &Event<'_>) -> Result<(), AllocError> {
         let (side, name, frame) = match event.kind {
             EventKind::Message {
@@ -159,8 +159,8 @@ impl UndoneLine {
     }
 }
 
-/// Marks the earlier profiles of an undo's point that it lacks now and may get again. Returns those
-/// that can't come back, to report them to the operator.
+/// Marks the earlier profiles of the point of `call --undo` that it lacks now and may get again.
+/// Returns those that can't come back, to report them to the operator.
 fn find_lost(
     alloc: Global,
     machine: &Machine,
@@ -184,14 +184,15 @@ fn find_lost(
     Ok(lost)
 }
 
-/// Returns whether an undo may install a profile again at its point: a TxProfile only in its own
-/// transaction.
+/// Returns whether `call --undo` may install a profile again at its point: a TxProfile only in its
+/// own transaction.
 fn may_come_back(machine: &Machine, point: &str, kept: &InstalledProfile) -> bool {
     kept.name.purpose != Purpose::TxProfile
         || kept.transaction == transaction_of(machine, point, kept.name.connector)
 }
 
-/// Returns the calls by which an undo leads from its point's present profiles to the earlier ones.
+/// Returns the calls by which `call --undo` leads from its point's present profiles to the earlier
+/// ones.
 fn calls_between(
     alloc: Global,
     before: &[InstalledProfile],
@@ -214,8 +215,8 @@ fn calls_between(
     Ok(calls)
 }
 
-/// Returns whether a profile that an undo installs again replaces this one, which then needs no
-/// clear.
+/// Returns whether a profile that `call --undo` installs again replaces this one, which then needs
+/// no clear.
 fn is_replaced(added: &InstalledProfile, before: &[InstalledProfile]) -> bool {
     let name = added.name;
     before

@@ -43,8 +43,8 @@ struct CheckedSite<'a> {
 }
 
 impl CheckedSite<'_> {
-    /// Returns the site for `check`, if the site file can be read. Otherwise its findings say why
-    /// not.
+    /// Returns the site for the command `check`, if the site file can be read. Otherwise its
+    /// findings say why not.
     fn site(&self, alloc: Global) -> Result<Option<Site>, AllocError> {
         // Reading a file with such findings would fail.
         if exit_status(self.findings) == 1 {
@@ -58,8 +58,8 @@ impl CheckedSite<'_> {
     }
 }
 
-/// Prints `check`'s findings in the site file, in the file of keys, and in the script or the
-/// journal. Returns the exit status by them.
+/// Prints, for the command `check`, the findings in the site file, in the file of keys, and in the
+/// script or the journal. Returns the exit status by them.
 fn print_findings<R: Files<File = File> + Clock + Input + Print + Eprint + AllocGlobal>(
     rt: &R,
     checking: &Checking<'_>,
@@ -76,8 +76,8 @@ fn print_findings<R: Files<File = File> + Clock + Input + Print + Eprint + Alloc
     Ok(joined_status(of_files, of_history))
 }
 
-/// Prints `check`'s findings in the script or the journal, unless the site can't be read. Returns
-/// the exit status by them.
+/// Prints, for the command `check`, the findings in the script or the journal, unless the site
+/// can't be read. Returns the exit status by them.
 fn check_history<R: Files<File = File> + Clock + Input + Print + Eprint + AllocGlobal>(
     rt: &R,
     checking: &Checking<'_>,
@@ -97,7 +97,7 @@ fn check_history<R: Files<File = File> + Clock + Input + Print + Eprint + AllocG
     }
 }
 
-/// Prints `check`'s findings in a script. Returns the exit status by them.
+/// Prints, for the command `check`, the findings in a script. Returns the exit status by them.
 fn check_script<R: Clock + Print + Eprint + AllocGlobal>(
     rt: &R,
     script: &[u8],
@@ -113,8 +113,8 @@ fn check_script<R: Clock + Print + Eprint + AllocGlobal>(
     Ok(status)
 }
 
-/// Follows the journal of a folder, and prints `check`'s findings in it. Returns the exit status by
-/// them.
+/// Follows the journal of a folder for the command `check`, and prints the findings in it. Returns
+/// the exit status by them.
 fn check_journal<R: Files<File = File> + Clock + Print + Eprint + AllocGlobal>(
     rt: &R,
     folder: &str,
@@ -137,8 +137,8 @@ fn check_journal<R: Files<File = File> + Clock + Print + Eprint + AllocGlobal>(
     Ok(reader.check.status())
 }
 
-/// Prints `check`'s findings in the state at the end of a journal, and the calls that are left
-/// there.
+/// Prints, for the command `check`, the findings in the state at the end of a journal, and the
+/// calls that are left there.
 fn print_end<R: Print + Eprint + AllocGlobal>(
     rt: &R,
     check: &mut SiteCheck,
@@ -181,8 +181,8 @@ impl<R: Print + Eprint + AllocGlobal> EventReader for JournalCheck<'_, R> {
     }
 }
 
-/// Prints `check`'s findings in the file of keys, if one is named, given the site file. Returns the
-/// exit status by them.
+/// Prints, for the command `check`, the findings in the file of keys, if one is named, given the
+/// site file. Returns the exit status by them.
 fn check_keys<R: Files<File = File> + Print + Eprint + AllocGlobal>(
     rt: &R,
     path: Option<&str>,
@@ -198,7 +198,8 @@ fn check_keys<R: Files<File = File> + Print + Eprint + AllocGlobal>(
     Ok(exit_status(findings.as_slice()))
 }
 
-/// Returns `check`'s findings in the file of keys at this path, given the site file.
+/// Reads the file of keys at this path for the command `check`, and returns the findings in it,
+/// given the site file.
 fn find_in_key_file<R: Files<File = File> + Eprint + AllocGlobal>(
     rt: &R,
     path: &str,

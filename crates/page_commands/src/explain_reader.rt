@@ -22,8 +22,8 @@ pub(crate) struct ExplainReader<'a> {
 }
 
 impl<'a> ExplainReader<'a> {
-    /// Returns a reader before the first event, for a site of this many points. It counts the
-    /// changes at a point after this moment.
+    /// Returns a reader of the journal for the command `explain`, before the first event, for a
+    /// site of this many points. It counts the changes at a point after this moment.
     pub(crate) fn new(
         alloc: Global,
         points: usize,
@@ -40,15 +40,15 @@ impl<'a> ExplainReader<'a> {
         })
     }
 
-    /// Returns since when the first call that waits for the explained point waits. None for call 0,
-    /// which waits from the beginning.
+    /// Returns, for a note of the command `explain`, since when the first call that waits for the
+    /// explained point waits. None for call 0, which waits from the beginning.
     pub(crate) fn waiting_since(&self, machine: &Machine) -> Option<Instant> {
         let place = machine.site().place_of(self.point)?;
         self.calls.points().get(place)?.waiting_since()
     }
 
-    /// Returns whether an event at the explained point is a later change. An audit, a remote start
-    /// and a boot change no limit.
+    /// Returns, for a note of the command `explain`, whether an event of the journal at the
+    /// explained point is a later change. An audit, a remote start and a boot change no limit.
     fn counts(&self, machine: &Machine, event: &Event<'_>) -> bool {
         match event.kind {
             EventKind::Message { .. } => {

@@ -49,7 +49,7 @@ pub fn explain_file<R: Files<File = File> + Input + Print + Eprint + Clock + All
     explain_site(rt, &presentation)
 }
 
-/// Returns the options of `explain`, read from their texts.
+/// Returns the options of the command `explain`, read from their texts.
 fn options_of<R: Clock + Eprint>(
     rt: &R,
     explaining: &Explaining<'_>,
@@ -64,8 +64,8 @@ fn options_of<R: Clock + Eprint>(
     })
 }
 
-/// Explains the limits of a connector of a site, once the options of `explain` are read. Returns
-/// the exit status.
+/// Explains the limits of a connector of a site, once the options of the command `explain` are
+/// read. Returns the exit status.
 fn explain_site<R: Files<File = File> + Input + Print + Eprint + Clock + AllocGlobal>(
     rt: &R,
     presentation: &Presentation<'_>,
@@ -85,8 +85,8 @@ fn explain_site<R: Files<File = File> + Input + Print + Eprint + Clock + AllocGl
     explain_journal(rt, presentation, following)
 }
 
-/// Explains the limits of a connector after the journal of a folder, for `explain`. Returns the
-/// exit status.
+/// Explains, for the command `explain`, the limits of a connector after the journal of a folder.
+/// Returns the exit status.
 fn explain_journal<R: Files<File = File> + Print + Eprint + Clock + AllocGlobal>(
     rt: &R,
     presentation: &Presentation<'_>,
@@ -100,8 +100,8 @@ fn explain_journal<R: Files<File = File> + Print + Eprint + Clock + AllocGlobal>
     Ok(page_status(followed.is_as_wanted))
 }
 
-/// Prints `explain`'s notes, and then its table or JSON, by the state after a journal and what was
-/// read of the point.
+/// Prints the notes of the command `explain`, and then its table or JSON, by the state after a
+/// journal and its events at the point.
 fn explain_followed<R: Files + Print + Eprint + AllocGlobal>(
     rt: &R,
     presentation: &Presentation<'_>,
@@ -116,8 +116,8 @@ fn explain_followed<R: Files + Print + Eprint + AllocGlobal>(
     print_explained(rt, presentation, machine, known.as_slice())
 }
 
-/// Explains the limits of a connector after the script of messages from standard input or a file,
-/// for `explain`. Returns the exit status.
+/// Explains, for the command `explain`, the limits of a connector after the script of messages from
+/// standard input or a file. Returns the exit status.
 fn explain_script<R: Files<File = File> + Input + Print + Eprint + AllocGlobal>(
     rt: &R,
     presentation: &Presentation<'_>,
@@ -131,8 +131,8 @@ fn explain_script<R: Files<File = File> + Input + Print + Eprint + AllocGlobal>(
     Ok(page_status(is_whole))
 }
 
-/// Prints a note to standard error for `explain` if a journal has changes at the point after the
-/// first explained instant. The explained state isn't that of the instant then.
+/// Prints a note of the command `explain` to standard error if a journal has changes at the point
+/// after the first explained instant. The explained state isn't that of the instant then.
 fn note_later_changes<R: Eprint + AllocGlobal>(
     rt: &R,
     point: &str,
@@ -170,8 +170,8 @@ struct Presentation<'a> {
 }
 
 impl<'a> Presentation<'a> {
-    /// Returns the clock of the time zone that the options of `explain` name, for the times of its
-    /// table.
+    /// Returns the clock of the time zone that the options of the command `explain` name, for the
+    /// times of its table.
     fn zone_clock(&self) -> Option<ZoneClock<'a>> {
         let name = self.explaining.zone?;
         Some(ZoneClock {
@@ -181,8 +181,8 @@ impl<'a> Presentation<'a> {
     }
 }
 
-/// Returns the form of the picture that the options of `explain` request, SVG or HTML by its file's
-/// name.
+/// Returns the form of the picture that the options of the command `explain` request, SVG or HTML
+/// by its file's name.
 fn form_of_picture(explaining: &Explaining<'_>) -> Result<Option<PictureForm>, ProgramFault> {
     match explaining.picture {
         Some(path) => Ok(Some(picture_form(path)?)),
@@ -190,7 +190,8 @@ fn form_of_picture(explaining: &Explaining<'_>) -> Result<Option<PictureForm>, P
     }
 }
 
-/// Refuses for `explain` a charge point that the site lacks, and a connector that the point lacks.
+/// Refuses, for the command `explain`, a charge point that the site lacks, and a connector that the
+/// point lacks.
 fn check_connector(site: &Site, point: &str, connector: u32) -> Result<(), ProgramFault> {
     let Some(place) = site.place_of(point) else {
         return Err(ProgramFault::NoSuchPoint);
@@ -204,8 +205,8 @@ fn check_connector(site: &Site, point: &str, connector: u32) -> Result<(), Progr
     Ok(())
 }
 
-/// Returns the instant at which `explain`'s time begins: the present or the one of `--start`.
-/// Prints a note to standard error if that has no zone.
+/// Returns the instant from which the command `explain` explains: the present or the one of
+/// `--start`. Prints a note to standard error if the latter has no zone.
 fn start_of<R: Clock + Eprint>(rt: &R, text: &str) -> Result<Instant, ProgramFault> {
     let Ok(start) = Start::of(text) else {
         return Err(ProgramFault::NoInstant);
@@ -219,8 +220,8 @@ fn start_of<R: Clock + Eprint>(rt: &R, text: &str) -> Result<Instant, ProgramFau
     }
 }
 
-/// Returns the request for a composite schedule that the options of `explain` describe, from this
-/// instant on.
+/// Returns the request for a composite schedule that the options of the command `explain` describe,
+/// from this instant on.
 fn ask_of(explaining: &Explaining<'_>, start: Instant) -> Result<Ask, ProgramFault> {
     let Some(duration) = read_duration(explaining.duration) else {
         return Err(ProgramFault::NoDuration);
@@ -235,8 +236,8 @@ fn ask_of(explaining: &Explaining<'_>, start: Instant) -> Result<Ask, ProgramFau
     }
 }
 
-/// Prints `explain`'s table or JSON for a request for a schedule by the state of the charge point,
-/// with what is known of its profiles, and writes its picture.
+/// Prints the table or JSON of the command `explain` for a request by the state of the point, with
+/// what is known of its profiles. Writes the picture too.
 fn print_explained<R: Files + Print + Eprint + AllocGlobal>(
     rt: &R,
     presentation: &Presentation<'_>,
@@ -256,8 +257,8 @@ fn print_explained<R: Files + Print + Eprint + AllocGlobal>(
     print_explanation(rt, presentation, unit, book, ask, known)
 }
 
-/// Prints `explain`'s table or JSON for a request for a schedule by the point's book of installed
-/// profiles, with what is known of them, and writes its picture.
+/// Prints the table or JSON of the command `explain` for a request by the point's book of installed
+/// profiles, with what is known of them. Writes the picture too.
 fn print_explanation<R: Files + Print + Eprint + AllocGlobal>(
     rt: &R,
     presentation: &Presentation<'_>,
@@ -287,7 +288,7 @@ fn print_explanation<R: Files + Print + Eprint + AllocGlobal>(
     print_page(rt, page_of(alloc, presentation, &explained)?.as_str())
 }
 
-/// Writes the picture that the options of `explain` request.
+/// Writes the picture that the options of the command `explain` request to its file.
 fn write_drawing<R: Files + Eprint + AllocGlobal>(
     rt: &R,
     path: &str,
@@ -301,7 +302,7 @@ fn write_drawing<R: Files + Eprint + AllocGlobal>(
     write_file(rt, path, drawn.as_str())
 }
 
-/// Returns `explain`'s table of an explained schedule, or its JSON.
+/// Returns what the command `explain` prints of an explained schedule: its table or its JSON.
 fn page_of(
     alloc: Global,
     presentation: &Presentation<'_>,

@@ -9,8 +9,8 @@ use site_core::{Machine, ProfileState};
 use site_history::name_of;
 use std::alloc::{AllocError, AllocGlobal, Global};
 
-/// Prints a note to standard error for each profile that the explained point rejected or may have
-/// lost: the limits have it, and the point perhaps doesn't.
+/// Prints a note of the command `explain` to standard error for each profile that the explained
+/// point rejected or may have lost. The limits have it, and the point perhaps doesn't.
 pub(crate) fn say_lost<R: Eprint + AllocGlobal>(
     rt: &R,
     machine: &Machine,
@@ -37,8 +37,8 @@ pub(crate) fn say_lost<R: Eprint + AllocGlobal>(
     Ok(())
 }
 
-/// Returns since when a profile is in its state at the explained point, and by the reply to which
-/// call, as the end of a note.
+/// Returns, for the end of a note of the command `explain`, since when a profile is in its state at
+/// its point. Adds by the reply to which call.
 fn since_text(alloc: Global, reader: &ExplainReader<'_>, row: &Row) -> Result<String, AllocError> {
     let mut text = String::new(alloc);
     let Some(known) = reader.states.of(row) else {
@@ -52,7 +52,8 @@ fn since_text(alloc: Global, reader: &ExplainReader<'_>, row: &Row) -> Result<St
     Ok(text)
 }
 
-/// Returns what is known of the explained point's profiles, for `explain`'s table and JSON.
+/// Returns the states of the explained point's profiles by the journal, for the table, picture and
+/// JSON of the command `explain`.
 pub(crate) fn known_profiles<'a>(
     alloc: Global,
     machine: &Machine,
@@ -71,7 +72,8 @@ pub(crate) fn known_profiles<'a>(
     Ok(known)
 }
 
-/// Returns what is known of a profile of the explained point.
+/// Returns the state of a profile of the explained point by the journal, if known, for the table,
+/// picture and JSON of the command `explain`.
 fn known_profile<'a>(reader: &ExplainReader<'a>, row: &Row) -> Option<KnownProfile<'a>> {
     let found = reader.states.of(row)?;
     Some(KnownProfile {
@@ -82,8 +84,8 @@ fn known_profile<'a>(reader: &ExplainReader<'a>, row: &Row) -> Option<KnownProfi
     })
 }
 
-/// Returns the words for a profile in this state that a moment follows, or none if the point holds
-/// it.
+/// Returns the words of the command `explain` for a profile in this state, which an instant
+/// follows, or none if the point holds the profile.
 fn note_of(state: ProfileState) -> &'static str {
     match state {
         ProfileState::Held => "",

@@ -26,8 +26,7 @@ pub fn replay_file<R: Files<File = File> + Input + Print + Eprint + AllocGlobal>
     }
 }
 
-/// Plays a script of messages on a site for `central replay`, and prints the answers to its
-/// clients.
+/// Plays a script of messages on a site for the command `replay`, and prints the answers.
 fn replay_from<R: Print + AllocGlobal, S: Read>(
     rt: &R,
     script: &mut S,

@@ -33,8 +33,8 @@ pub fn show_file<R: Files<File = File> + Input + Print + Eprint + Clock + AllocG
     show_journal(rt, showing, following)
 }
 
-/// Prints `show`'s page with the state of each point after the journal of a folder. Returns the
-/// exit status.
+/// Prints the page of the command `show` with the state of each point after the journal of a
+/// folder. Returns the exit status.
 fn show_journal<R: Files<File = File> + Print + Eprint + Clock + AllocGlobal>(
     rt: &R,
     showing: Showing<'_>,
@@ -53,8 +53,8 @@ fn show_journal<R: Files<File = File> + Print + Eprint + Clock + AllocGlobal>(
     Ok(page_status(followed.is_as_wanted))
 }
 
-/// Prints `show`'s page with the state of each point after the script of messages from standard
-/// input or a file. Returns the exit status.
+/// Prints the page of the command `show` with the state of each point after the script of messages
+/// from standard input or a file. Returns the exit status.
 fn show_script<R: Files<File = File> + Input + Print + Eprint + AllocGlobal>(
     rt: &R,
     showing: Showing<'_>,
@@ -69,7 +69,7 @@ fn show_script<R: Files<File = File> + Input + Print + Eprint + AllocGlobal>(
     Ok(page_status(is_whole))
 }
 
-/// Prints `show`'s page with the state of each charge point, as tables or as JSON.
+/// Prints the page of the command `show` with the state of each charge point, as tables or as JSON.
 fn print_standing<R: Print + Eprint + AllocGlobal>(
     rt: &R,
     showing: Showing<'_>,

@@ -5,7 +5,8 @@ use ocpp_scalars::push_instant;
 use site_core::Machine;
 use std::alloc::{AllocError, AllocGlobal};
 
-/// Prints how many calls the explained point hasn't confirmed, and since when, if there are any.
+/// Prints, as a note of the command `explain`, how many calls the explained point hasn't confirmed,
+/// and since when, if there are any.
 pub(crate) fn say_unconfirmed<R: Eprint + AllocGlobal>(
     rt: &R,
     machine: &Machine,

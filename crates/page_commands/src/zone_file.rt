@@ -61,7 +61,8 @@ pub fn read_clock_shifts<R: Files<File = File> + Eprint + AllocGlobal>(
     }
 }
 
-/// Reads the bytes of a time zone's file, for the local times in `explain`'s table.
+/// Reads the bytes of a time zone's file, for the local times in the table of the command
+/// `explain`.
 fn read_zone_bytes<R: Files<File = File> + Eprint + AllocGlobal>(
     rt: &R,
     path: &str,

@@ -163,26 +163,28 @@ impl JsonPage {
         Ok(text)
     }
 
-    /// Appends the key of a field to the JSON text that is being written.
+    /// Appends the key of a field to a JSON text that is written piece by piece, for `explain
+    /// --json`, `show --json` and the status port's JSON.
     fn key(&mut self, key: &str) {
         let written = self.out.key(key);
         self.keep(written);
     }
 
-    /// Appends a string value to the JSON text that is being written.
+    /// Appends a string value to a JSON text that is written piece by piece, for `explain --json`,
+    /// `show --json` and the status port's JSON.
     fn string(&mut self, text: &str) {
         let written = self.out.string(text);
         self.keep(written);
     }
 
-    /// Keeps whether a piece of the JSON text could be written, so that `finish` reports a failed
-    /// allocation.
+    /// Keeps whether a piece of a JSON text (of `explain --json`, `show --json` or the status port)
+    /// was written. If not, `finish` reports a failed allocation.
     fn keep(&mut self, written: Result<(), AllocError>) {
         self.is_short = self.is_short || written.is_err();
     }
 
-    /// Copies the values and fields of a text of JSON into the text being written token by token,
-    /// since the writer takes no raw text.
+    /// Copies the values and fields of a JSON text token by token into the one being written piece
+    /// by piece for `show --json`. The writer takes no raw text.
     fn copy_tokens(&mut self, text: &str) -> Result<(), AllocError> {
         let mut scratch = Scratch::new(self.alloc);
         let mut reader = Reader::new(text, &mut scratch)?;

@@ -51,8 +51,8 @@ pub fn takes_place_of(came: PrevailingProfile, gone: PrevailingProfile) -> bool 
             && came.stack_level == gone.stack_level)
 }
 
-/// Makes the finding of `check` or `call` that a charging profile which a script's line installed
-/// replaced another one of its point.
+/// Makes the finding of `check` or `call` that an install in a line of a script or a journal
+/// replaced another profile of its point.
 fn replaced(
     alloc: Global,
     number: u64,
@@ -78,8 +78,8 @@ fn replaced(
     Ok(Finding::warning(place, message))
 }
 
-/// Makes the warning that a ClearChargingProfile removed a fuse limit (a ChargePointMaxProfile)
-/// too.
+/// Makes the warning of `check` or `call` that a ClearChargingProfile removed a fuse limit (a
+/// ChargePointMaxProfile) of its point too.
 fn cleared_too(alloc: Global, number: u64, gone: PrevailingProfile) -> Result<Finding, AllocError> {
     let name = named(alloc, gone)?;
     let message = format!(in alloc;
@@ -88,7 +88,8 @@ fn cleared_too(alloc: Global, number: u64, gone: PrevailingProfile) -> Result<Fi
     Ok(Finding::warning(Location::line(number), message))
 }
 
-/// Names a charging profile in a finding by its purpose, id, stack level and connector.
+/// Names a point's charging profile, for a finding of `check` or `call`, by its purpose, id, stack
+/// level and connector.
 fn named(alloc: Global, profile: PrevailingProfile) -> Result<String, AllocError> {
     let purpose = purpose_name(profile.purpose);
     let id = profile.id;
@@ -97,8 +98,8 @@ fn named(alloc: Global, profile: PrevailingProfile) -> Result<String, AllocError
     format!(in alloc; "{purpose} {id} (stack level {level}, at connector {connector})")
 }
 
-/// Returns whether a message is a ClearChargingProfile with criteria but no id or purpose, for a
-/// warning of `check` or `call`.
+/// Returns whether a message is a ClearChargingProfile with criteria but no id or purpose. If so,
+/// `check` or `call` reports each fuse limit among the point's profiles that it removed.
 // A clear by connectorId or stackLevel matches profiles of each purpose, fuse limits among them.
 fn clears_at_large(alloc: Global, text: &str) -> Result<bool, AllocError> {
     let mut memory = ReadingMemory::new(alloc);
@@ -109,8 +110,8 @@ fn clears_at_large(alloc: Global, text: &str) -> Result<bool, AllocError> {
     }
 }
 
-/// Returns whether a frame is a ClearChargingProfile with criteria but no id or purpose, for a
-/// warning of `check` or `call`.
+/// Returns whether a frame is a ClearChargingProfile with criteria but no id or purpose. If so,
+/// `check` or `call` reports each fuse limit among the point's profiles that it removed.
 fn is_clear_at_large(alloc: Global, frame: Frame<'_>) -> Result<bool, AllocError> {
     match frame {
         Frame::Call {
@@ -125,8 +126,8 @@ fn is_clear_at_large(alloc: Global, frame: Frame<'_>) -> Result<bool, AllocError
     }
 }
 
-/// Returns whether the payload of a ClearChargingProfile has criteria but neither id nor purpose,
-/// for a warning of `check` or `call`.
+/// Returns whether the payload of a ClearChargingProfile has criteria but neither id nor purpose.
+/// If so, `check` or `call` reports each fuse limit among the point's profiles that it removed.
 fn has_large_criteria(alloc: Global, payload: Node<'_, '_>) -> Result<bool, AllocError> {
     match read_fields(alloc, ActionKind::ClearChargingProfile, payload) {
         Ok(Action::ClearChargingProfile(criteria)) => Ok(is_at_large(&criteria)),
@@ -135,8 +136,8 @@ fn has_large_criteria(alloc: Global, payload: Node<'_, '_>) -> Result<bool, Allo
     }
 }
 
-/// Returns whether a ClearChargingProfile has criteria but neither id nor purpose, so that `check`
-/// or `call` warns of each fuse limit that it removed.
+/// Returns whether a ClearChargingProfile has criteria but neither id nor purpose. If so, `check`
+/// or `call` reports each fuse limit among the point's profiles that it removed.
 // A clear without any has a warning of its own.
 fn is_at_large(criteria: &Criteria) -> bool {
     criteria.id.is_none() && criteria.purpose.is_none() && !has_no_criterion(criteria)

@@ -74,8 +74,8 @@ pub fn check_unlimited(alloc: Global, point: &str) -> Result<Finding, AllocError
     Ok(Finding::remark(place, message))
 }
 
-/// Describes, for a warning before a call is sent, the removal of a point's fuse limit (its
-/// ChargePointMaxProfiles).
+/// Describes, for a warning before `call` sends a message, that it removes the point's fuse limit
+/// (its ChargePointMaxProfiles).
 fn gone_message(alloc: Global, unit: Unit, was: u32) -> Result<String, AllocError> {
     let was = tenths_text(alloc, u64::from(was))?;
     let unit = unit_name(unit);
@@ -84,7 +84,7 @@ fn gone_message(alloc: Global, unit: Unit, was: u32) -> Result<String, AllocErro
     )
 }
 
-/// Describes, for `check` and `call`, the raise of a point's fuse limit by its
+/// Describes, for a finding of `check` or `call`, the raise of a point's fuse limit by its
 /// ChargePointMaxProfiles.
 fn raised_message(alloc: Global, unit: Unit, was: u32, now: u32) -> Result<String, AllocError> {
     let was = tenths_text(alloc, u64::from(was))?;

@@ -6,9 +6,9 @@ ghost use Rattle.profile_findings.specs.Hidden.{SpeaksForNone, IsHiddenEverywher
 use meaning::View;
 use profile::{Purpose, Row, is_candidate};
 
-/// Returns whether `check` warns of a TxDefaultProfile at connector 0, since each connector has one
-/// of its own at that stack level (chapter 3.13). It counts nowhere, even while those have no
-/// limit.
+/// Returns whether `check` or `call` warns of a point's TxDefaultProfile at connector 0: each
+/// connector has one of its own at that stack level (chapter 3.13). It counts nowhere, even while
+/// those have no limit.
 pub(crate) fn is_hidden_everywhere(view: &View<'_>, row: &Row) -> bool
     ensures { IsTrue result
         ↔ IsHiddenEverywhere view.now.rows.now (length view.now.ceilings.now) row.now }
@@ -19,7 +19,7 @@ pub(crate) fn is_hidden_everywhere(view: &View<'_>, row: &Row) -> bool
 }
 
 /// Returns whether an installed profile may prevail at no connector among the TxDefaultProfiles of
-/// its point, for a warning of `check`.
+/// its point, for a warning of `check` or `call`.
 fn speaks_for_none(view: &View<'_>, row: &Row) -> bool
     ensures { IsTrue result
         ↔ SpeaksForNone view.now.rows.now (length view.now.ceilings.now) row.now }

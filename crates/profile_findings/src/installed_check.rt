@@ -29,7 +29,8 @@ pub fn check_installed_profiles(
     Ok(findings)
 }
 
-/// Returns a warning for each TxDefaultProfile at connector 0 that may prevail at no connector.
+/// Returns a warning of `check` or `call` for each TxDefaultProfile of a point at connector 0 that
+/// may prevail at no connector.
 fn hidden_defaults(
     alloc: Global,
     point: &str,
@@ -63,9 +64,9 @@ fn lifted_limits(
     Ok(findings)
 }
 
-/// Returns whether a ChargePointMaxProfile may allow more than one that it overrides, for a warning
-/// of `check`. Where both have a limit, only the higher stack level counts (OCPP 1.6, chapter
-/// 3.13).
+/// Returns whether a point's ChargePointMaxProfile may allow more than one that it overrides, for a
+/// warning of `check` or `call`. Where both have a limit, only the higher stack level counts (OCPP
+/// 1.6, chapter 3.13).
 // Only the extremes are compared, so the two profiles needn't have a limit at the same time.
 fn lifts(high: &Row, low: &Row) -> bool {
     high.profile.purpose == Purpose::ChargePointMaxProfile
@@ -94,7 +95,7 @@ fn lowest_limit(row: &Row) -> u32 {
     lowest
 }
 
-/// Makes the finding that a point's connectors may draw more together than its
+/// Makes the finding of `check` or `call` that a point's connectors may draw more together than its
 /// ChargePointMaxProfile allows, if they may.
 fn excess_finding(
     alloc: Global,
@@ -117,8 +118,8 @@ fn excess_finding(
     Ok(Some(finding_at_end(alloc, severity, point, message)?))
 }
 
-/// Makes a finding of `check` or `call` in the profiles that the point of this identity has after
-/// the lines that were played.
+/// Makes a finding of `check` or `call` in the profiles of the point of this identity after a
+/// script, a journal or a call to be sent.
 fn finding_at_end(
     alloc: Global,
     severity: Severity,

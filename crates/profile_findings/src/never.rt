@@ -48,8 +48,8 @@ pub fn never_rated(profile: &Profile) -> Option<NeverRated>
     None
 }
 
-/// Returns whether a charging profile's validTo isn't after its validFrom, so that `check` warns
-/// that it never counts.
+/// Returns whether a point's profile never counts because its validTo isn't after its validFrom. If
+/// so, `check` or `call` warns of the profile.
 fn has_empty_validity(profile: &Profile) -> bool
     ensures exact { result ≡ has_empty_validity profile.now }
     ensures never { IsTrue result → IsNeverRated profile.now }
@@ -60,8 +60,8 @@ fn has_empty_validity(profile: &Profile) -> bool
     }
 }
 
-/// Returns whether a charging profile's validTo isn't after its startSchedule, so that `check`
-/// warns that it never counts.
+/// Returns whether a point's profile never counts because its validTo isn't after its
+/// startSchedule. If so, `check` or `call` warns of the profile.
 // This holds for Recurring profiles too, since they don't reach back before startSchedule.
 fn is_valid_before_start(profile: &Profile) -> bool
     ensures exact { result ≡ is_valid_before_start profile.now }
@@ -73,8 +73,8 @@ fn is_valid_before_start(profile: &Profile) -> bool
     }
 }
 
-/// Returns whether the schedule of an Absolute profile is over before its validFrom, so that
-/// `check` warns that it never counts.
+/// Returns whether a point's Absolute profile never counts because its schedule is over before its
+/// validFrom. If so, `check` or `call` warns of the profile.
 fn is_valid_after_end(profile: &Profile) -> bool
     ensures exact { result ≡ is_valid_after_end profile.now }
     ensures never { IsTrue result → IsNeverRated profile.now }
@@ -95,8 +95,8 @@ fn is_valid_after_end(profile: &Profile) -> bool
     }
 }
 
-/// Returns whether the duration of a charging profile's schedule is 0, so that `check` warns that
-/// it never counts.
+/// Returns whether a point's profile never counts because the duration of its schedule is 0. If so,
+/// `check` or `call` warns of the profile.
 fn has_no_duration(profile: &Profile) -> bool
     ensures exact { result ≡ has_no_duration profile.now }
     ensures never { IsTrue result → IsNeverRated profile.now }
@@ -107,8 +107,8 @@ fn has_no_duration(profile: &Profile) -> bool
     }
 }
 
-/// Returns whether no period of a charging profile starts within its schedule's duration, so that
-/// `check` warns that it never counts.
+/// Returns whether a point's profile never counts because no period starts within its schedule's
+/// duration. If so, `check` or `call` warns of the profile.
 fn has_periods_past_duration(profile: &Profile) -> bool
     ensures exact { result ≡ has_periods_past_duration profile.now }
     ensures never { IsTrue result → IsNeverRated profile.now }
@@ -119,8 +119,8 @@ fn has_periods_past_duration(profile: &Profile) -> bool
     }
 }
 
-/// Returns whether no period of a Recurring profile starts within its day or week, so that `check`
-/// warns that it never counts.
+/// Returns whether a point's Recurring profile never counts because no period starts within its day
+/// or week. If so, `check` or `call` warns of the profile.
 fn has_periods_past_recurrence(profile: &Profile) -> bool
     ensures exact { result ≡ has_periods_past_recurrence profile.now }
     ensures never { IsTrue result → IsNeverRated profile.now }
@@ -131,8 +131,8 @@ fn has_periods_past_recurrence(profile: &Profile) -> bool
     }
 }
 
-/// Returns whether each period of a charging profile starts at this offset or later, in seconds,
-/// for the warning of `check` that it never counts.
+/// Returns whether each period of a point's profile starts at this offset or later, in seconds.
+/// `check` or `call` may then warn that the profile never counts.
 fn start_past(profile: &Profile, end: u64) -> bool
     ensures exact { result ≡ start_past profile.now.schedule.periods (Some end) }
     ensures before { IsTrue result → HasNoPeriodBefore profile.now end }
@@ -140,8 +140,8 @@ fn start_past(profile: &Profile, end: u64) -> bool
     start_from(profile.schedule.periods.as_slice(), end)
 }
 
-/// Returns whether each of a charging schedule's periods starts at this offset or later, in
-/// seconds, for the warning of `check` that it never counts.
+/// Returns whether each of these periods of a point's profile starts at this offset or later, in
+/// seconds. `check` or `call` may then warn that the profile never counts.
 fn start_from(periods: &[Period], end: u64) -> bool
     ensures { result ≡ start_past periods.now (Some end) }
 {

@@ -68,9 +68,9 @@ struct Week<'a> {
     duration: u32,
 }
 
-/// Returns, for a finding of `check`, the first worst instant of the week after a point's last
-/// install. There the connectors' schedules together exceed the prevailing ChargePointMaxProfile
-/// most (OCPP 1.6, chapter 3.13).
+/// Finds, for `check` or `call`, the first worst instant of the week after a point's last install.
+/// There the connectors' schedules together exceed the prevailing ChargePointMaxProfile most (OCPP
+/// 1.6, chapter 3.13).
 pub(crate) fn worst_excess(
     alloc: Global,
     book: &PointBook,
@@ -88,8 +88,8 @@ pub(crate) fn worst_excess(
     Ok(excess_of(&week, overrun))
 }
 
-/// Returns the week from a point's last install on, in which `check` compares its connectors'
-/// limits with its ChargePointMaxProfile. None if it has no such profile.
+/// Returns the week from a point's last install on, in which `check` or `call` compares its
+/// connectors' limits with its ChargePointMaxProfile. None if it has no such profile.
 fn week_of(book: &PointBook) -> Option<Week<'_>> {
     let mut last = None;
     let mut is_bounded = false;
@@ -110,8 +110,8 @@ fn week_of(book: &PointBook) -> Option<Week<'_>> {
     })
 }
 
-/// Appends the changes of a point's prevailing ChargePointMaxProfile in the week that `check`
-/// examines.
+/// Appends the changes of a point's prevailing ChargePointMaxProfile in the week that `check` or
+/// `call` examines.
 fn push_most_turns<'a>(turns: &mut Vec<WeekTurn<'a>>, week: &Week<'a>) -> Result<(), AllocError> {
     let mut second = 0;
     // Each change is at least a second after the last, so this range ends the loop without a proof.
@@ -129,14 +129,14 @@ fn push_most_turns<'a>(turns: &mut Vec<WeekTurn<'a>>, week: &Week<'a>) -> Result
     Ok(())
 }
 
-/// Returns the instant at this second of the week that `check` examines, which begins at a point's
-/// last install.
+/// Returns the instant at this second of the week that `check` or `call` examines, which begins at
+/// a point's last install.
 fn later_by(asked: Instant, second: u32) -> Option<Instant> {
     Instant::try_new(asked.seconds().saturating_add(u64::from(second)))
 }
 
-/// Returns the ChargePointMaxProfile that prevails at an instant of the week that `check` examines.
-/// Of those with a limit it is the one of the highest stack level.
+/// Returns the ChargePointMaxProfile that prevails at an instant of the week that `check` or `call`
+/// examines. Of those with a limit it is the one of the highest stack level.
 fn most_at(book: &PointBook, asked: Instant, instant: Instant) -> Option<Most<'_>> {
     for row in book.candidates(Purpose::ChargePointMaxProfile, 0) {
         if let Some(limit) = rate_at(&row.profile, row.base(None, asked), instant) {
@@ -146,8 +146,8 @@ fn most_at(book: &PointBook, asked: Instant, instant: Instant) -> Option<Most<'_
     None
 }
 
-/// Returns the next second of the week that `check` examines at which the limit of a
-/// ChargePointMaxProfile may change.
+/// Returns the next second of the week that `check` or `call` examines at which the limit of a
+/// point's ChargePointMaxProfile may change.
 fn next_most_turn(week: &Week<'_>, instant: Instant) -> Option<u32> {
     let mut next = None;
     for row in week.book.view().rows {
@@ -160,8 +160,8 @@ fn next_most_turn(week: &Week<'_>, instant: Instant) -> Option<u32> {
     u32::try_from(second).ok()
 }
 
-/// Appends the changes of all connectors' limits in the week that `check` examines, which are to be
-/// added up.
+/// Appends the changes of the limits of all a point's connectors in the week that `check` or `call`
+/// examines, to add them up.
 // Connectors that are alike change together, so one schedule serves up to 64 of them.
 fn push_limit_turns<'a>(
     alloc: Global,
@@ -179,8 +179,8 @@ fn push_limit_turns<'a>(
     Ok(())
 }
 
-/// Returns whether no connector before this one has the same limits, so that `check` computes this
-/// one's schedule.
+/// Returns whether no connector of the point before this one has the same limits, so that `check`
+/// or `call` computes this one's schedule.
 fn is_first_alike(view: &View<'_>, connector: u32) -> bool {
     for before in 1..connector {
         if are_alike(view, before, connector) {
@@ -191,7 +191,7 @@ fn is_first_alike(view: &View<'_>, connector: u32) -> bool {
 }
 
 /// Returns the number of a point's connectors with the same limits as this one, itself included,
-/// for which `check` computes one schedule.
+/// for which `check` or `call` computes one schedule.
 fn count_alike(view: &View<'_>, connector: u32) -> u64 {
     let mut count: u64 = 0;
     for before in 0..view.ceilings.len() {
@@ -202,9 +202,9 @@ fn count_alike(view: &View<'_>, connector: u32) -> u64 {
     count
 }
 
-/// Returns whether two connectors have the same limits, so that `check` computes one schedule for
-/// both. They are the same one, or have equal ceilings, no profiles of their own, and transactions
-/// since the same moment or none.
+/// Returns whether two connectors have the same limits, so that `check` or `call` computes one
+/// schedule for both. They are the same one, or have equal ceilings, no profiles of their own, and
+/// transactions since the same moment or none.
 fn are_alike(view: &View<'_>, one: u32, other: u32) -> bool {
     if one == other {
         return true;
@@ -218,8 +218,8 @@ fn are_alike(view: &View<'_>, one: u32, other: u32) -> bool {
             .any(|row| row.connector == one || row.connector == other)
 }
 
-/// Appends the changes of a connector's limit in the week that `check` examines, times the number
-/// of connectors like it.
+/// Appends the changes of a connector's limit in the week that `check` or `call` examines, times
+/// the number of connectors like it.
 fn push_turns_of<'a>(
     alloc: Global,
     turns: &mut Vec<WeekTurn<'a>>,
@@ -244,8 +244,8 @@ fn push_turns_of<'a>(
     Ok(())
 }
 
-/// Returns, for a finding of `check`, the second at which the connectors' limits together exceed
-/// the prevailing ChargePointMaxProfile most. The changes are sorted by second.
+/// Returns, for a finding of `check` or `call`, the second at which the connectors' limits together
+/// exceed the prevailing ChargePointMaxProfile most. The changes are sorted by second.
 fn worst_of<'a>(turns: &[WeekTurn<'a>]) -> Option<Overrun<'a>> {
     let mut worst: Option<Overrun<'a>> = None;
     let mut together: u64 = 0;
@@ -266,8 +266,8 @@ fn worst_of<'a>(turns: &[WeekTurn<'a>]) -> Option<Overrun<'a>> {
     worst
 }
 
-/// Returns the overrun at a second of the week that `check` examines, if the connectors' limits
-/// together exceed the prevailing ChargePointMaxProfile.
+/// Returns the overrun at a second of the week that `check` or `call` examines, if the connectors'
+/// limits together exceed the prevailing ChargePointMaxProfile.
 fn overrun_of(second: u32, together: u64, most: Option<Most<'_>>) -> Option<Overrun<'_>> {
     let most = most?;
     if together <= u64::from(most.limit) {
@@ -280,8 +280,8 @@ fn overrun_of(second: u32, together: u64, most: Option<Most<'_>>) -> Option<Over
     })
 }
 
-/// Returns the worse of an overrun of the ChargePointMaxProfile and a later one, for a finding of
-/// `check`, and the first if both are equal.
+/// Returns the worse of an overrun of a point's ChargePointMaxProfile and a later one, for a
+/// finding of `check` or `call`. If both are equal, returns the first.
 fn worse<'a>(first: Option<Overrun<'a>>, later: Option<Overrun<'a>>) -> Option<Overrun<'a>> {
     match (first, later) {
         (Some(first), Some(later)) if later.beyond() <= first.beyond() => Some(first),
@@ -291,14 +291,15 @@ fn worse<'a>(first: Option<Overrun<'a>>, later: Option<Overrun<'a>>) -> Option<O
 }
 
 impl Overrun<'_> {
-    /// Returns the excess of the connectors' limits together over that of the
-    /// ChargePointMaxProfile, in tenths, to find the worst overrun for `check`.
+    /// Returns by how much the connectors' limits together exceed that of the
+    /// ChargePointMaxProfile, in tenths, to find the worst overrun for `check` or `call`.
     fn beyond(&self) -> u64 {
         self.together.saturating_sub(u64::from(self.most.limit))
     }
 }
 
-/// Makes the `Excess` for a finding from an overrun of the ChargePointMaxProfile, with its instant.
+/// Makes the `Excess` for a finding of `check` or `call` from an overrun of a point's
+/// ChargePointMaxProfile, with its instant.
 fn excess_of<'a>(week: &Week<'a>, overrun: Overrun<'a>) -> Option<Excess<'a>> {
     let instant = later_by(week.asked, overrun.second)?;
     Some(Excess {
@@ -311,7 +312,8 @@ fn excess_of<'a>(week: &Week<'a>, overrun: Overrun<'a>) -> Option<Excess<'a>> {
 }
 
 /// Returns whether a profile other than a ChargePointMaxProfile prevails at a connector at an
-/// instant of overrun. Then `check` warns; with the site file's ceilings alone it remarks.
+/// instant of overrun. Then `check` or `call` warns; with the site file's ceilings alone it
+/// remarks.
 fn is_scheduled(view: &View<'_>, asked: Instant, instant: Instant) -> bool {
     for (place, row) in view.rows.iter().enumerate() {
         if row.profile.purpose != Purpose::ChargePointMaxProfile
@@ -323,8 +325,8 @@ fn is_scheduled(view: &View<'_>, asked: Instant, instant: Instant) -> bool {
     false
 }
 
-/// Returns whether the charging profile at this index prevails at a connector at an instant, for
-/// the severity of a finding of `check`.
+/// Returns whether the point's charging profile at this index prevails at a connector at an
+/// instant. The severity of a finding of `check` or `call` depends on it.
 fn prevails_somewhere(view: &View<'_>, asked: Instant, instant: Instant, place: usize) -> bool
     requires within { place < length view.now.rows.now }
 {

@@ -37,8 +37,8 @@ pub fn ending_text(alloc: Global, ending: &Ending<'_>) -> Result<String, AllocEr
     page.finish()
 }
 
-/// Appends `check`'s sentence for each request for a schedule that the script held and never
-/// released.
+/// Appends, at the end of `check`'s output, a sentence on each request for a schedule that a script
+/// held and never released.
 fn push_held(page: &mut Page, ending: &Ending<'_>) {
     for held in ending.held {
         let number = held.number;
@@ -56,7 +56,8 @@ fn push_held(page: &mut Page, ending: &Ending<'_>) {
     }
 }
 
-/// Appends `check`'s sentence for each call of a script that the charge point rejected.
+/// Appends, at the end of `check`'s output, a sentence on each call of a script or a journal that
+/// the charge point rejected.
 fn push_rejected(page: &mut Page, id: &str, calls: &PointCalls) {
     for rejected in &calls.rejected {
         let line = rejected.line;
@@ -71,7 +72,8 @@ fn push_rejected(page: &mut Page, id: &str, calls: &PointCalls) {
     }
 }
 
-/// Appends `check`'s sentence for each remote start that the charge point accepted and never made.
+/// Appends, at the end of `check`'s output, a sentence on each remote start that the charge point
+/// accepted and never made.
 fn push_starts(page: &mut Page, id: &str, machine: &Machine) {
     let Some(outbox) = machine.outbox_of(id) else {
         return;
@@ -90,7 +92,8 @@ fn push_starts(page: &mut Page, id: &str, machine: &Machine) {
     }
 }
 
-/// Appends `check`'s sentence if a call to the charge point is in flight at the end of a script.
+/// Appends, at the end of `check`'s output, a sentence on the call to the point that is in flight
+/// after the script or journal, if any.
 fn push_unanswered(page: &mut Page, id: &str, calls: &PointCalls) {
     if let Some(call) = &calls.in_flight {
         let number = call.number;
@@ -103,7 +106,8 @@ fn push_unanswered(page: &mut Page, id: &str, calls: &PointCalls) {
     }
 }
 
-/// Appends `check`'s sentence if calls to the charge point never went out in a script.
+/// Appends, at the end of `check`'s output, a sentence on the calls to the point that never went
+/// out in the script or journal, if any.
 fn push_waiting(page: &mut Page, id: &str, calls: &PointCalls) {
     // No line added call 0, so a point for which only that waits has no sentence.
     let Some(line) = first_line(&calls.waiting) else {
@@ -118,8 +122,8 @@ fn push_waiting(page: &mut Page, id: &str, calls: &PointCalls) {
     write!(page, " never went out, waiting since line {line}: {why}\n");
 }
 
-/// Returns the first line of a script that added one of these calls that never went out, for
-/// `check`'s sentence.
+/// Returns the first line of a script or a journal that added one of these calls that never went
+/// out. A sentence at the end of `check`'s output names it.
 fn first_line(waiting: &[UnsentCall]) -> Option<u64> {
     let (line, _moment) = waiting.iter().find_map(|unsent| unsent.added)?;
     Some(line)

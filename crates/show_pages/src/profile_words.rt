@@ -33,9 +33,9 @@ pub fn from_text(alloc: Global, row: &Row, started: Option<Instant>) -> Result<S
     }
 }
 
-/// Returns the start of a profile's schedule for `show`'s table of profiles: its startSchedule, if
-/// it has one. Otherwise it is the install for a ChargePointMaxProfile, and the start of a
-/// transaction for any other.
+/// Returns the start of a profile's schedule for `show`'s table of a point's profiles: its
+/// startSchedule, if any. Otherwise it is the install for a ChargePointMaxProfile, and the start of
+/// a transaction for any other.
 fn start_of(row: &Row, started: Option<Instant>) -> Option<Instant> {
     match (row.profile.schedule.start, row.profile.purpose) {
         (Some(start), _) => Some(start),

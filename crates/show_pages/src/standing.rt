@@ -256,8 +256,8 @@ fn push_profile(table: &mut Table, alloc: Global, book: &PointBook, row: &Row) {
     table.made_cell(periods_text(alloc, profile));
 }
 
-/// Returns the start of the active transaction at the connector of a profile's row in `show`'s text
-/// page, if there is one.
+/// Returns the start of the active transaction at the connector of an installed profile, if there
+/// is one, for `show`'s text page.
 fn started_at(book: &PointBook, row: &Row) -> Option<Instant> {
     book.view().active_since(row.connector as usize)
 }

@@ -63,8 +63,8 @@ impl Table {
         }
     }
 
-    /// Returns the width of each column of a plain-text table, such as `show` prints, in
-    /// characters.
+    /// Returns the width of each column of a plain-text table of `show`, `check --trace` or
+    /// `status`, in characters.
     fn widths(&self) -> Result<Vec<usize>, AllocError> {
         let mut widths = Vec::new(self.alloc);
         for row in &self.rows {
@@ -80,8 +80,8 @@ impl Table {
     }
 }
 
-/// Returns the width of the widest line in a cell of a plain-text table, such as `show` prints, in
-/// characters.
+/// Returns the width of the widest line in a cell of a plain-text table of `show`, `check --trace`
+/// or `status`, in characters.
 fn cell_width(cell: &str) -> usize {
     let mut widest = 0;
     for line in cell.lines() {
@@ -91,8 +91,8 @@ fn cell_width(cell: &str) -> usize {
     widest
 }
 
-/// Appends a row of a plain-text table, such as `show` prints: as many lines as its highest cell
-/// has, and at least one.
+/// Appends a row of a plain-text table of `show`, `check --trace` or `status`: as many lines as its
+/// highest cell has, and at least one.
 fn push_row(page: &mut Page, row: &[String], widths: &[usize], indent: usize) {
     let mut height = 1;
     for cell in row {
@@ -103,7 +103,8 @@ fn push_row(page: &mut Page, row: &[String], widths: &[usize], indent: usize) {
     }
 }
 
-/// Appends one line of a row of a plain-text table, such as `show` prints, without trailing spaces.
+/// Appends one line of a row of a plain-text table of `show`, `check --trace` or `status`, without
+/// trailing spaces.
 fn push_line_of_row(
     page: &mut Page,
     row: &[String],
@@ -126,7 +127,7 @@ fn push_line_of_row(
     page.push('\n');
 }
 
-/// Appends the spaces before a cell of a plain-text table, such as `show` prints.
+/// Appends the spaces before a cell of a plain-text table of `show`, `check --trace` or `status`.
 fn push_spaces(page: &mut Page, count: usize) {
     for _space in 0..count {
         page.push(' ');

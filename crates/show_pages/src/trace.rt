@@ -60,8 +60,8 @@ impl Trace {
     }
 }
 
-/// Returns the charge point that a line of a script is from or for, and its message, for the table
-/// of `check --trace`.
+/// Returns the charge point that a script's line is from or for, and its message, for the table of
+/// lines and answers of `check --trace`.
 fn words_of(
     alloc: Global,
     held: &HeldLines,
@@ -91,8 +91,8 @@ fn words_of(
     }
 }
 
-/// Returns the word for the moment of a script's line in the table of `check --trace`, if the line
-/// can be read.
+/// Returns the word for the instant of a script's line in the table of lines and answers of `check
+/// --trace`, if it is readable.
 fn moment_word(alloc: Global, played: &PlayedLine<'_>) -> Result<Option<String>, AllocError> {
     if !matches!(played.said, Some(Ok(_))) {
         return Ok(None);
@@ -105,7 +105,7 @@ fn moment_word(alloc: Global, played: &PlayedLine<'_>) -> Result<Option<String>,
 }
 
 /// Returns the charge point of a script's line with a message, and that message, for the table of
-/// `check --trace`.
+/// lines and answers of `check --trace`.
 fn text_words(
     alloc: Global,
     word: &str,
@@ -132,7 +132,8 @@ pub fn trace_text(alloc: Global, trace: &Trace) -> Result<String, AllocError> {
     page.finish()
 }
 
-/// Returns the text of a cell in the table of `check --trace`, or `-` if there is none.
+/// Returns the text of a cell in the table of lines and answers of `check --trace`, or `-` if there
+/// is none.
 fn shown(text: &Option<String>) -> &str {
     match text {
         Some(text) => text.as_str(),

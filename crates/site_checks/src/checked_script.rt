@@ -57,7 +57,8 @@ struct ScriptReading<'a> {
 }
 
 impl ScriptReading<'_> {
-    /// Plays and checks the next line of the script. Returns whether there is one.
+    /// Plays the next line of the script that `check` reads, and collects the findings in it.
+    /// Returns whether there is one.
     fn read_line(&mut self) -> Result<bool, AllocError> {
         let played = match self.trace {
             Some(_) => self.playing.play_next()?,
@@ -76,7 +77,7 @@ impl ScriptReading<'_> {
     }
 
     /// Appends the findings of `check` in the script that was played, its trace if one is wanted,
-    /// and what is left at its end. Returns the exit status by the findings.
+    /// and what waits at its end: calls and requests. Returns the exit status by the findings.
     fn push_findings(self, page: &mut String) -> Result<u8, AllocError> {
         let ScriptReading {
             playing,

@@ -91,8 +91,8 @@ fn push_once(
     push_counted(page, name, finding, rest)
 }
 
-/// Returns whether two findings of `check` are both warnings on points, or both remarks, with the
-/// same message.
+/// Returns whether two findings are both warnings on points, or both remarks, with the same
+/// message. Then they share a line in the output of `check`.
 // A fault has to be mended at each point, so each one has a line.
 fn are_alike(finding: &Finding, other: &Finding) -> bool {
     is_on_point(finding)
@@ -102,8 +102,8 @@ fn are_alike(finding: &Finding, other: &Finding) -> bool {
         && finding.message.as_str() == other.message.as_str()
 }
 
-/// Returns whether a finding of `check` is on a point of the site file, or on a point at the end of
-/// a script.
+/// Returns whether a finding is on a point of the site file, or on one at the end of a script or a
+/// journal. Such findings may share a line in the output of `check`.
 fn is_on_point(finding: &Finding) -> bool {
     matches!(finding.place, Location::Point { .. } | Location::End(_))
 }

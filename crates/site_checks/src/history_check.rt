@@ -21,7 +21,8 @@ pub(crate) struct HistoryCheck {
 }
 
 impl HistoryCheck {
-    /// Begins a check, for `check` or `call`, when the points have these profiles.
+    /// Begins to collect the findings of `check` in a script or a journal, or of `call` in the
+    /// calls to be sent. The points have these profiles before.
     pub(crate) fn begin(alloc: Global, rows: SiteRows) -> HistoryCheck {
         HistoryCheck {
             alloc,
@@ -33,7 +34,8 @@ impl HistoryCheck {
         }
     }
 
-    /// Checks the script's line played last, for `check` or `call`, given the state after it.
+    /// Collects the findings of `check` or `call` in the script's line played last, given the state
+    /// after it.
     pub(crate) fn check_line(
         &mut self,
         machine: &Machine,
@@ -58,7 +60,7 @@ impl HistoryCheck {
         }
     }
 
-    /// Checks an event of a journal for `check`, given the state after it.
+    /// Collects the findings of `check` in an event of a journal, given the state after it.
     pub(crate) fn check_event(
         &mut self,
         machine: &Machine,
@@ -70,8 +72,8 @@ impl HistoryCheck {
         self.check_change(machine, event)
     }
 
-    /// Adds to the findings of `check` or `call` those in the change that an event made to the
-    /// profiles of its point.
+    /// Adds to the findings that `check` or `call` collects, event by event, those in the change
+    /// that an event made to its point's profiles.
     fn check_change(&mut self, machine: &Machine, event: &Event<'_>) -> Result<(), AllocError> {
         let Some(changed) = self.rows.read(machine, event)? else {
             return Ok(());
@@ -90,7 +92,8 @@ impl HistoryCheck {
         self.in_changes.append(&mut in_change)
     }
 
-    /// Adds findings of `check` that follow those in the answers so far.
+    /// Adds to the findings of `check` remarks on raised fuse limits or on requests still held.
+    /// They follow the findings in answers so far.
     pub(crate) fn add(&mut self, mut findings: Vec<Finding>) -> Result<(), AllocError> {
         self.in_answers.append(&mut findings)
     }
@@ -106,7 +109,8 @@ impl HistoryCheck {
     }
 }
 
-/// Returns the findings of `check` or `call` in the profiles that the point of this identity has.
+/// Returns the findings in the profiles of the point of this identity. `check` collects them for
+/// each point of the site at the end, `call` before and after a call.
 pub(crate) fn find_at_point(
     alloc: Global,
     machine: &Machine,

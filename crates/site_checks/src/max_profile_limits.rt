@@ -6,8 +6,8 @@ use site_core::Machine;
 use site_history::{Event, EventKind};
 use std::alloc::{AllocError, Global};
 
-/// Returns the fuse limit of the point of this identity, for a finding of `call`: the highest limit
-/// of its ChargePointMaxProfiles, if any.
+/// Returns the fuse limit of the point of this identity, which `call` compares before and after a
+/// call: the highest limit of its ChargePointMaxProfiles, if any.
 pub(crate) fn fuse_at(machine: &Machine, point: &str) -> Option<u32> {
     fuse_limit(machine.book_of(point)?)
 }
@@ -27,8 +27,8 @@ pub(crate) struct MaxProfileLimits {
 }
 
 impl MaxProfileLimits {
-    /// Begins before the first event that `check` reads. No point has a fuse limit
-    /// (ChargePointMaxProfile) yet.
+    /// Begins before the first event of a script or a journal for which `check` follows the fuse
+    /// limits of all points. None has one (a ChargePointMaxProfile) yet.
     pub(crate) fn new(alloc: Global, points: usize) -> Result<MaxProfileLimits, AllocError> {
         let mut fuses = Vec::new(alloc);
         for _place in 0..points {
@@ -40,8 +40,8 @@ impl MaxProfileLimits {
         Ok(MaxProfileLimits { fuses })
     }
 
-    /// Follows the effect of an event that `check` reads on the fuse limit of its point, given the
-    /// state after it. Returns a remark if a profile that replaces another one raised the limit.
+    /// Follows, event by event for `check`, the fuse limit of the event's point, given the state
+    /// after it. Returns a remark if a profile that replaces another one raised the limit.
     pub(crate) fn read(
         &mut self,
         alloc: Global,
@@ -58,8 +58,8 @@ impl MaxProfileLimits {
         Ok(raises)
     }
 
-    /// Returns a remark of `check` if the profile of an event's message raised the fuse limit of
-    /// its point by replacing another one.
+    /// Follows, event by event for `check`, the fuse limit of the event's point. Returns a remark
+    /// if the profile of a message raised the limit by replacing another one.
     fn raise_by(
         &mut self,
         alloc: Global,
@@ -88,8 +88,8 @@ impl MaxProfileLimits {
         check_raise(alloc, unit, event.line, before.limit, fuse.limit)
     }
 
-    /// Adds to the findings of `check` a remark for each point without a fuse limit at the end, if
-    /// most points have one.
+    /// Goes through all points of the site at the end of a script or a journal, for `check`. Adds a
+    /// remark on each without a fuse limit, if most points have one.
     pub(crate) fn find_unlimited(
         &self,
         alloc: Global,

@@ -57,8 +57,8 @@ impl<'a> PlayedCalls<'a> {
         Ok(findings)
     }
 
-    /// Plays the next call for `call`, and returns the findings in it that it doesn't have by
-    /// itself.
+    /// Plays the next call that `call` is to send. Returns its findings by the state of its point,
+    /// without those that the call has by itself.
     fn find_in_line(&mut self, alloc: Global, frame: &str) -> Result<Vec<Finding>, AllocError> {
         if let Some(played) = self.playing.skim_next()? {
             self.check.check_line(self.playing.machine(), &played)?;
@@ -78,7 +78,8 @@ struct PointFindings {
 }
 
 impl PointFindings {
-    /// Returns the findings of `call` in the profiles that a point has in this state.
+    /// Returns the findings of `call` in the profiles that a point has in this state, before or
+    /// after a call is played.
     fn of(alloc: Global, machine: &Machine, point: &str) -> Result<PointFindings, AllocError> {
         Ok(PointFindings {
             findings: find_at_point(alloc, machine, point)?,
@@ -86,7 +87,8 @@ impl PointFindings {
         })
     }
 
-    /// Returns the findings of `call` in a point's profiles that weren't there before.
+    /// Returns the findings of `call` in a point's profiles that weren't there before the call was
+    /// played.
     fn new_since(self, alloc: Global, before: &PointFindings) -> Result<Vec<Finding>, AllocError> {
         let is_same_fuse = self.fuse == before.fuse;
         let mut new = without(alloc, self.findings, before.findings.as_slice())?;

@@ -56,7 +56,8 @@ impl SiteCheck {
         self.check_fuse(machine, event)
     }
 
-    /// Adds to the findings of `check` a remark if an event raised the fuse limit of its point.
+    /// Adds to the findings that `check` collects, event by event, a remark if an event raised the
+    /// fuse limit of its point.
     fn check_fuse(&mut self, machine: &Machine, event: &Event<'_>) -> Result<(), AllocError> {
         let raises = self.fuses.read(self.alloc, machine, event)?;
         self.history.add(raises)
@@ -94,7 +95,8 @@ impl SiteCheck {
         self.push(page, findings)
     }
 
-    /// Appends these findings to the output of `check`, and counts them for its exit status.
+    /// Appends these findings in a script or a journal to the output of `check`, and counts them
+    /// for its exit status.
     fn push(&mut self, page: &mut String, findings: Vec<Finding>) -> Result<(), AllocError> {
         self.status = joined_status(self.status, exit_status(findings.as_slice()));
         push_history_findings(page, findings.as_slice())
@@ -111,8 +113,8 @@ impl SiteCheck {
     }
 }
 
-/// Adds to the findings of `check` a remark for each point that booted and may have forgotten its
-/// profiles.
+/// Goes through all points of the site at the end of a script or a journal, for `check`. Adds a
+/// remark on each that booted and may have forgotten its profiles.
 fn find_in_boots(
     alloc: Global,
     machine: &Machine,
@@ -133,8 +135,8 @@ fn find_in_boots(
     Ok(())
 }
 
-/// Returns whether the point of this identity may have forgotten its profiles, for a remark of
-/// `check`.
+/// Returns whether the point of this identity may have forgotten its profiles at the end of a
+/// script or a journal. `check` collects a remark on each such point of the site.
 fn may_forget(machine: &Machine, point: &str) -> bool {
     match machine.book_of(point) {
         Some(book) => may_have_lost(machine, point, book.view().rows),

@@ -36,7 +36,7 @@ pub fn clock_shifts(
 }
 
 /// Appends each change of a time zone's offset from UTC, from after `start` up to `end`, for the
-/// local times of `explain`.
+/// local times in `explain`'s table.
 fn push_changes(
     shifts: &mut Vec<ClockShift>,
     zone: &Tzif,
@@ -66,8 +66,8 @@ fn push_changes(
     Err(ZoneFault::NoZone)
 }
 
-/// Converts seconds since 1970 to a timestamp, to look up a time zone's offset from UTC for
-/// `explain`.
+/// Converts seconds since 1970 to a timestamp, to look up a time zone's offset from UTC for the
+/// local times in `explain`'s table.
 fn timestamp(moment: u64) -> Result<Timestamp, ZoneFault> {
     match Timestamp::from_nanosecond(i128::from(moment) * 1_000_000_000) {
         Ok(timestamp) => Ok(timestamp),
@@ -76,7 +76,7 @@ fn timestamp(moment: u64) -> Result<Timestamp, ZoneFault> {
 }
 
 /// Converts the timestamp of a time zone's clock change to seconds since 1970, for the local times
-/// of `explain`.
+/// in `explain`'s table.
 fn second(timestamp: Timestamp) -> Result<u64, ZoneFault> {
     match u64::try_from(timestamp.floor_second()) {
         Ok(second) => Ok(second),
