@@ -446,7 +446,7 @@ def boots_of_an_earlier_version(program):
 
 
 def calls_that_wait(program):
-    """Since when the call waits that waits longest; those of an earlier run wait since the start."""
+    """Since when the call waits that waits longest, also behind a restart: the journal has the moment."""
     since = lambda running: point_of(running)["waitingSince"]
     seconds = lambda running: metrics(running).get('central_call_waiting_seconds{point="P1"}')
     with Data() as data:
@@ -467,12 +467,17 @@ def calls_that_wait(program):
                 expect("with another behind it", (since(running), point_of(running)["waiting"]), (first, 2))
                 expect("on the page", f'<dt>Call waiting since</dt><dd><time datetime="{first}">' in get(running, "/")[2], True)
                 point.texts_of(accepted("0"))
-                expect("once the first is in flight", (since(running) > first, point_of(running)["waiting"]), (True, 1))
+                second = since(running)
+                expect("once the first is in flight", (second > first, point_of(running)["waiting"]), (True, 1))
                 point.texts_of(accepted("1"))
                 expect("once both are sent", (since(running), seconds(running)), (None, None))
-                ended = state(running)["moment"]
+                until("the clock went on at last", lambda: state(running)["moment"] > second)
         with Running(program, SITE, data.path, has_status=True) as running:
-            expect("behind a restart", since(running) >= ended, True)
+            expect("behind a restart", first < since(running) <= second, True)
+            with RawClient.connected(running, "/P1") as point:
+                expect("its call again", len(point.texts_of(heartbeat("h"))), 2)
+                point.texts_of(accepted("2"))
+            expect("once it is confirmed", since(running), None)
 
 
 def shown(program, running):

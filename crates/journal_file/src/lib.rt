@@ -2,6 +2,7 @@
 //! and read while the site runs.
 #![tactic(auto)]
 
+mod call_lines;
 mod earlier_boots;
 mod folder_fault;
 mod journal_file;
@@ -10,7 +11,6 @@ mod journal_script;
 mod log_lines;
 mod named_file;
 mod opening;
-mod rejections;
 mod reserve_file;
 mod restored_journal;
 mod restoring;

@@ -2,20 +2,20 @@
 
 ghost use Rattle.std.specs.Prelude.{◌≡◌};
 
+use crate::call_lines::CallLines;
 use crate::earlier_boots::{note_earlier_boots, remove_earlier_boots};
 use crate::folder_fault::FolderFault;
 use crate::journal_file::JournalFile;
 use crate::journal_lines::{JournalLines, JournalPart};
 use crate::named_file::NamedFile;
 use crate::opening::OpenJournal;
-use crate::rejections::Rejections;
 use crate::restored_journal::RestoredJournal;
 use ghost_list::{ListName, Unnamed};
 use journal::{Unrestored, lose_links, push_header, restore, split_line};
 use ocpp_scalars::{Instant, Moments, SystemClock};
 use replay::Progress;
 use site_core::Machine;
-use site_status::RejectedCalls;
+use site_status::RestoredCalls;
 use std::alloc::{AllocGlobal, Global};
 use std::fs::File;
 use std::rt::{Clock, Files};
@@ -34,8 +34,8 @@ pub struct Resumed {
     pub transactions: u64,
     /// The calls that points haven't confirmed.
     pub calls: u64,
-    /// The calls that each point rejected, at its index in the site.
-    pub rejected: Vec<RejectedCalls>,
+    /// What the journal says of the calls to each point, at its index in the site.
+    pub restored: Vec<RestoredCalls>,
 }
 
 /// Restores the book that sessions will share from its journal, with a pass of its own. Returns the
@@ -61,18 +61,18 @@ pub fn restore_shared<
     };
     let boots = String::from_str(rt.alloc(), opened.boots.as_str())?;
     let mut book = shared.lock(rt);
-    let mut rejections = Rejections::new(rt.alloc(), book.present().site().len())?;
+    let mut call_lines = CallLines::new(rt.alloc(), book.present().site().len())?;
     let (restored, mut added) = restore_book(
         rt,
         opened,
         digest,
         &mut book,
         &mut pass,
-        &mut rejections,
+        &mut call_lines,
         now,
     )?;
     note_earlier_boots(rt, boots.as_str(), &mut book, &mut added)?;
-    let resumed = count_resumed(book.present(), rejections.into_points());
+    let resumed = count_resumed(book.present(), call_lines.into_points()?);
     let states = book.recorded();
     drop(book);
     let journal = JournalFile::make(*rt, restored, added.as_str(), states, syncs)?;
@@ -103,13 +103,13 @@ fn restore_book<
     digest: &[u8; 32],
     book: &mut Book<C, A, N>,
     pass: &mut Pass<C, A>,
-    rejections: &mut Rejections,
+    call_lines: &mut CallLines,
     now: Instant,
 ) -> Result<(RestoredJournal, String), FolderFault> {
     let alloc = rt.alloc();
     let mut opened = opened;
     let mut journal = JournalLines::new(alloc);
-    let restored = restore_lines(rt, &mut opened.lines, &mut journal, book, pass, rejections);
+    let restored = restore_lines(rt, &mut opened.lines, &mut journal, book, pass, call_lines);
     // Printed before a fault is returned: a line may fail because the site file is another one.
     let is_of_this_site = say_other_site(rt, &opened.lines, &journal, digest);
     restored?;
@@ -133,7 +133,7 @@ fn restore_lines<C: Ledger, A: Ledger, R: AllocGlobal + Eprint + Clock, N: ListN
     journal: &mut JournalLines,
     book: &mut Book<C, A, N>,
     pass: &mut Pass<C, A>,
-    rejections: &mut Rejections,
+    call_lines: &mut CallLines,
 ) -> Result<(), FolderFault> {
     let mut progress = Progress::of_lines(rt);
     for _part in 0..u64::MAX {
@@ -141,7 +141,7 @@ fn restore_lines<C: Ledger, A: Ledger, R: AllocGlobal + Eprint + Clock, N: ListN
         let Some(lines) = journal.next(rt, file)? else {
             break;
         };
-        restore_part(rt.alloc(), lines, book, pass, rejections)?;
+        restore_part(rt.alloc(), lines, book, pass, call_lines)?;
     }
     Ok(())
 }
@@ -154,7 +154,7 @@ fn restore_part<C: Ledger, A: Ledger, N: ListName>(
     lines: JournalPart<'_>,
     book: &mut Book<C, A, N>,
     pass: &mut Pass<C, A>,
-    rejections: &mut Rejections,
+    call_lines: &mut CallLines,
 ) -> Result<(), FolderFault> {
     // The part that isn't restored yet, and the number of its first line.
     let (mut left, mut first) = (lines.bytes, lines.first);
@@ -163,11 +163,11 @@ fn restore_part<C: Ledger, A: Ledger, N: ListName>(
         let Some((line, others)) = split_line(rest) else {
             break;
         };
-        if rejections.is_of_rejection(line)? {
+        if call_lines.take(book.present(), line)? {
             // The rejected call is known only from the state right before the reply.
             let length = left.len().saturating_sub(rest.len());
             restore_from(alloc, first, left.split_at(length).0, book, pass)?;
-            rejections.take_in(book.present(), line)?;
+            call_lines.take_rejection(book.present(), line)?;
             left = rest;
             first = number;
         }
@@ -219,14 +219,14 @@ pub fn say_other_site<R: Eprint>(
 
 /// Returns the figures that `run` prints of the site that it has restored from its journal file,
 /// whose points rejected these calls.
-fn count_resumed(machine: &Machine, rejected: Vec<RejectedCalls>) -> Resumed {
+fn count_resumed(machine: &Machine, restored: Vec<RestoredCalls>) -> Resumed {
     let site = machine.site();
     let mut resumed = Resumed {
         points: site.len() as u64,
         profiles: 0,
         transactions: 0,
         calls: 0,
-        rejected,
+        restored,
     };
     for place in 0..site.len() {
         if let Some(point) = site.point(place) {

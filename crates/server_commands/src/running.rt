@@ -241,7 +241,7 @@ fn run_counted<
     let journal = Arc::new(rt.alloc(), journal)?;
     begin_lines(rt, &journal)?;
     let site = SeatContext::make(*rt, rt.alloc(), shared, journal, options)?;
-    site.seats.resume_rejections(resumed.rejected);
+    site.resume(resumed.restored)?;
     let site = Arc::new(rt.alloc(), site)?;
     port.watch(&site)?;
     serve_restored(&site, clients, seats, workers)

@@ -4,13 +4,12 @@ use messages::{ActionKind, ReplyStatus};
 use ocpp_scalars::Instant;
 use site_core::Machine;
 use site_status::{
-    CallMoments, CallNumbers, Observation, PointActivity, RejectedCalls, SentMoment, SiteCounts,
+    CallMoments, CallNumbers, Observation, PointActivity, RestoredCalls, SentMoment, SiteCounts,
 };
 use std::alloc::{AllocError, Global};
 use std::sync::{Mutex, Wait};
 
-/// The observations of a site's connections since the program started, and the rejections from
-/// before.
+/// The observations of a site's connections since the program started, and of calls from before.
 #[derive(Drop)]
 pub struct SiteWatch {
     seen: Mutex<Seen>,
@@ -99,11 +98,15 @@ impl SiteWatch {
         }
     }
 
-    /// Records the calls that the point at a place rejected before the program started.
-    pub fn resume_rejections<R: Wait>(&self, rt: &R, place: usize, rejected: RejectedCalls) {
-        let mut seen = self.seen.lock(rt);
-        if let Some(news) = seen.points.get_mut(place) {
+    /// Records what the journal says of the calls to the point at a place, from before the program
+    /// started.
+    pub fn resume<R: Wait>(&self, rt: &R, place: usize, calls: RestoredCalls) {
+        let RestoredCalls { rejected, added } = calls;
+        if let Some(news) = self.seen.lock(rt).points.get_mut(place) {
             news.resume_rejections(rejected);
+        }
+        if let Some(moments) = self.calls.lock(rt).get_mut(place) {
+            *moments = added;
         }
     }
 

@@ -4,7 +4,7 @@ use crate::seats::{SeatOptions, Seats};
 use ghost_list::ListName;
 use journal::Journal;
 use ocpp_scalars::Moments;
-use site_core::Machine;
+use site_status::RestoredCalls;
 use std::alloc::{AllocError, Global};
 use std::rt::Clock;
 use std::sync::ledger::Ledger;
@@ -34,25 +34,27 @@ impl<
         journal: Arc<J, Global>,
         options: SeatOptions,
     ) -> Result<SeatContext<C, A, R, J, N>, AllocError> {
-        let machine = copy_of(&rt, &shared)?;
-        let seats = Seats::make(rt, alloc, machine.site().len(), options)?;
-        // The moments of calls don't survive a restart, so calls from before it count from now.
-        if let Some(moment) = seats.clock.now() {
-            seats.watch.see_all_calls(&seats.rt, &machine, moment);
-        }
+        let points = shared.lock(&rt).present().site().len();
+        let seats = Seats::make(rt, alloc, points, options)?;
         Ok(SeatContext {
             seats: Arc::new(alloc, seats)?,
             shared: Arc::new(alloc, shared)?,
             journal,
         })
     }
-}
 
-/// Returns a copy of the state in the book of the server's site, from which the server first
-/// observes the waiting calls. The copy shares the state's contents. The book is locked meanwhile.
-fn copy_of<C: Ledger, A: Ledger, N: ListName, R: Wait>(
-    rt: &R,
-    shared: &Shared<C, A, N>,
-) -> Result<Machine, AllocError> {
-    shared.lock(rt).present().copy()
+    /// Resumes the calls to each point, in the order of the site, as its journal has them. A call
+    /// that the journal doesn't have, as call 0 of a point without a line, counts from now.
+    pub fn resume(&self, restored: Vec<RestoredCalls>) -> Result<(), AllocError> {
+        let seats = &self.seats;
+        let copied = self.shared.lock(&seats.rt).present().copy();
+        let machine = copied?;
+        for (place, calls) in restored.into_iter().enumerate() {
+            seats.watch.resume(&seats.rt, place, calls);
+        }
+        if let Some(moment) = seats.clock.now() {
+            seats.watch.see_all_calls(&seats.rt, &machine, moment);
+        }
+        Ok(())
+    }
 }

@@ -5,7 +5,6 @@ use server_core::{
     FastClients, FreeSeats, LongMessages, Notices, PresentStreams, SiteWatch, UnfinishedHandshakes,
 };
 use site_keys::Keys;
-use site_status::RejectedCalls;
 use std::alloc::{AllocError, Global};
 use std::sync::{Mutex, Wait};
 
@@ -63,12 +62,5 @@ impl<R: Wait + Copy + Drop> Seats<R> {
             ahead: FastClients::new(),
             reading: Mutex::new(()),
         })
-    }
-
-    /// Resumes the calls that points rejected before, each at the place of its point in the site.
-    pub fn resume_rejections(&self, rejected: Vec<RejectedCalls>) {
-        for (place, calls) in rejected.into_iter().enumerate() {
-            self.watch.resume_rejections(&self.rt, place, calls);
-        }
     }
 }

@@ -16,8 +16,7 @@ pub struct CallNumbers {
     pub next: u64,
 }
 
-/// The moments at which the unconfirmed calls to a point were added. Calls of an earlier run of the
-/// program count from the start of this one.
+/// The moments at which the unconfirmed calls to a point were added.
 #[derive(Drop)]
 pub struct CallMoments {
     /// In the order of the calls' numbers.

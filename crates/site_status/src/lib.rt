@@ -15,6 +15,7 @@ mod page;
 mod page_style;
 mod point_activity;
 mod point_summary;
+mod restored_calls;
 mod site_report;
 mod state_page;
 mod status_answer;
@@ -34,6 +35,7 @@ pub use page::{POINTS_OF_PAGE, site_page};
 pub use point_activity::{
     Connection, Observation, PointActivity, RefusedMessage, RejectedCalls, Rejection, SentMoment,
 };
+pub use restored_calls::RestoredCalls;
 pub use site_report::{SiteCounts, SiteReport};
 pub use state_page::state_json;
 pub use status_answer::{ContentKind, StatusAnswer, answer_of, health_answer, not_found};
