@@ -118,7 +118,6 @@ fn push_rejection(out: &mut String, refusal: Refusal) -> Result<(), AllocError>
 
 /// Appends the CALLRESULT that answers a charge point's BootNotification, with the present time and
 /// the interval.
-#[tactic(auto, using(crate::proofs::FieldsText::boot_notification_object, std::proofs::lemmas::Grind::common_steps))]
 fn push_boot_notification(
     out: &mut String,
     id: &str,

@@ -1,0 +1,19 @@
+-- Added for the prover: a head, a payload and an end are one message.
+use Rattle.std.specs.String.{string_bytes}
+use Rattle.ocppj_frame.specs.Write.{call_result_text}
+use Rattle.messages.specs.ResponseText.{point_status_text}
+use Rattle.messages.proofs.TextPieces.{framed, begun, stayed, ends_early}
+use Rattle.messages.proofs.response_text.push_point_status_result.Goals as goal
+
+pub returns : goal.returns
+returns c =
+    framed _ (string_bytes c.args.out.now) _ (point_status_text c.args.status) _ _ _ _ c.in_ok-push_result_head.ensures
+    c.in_ok-push_point_status.ensures c.push_frame_end.ensures
+
+-- an append that fails leaves those before it
+
+pub returns-in_err-push_point_status : goal.returns-in_err-push_point_status
+returns-in_err-push_point_status c =
+    ends_early _ (string_bytes c.args.out.now) _ _ (call_result_text c.args.id.now (point_status_text c.args.status)) c.from_residual-in_err-push_point_status.ensures.0
+    (begun _ _ _ c.in_ok-push_result_head.ensures)
+    c.in_err-push_point_status.ensures
