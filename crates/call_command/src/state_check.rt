@@ -54,8 +54,8 @@ fn check_from<R: Clock + Print + Eprint + AllocGlobal>(
     Ok(caller.say_shared(&shared)?)
 }
 
-/// Notes which number the next call to each visited point has in this state, so that the command
-/// `call` knows its own calls later.
+/// Records, before the command `call` sends anything, which number the next call to each of its
+/// points has. By these numbers it knows its own calls while it waits for the points' replies.
 fn note_next_calls(machine: &Machine, visits: &mut Vec<Visit>) {
     for visit in visits {
         if let Some(outbox) = machine.outbox_of(visit.id.as_str()) {

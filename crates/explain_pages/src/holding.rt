@@ -206,7 +206,8 @@ fn limit_until(profile: &Profile, base: Instant, instant: Instant) -> u64
 }
 
 /// Returns the end of the validity of a profile that is valid at an instant: its `validTo`, or the
-/// end of time. The reasons on `explain`'s pages why another never sets the limit need it.
+/// end of time. Until then it may keep another profile from setting the limit, which the pages of
+/// `explain` show.
 fn valid_until(profile: &Profile, instant: Instant) -> u64
     requires { is_before instant profile.now.valid_to ≡ true }
     ensures { IsSoUntil (λ k. is_before k profile.now.valid_to ≡ true) instant result }

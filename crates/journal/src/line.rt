@@ -209,7 +209,8 @@ pub(crate) fn push_behind_number(text: &mut String, line: &Line<'_>) -> Result<(
     Ok(())
 }
 
-/// Appends to a line of the journal the number of a link or call, and the point's reply.
+/// Appends to a line of the journal the number of a link or call, and then the point's reply
+/// without its line breaks.
 fn push_numbered_frame(text: &mut String, number: u64, frame: &str) -> Result<(), AllocError>
     ensures { Appends result (string_bytes text.old) (string_bytes text.new)
         (numbered_frame number frame.now) }

@@ -206,8 +206,8 @@ impl ScriptLines {
         Ok(Some((side, frame)))
     }
 
-    /// Returns whether this point sent the last message in the script made of a journal's file.
-    /// Then the script needs no message before a call.
+    /// Returns whether this point also sent the last message of the script that is made from a
+    /// journal's file. Then a call needs no message of the point before it.
     fn is_from(&self, point: &str) -> bool {
         match &self.sender {
             Some(sender) => sender.as_str() == point,

@@ -34,7 +34,7 @@ pub struct Resumed {
     pub transactions: u64,
     /// The calls that points haven't confirmed.
     pub calls: u64,
-    /// What the journal says of the calls to each point, at its index in the site.
+    /// The calls to each point as the journal has them, at its index in the site.
     pub restored: Vec<RestoredCalls>,
 }
 

@@ -6,8 +6,8 @@ use site_history::{Event, SiteCalls};
 
 /// A reader of the events of a journal, in their order.
 pub trait EventReader {
-    /// Looks at the state before a line of the journal, given the number of its line in the
-    /// journal's script, and its point.
+    /// Is called by the reader of the journal with the state before a line, the number of its line
+    /// in the journal's script, and its point. It does nothing, unless a command wants that state.
     fn before(&mut self, _machine: &Machine, _line: u64, _point: &str) -> Result<(), FolderFault> {
         Ok(())
     }

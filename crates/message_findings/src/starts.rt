@@ -184,8 +184,8 @@ fn ended_start(
     }
 }
 
-/// Returns the id of the active transaction at a connector in a script or a journal. If it changes,
-/// another transaction has begun, and `check` may warn of the remote start that waited.
+/// Returns the id of the active transaction at a connector. The findings of `check` about messages
+/// compare it before and after each one: a new id may mean that a pending remote start was missed.
 fn active_at(machine: &Machine, point: &str, connector: u32) -> Option<i32> {
     let active = machine.book_of(point)?.transaction_at(connector)?;
     Some(active.id)

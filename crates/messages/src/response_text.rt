@@ -251,7 +251,8 @@ fn push_composite_period(out: &mut String, period: &CompositePeriod) -> Result<(
     Ok(())
 }
 
-/// Appends the CALLRESULT that answers an operator's PointStatus, an action of our own.
+/// Appends the bytes of the CALLRESULT that answers an operator's PointStatus, an action that isn't
+/// in OCPP.
 fn push_point_status_result(
     out: &mut String,
     id: &str,

@@ -37,9 +37,8 @@ fn mark_bytes(text: &[u8], room: &mut Vec<u8>) -> Result<(), AllocError>
     Ok(())
 }
 
-/// Appends a byte outside the strings and numbers of a JSON text (an OCPP-J frame or a file) that
-/// is being marked. The string or number that it begins comes with it. Returns the bytes that are
-/// left.
+/// Copies one byte outside the strings and numbers of a JSON text (an OCPP-J frame or a file) while
+/// marking it. If a string or number begins there, copies all of that. Returns the remaining bytes.
 fn push_outside<'a>(out: &mut Vec<u8>, byte: u8, others: &'a [u8]) -> &'a [u8]
     requires { vec_len out.old + 4 * (length others.now + 1) ≤ vec_capacity out.old }
     ensures marked { out.new.items ++ marked_from outside result.now

@@ -23,8 +23,8 @@ pub struct Visit {
 }
 
 impl Visit {
-    /// Makes an operator's visit to a point for `call`: the point's identity, and the first `count`
-    /// calls, which are to be sent to it.
+    /// Makes a visit, which is what the operator's `call` sends to one point: the first `count` of
+    /// its calls. If labelled, each printed line about them begins with the point's identity.
     fn new(alloc: Global, id: &str, is_labelled: bool, count: usize) -> Result<Visit, AllocError>
         ensures { IfOk result (λ visit. visited visit ≡ (id.now, is_labelled)) }
     {

@@ -98,8 +98,8 @@ impl SiteWatch {
         }
     }
 
-    /// Records what the journal says of the calls to the point at a place, from before the program
-    /// started.
+    /// Records the calls to the point at a place from before the program started, as the journal has
+    /// them.
     pub fn resume<R: Wait>(&self, rt: &R, place: usize, calls: RestoredCalls) {
         let RestoredCalls { rejected, added } = calls;
         if let Some(news) = self.seen.lock(rt).points.get_mut(place) {

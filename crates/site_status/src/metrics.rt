@@ -132,19 +132,20 @@ impl SiteFigure {
     /// Returns the help text of the site's metric on the status port for Prometheus.
     fn help(self) -> &'static str {
         match self {
-            SiteFigure::Healthy => "Whether changes are kept: 1, or 0 where /health says 503.",
+            SiteFigure::Healthy => "1 if changes are kept, 0 if /health answers 503.",
             SiteFigure::Sessions => "Sessions at present.",
-            SiteFigure::Seats => "Connections that are served at a time, at most.",
-            SiteFigure::FreeSeats => "Connections that would be served beside the present ones.",
+            SiteFigure::Seats => "Most connections served at a time.",
+            SiteFigure::FreeSeats => "Further connections that could be served now.",
             SiteFigure::Changes => {
-                "Changes of points' profiles and transactions, with those that were restored."
+                "Changes of points' profiles and transactions, including restored ones."
             }
             SiteFigure::Answers => "Answered requests for schedules.",
-            SiteFigure::RefusedHandshakes => "Connections that weren't let in.",
-            SiteFigure::TurnedAway => "Connections for which there was no seat.",
+            SiteFigure::RefusedHandshakes =>
+                "Connections refused at the handshake, or for an unknown point.",
+            SiteFigure::TurnedAway => "Connections turned away because no seat was free.",
             SiteFigure::JournalBytes => "Bytes of the journal that are on the disk.",
-            SiteFigure::Syncs => "Times that the journal was written and synced.",
-            SiteFigure::SyncSeconds => "Seconds that this took in all.",
+            SiteFigure::Syncs => "Writes and syncs of the journal.",
+            SiteFigure::SyncSeconds => "Total seconds spent writing and syncing the journal.",
         }
     }
 

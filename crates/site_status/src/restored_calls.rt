@@ -1,9 +1,9 @@
-//! What a journal says of the calls to a point.
+//! The calls to a point, as a journal has them.
 
 use crate::call_moments::CallMoments;
 use crate::point_activity::RejectedCalls;
 
-/// What a journal says of the calls to a point.
+/// The calls to a point, as a journal has them.
 #[derive(Drop)]
 pub struct RestoredCalls {
     /// Those that it rejected.
