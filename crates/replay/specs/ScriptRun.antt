@@ -22,10 +22,10 @@ use Rattle.site_core.specs.Run.{Runs}
 use Rattle.site_core.specs.History.{Event, history_of}
 use Rattle.site_core.specs.Headline.{IsRightAfter}
 use Rattle.site_core.specs.OutboxOrder.{AreInSendingOrder}
-use Rattle.site_core.specs.Obey.{Obeying, numbers_of, last_number, obeyed, AreInStepBut, BeginsWithTxProfile}
+use Rattle.site_core.specs.Obey.{Obeying, numbers_of, last_number, obeyed, AreInStepBut}
 use Rattle.site_core.specs.ObeyOrder.{obeyed_numbers, IsObeyed}
 use Rattle.site_core.specs.CallOrder.{is_at, calls_sent, numbers_of_calls, calls_confirmed_at}
-use Rattle.site_core.specs.CallOrder.{bodies_of, deeds_of, exempt_at, Moment}
+use Rattle.site_core.specs.CallOrder.{bodies_of, exempt_at, Moment}
 use Rattle.replay.specs.PrintedLine.{PrintedLine}
 use Rattle.replay.specs.declared.script.printed_line.PrintedLine.TheVariants as printed
 use Rattle.replay.specs.Run.{played, lines_of}
@@ -184,7 +184,6 @@ PrintedCallsKeepPointsInStep site script run =
     (calls_confirmed_at site place (history_of_run site script run))
     → (first : Obeying) (others : List Obeying) (rows : List Row)
     → numbers_of (first ∷ others) ≡ printed_numbers_obeyed site script place are_obeyed
-    → AllByRecursion BeginsWithTxProfile (deeds_of site place (history_of_run site script run))
     → (moment : Moment (opening site) (history_of_run site script run)
     (played site script).state.machine place (last_number first.number others))
     → AreInStepBut (exempt_at site place moment.earlier)

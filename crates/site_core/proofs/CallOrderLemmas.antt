@@ -24,6 +24,7 @@ use Rattle.site_core.proofs.EffectLemmas.{calls_at, call_list, sent_by_traffic, 
 use Rattle.site_core.proofs.StepLemmas.{Acts, HasPlaces, acts, does, keeps_site}
 use Rattle.site_core.proofs.ObeyLemmas.{in_step_without_call, stays_in_step}
 use Rattle.site_core.proofs.ObeyOrderLemmas.{obeyed_in_order}
+use Rattle.site_core.proofs.OwnProfileLemmas.{begin_with_tx, none_wait}
 use Rattle.site_core.proofs.OutboxOrderLemmas.{outbox, numbered_along, goes_on, left, sent_in_order, left_unless_confirmed}
 
 -- ---- the calls that an outbox sends
@@ -581,19 +582,26 @@ in_step_at_call (deed ∷ one) more ids own rows number tx is same =
         rest (suc before) (many ∙ ap count_with has)
         (subst (λ (c : Option CallBody). So (cond (is_some c) before (suc before))) has same)
 
+legal_join : (old : MachineState) (one : List Event) (middle : MachineState) (other : List Event)
+    (new : MachineState) → Legal old one middle → Legal middle other new
+    → Legal old (one ++ other) new
+legal_join old [] middle other new legal then_legal =
+    subst (λ (s : MachineState). Legal s other new) legal then_legal
+legal_join old (event ∷ one) middle other new legal then_legal =
+    (legal.0, legal.1, legal_join legal.0 one middle other new legal.2 then_legal)
+
 in_step_after : (site : SiteState) (numbers : Numbers) (earlier later : List Event)
     (middle state : MachineState)
     → Legal (opening_at site numbers) earlier middle → Legal middle later state
     → (point : List ℕ) (place : ℕ) → place_of site point ≡ Some place
     → (first : Obeying) (others : List Obeying) (rows : List Row)
-    → AllByRecursion BeginsWithTxProfile (deeds_of site place (earlier ++ later))
     → AreInSendingOrder (numbers_of (first ∷ others))
     → last_number first.number others ≡ length (accepted site place earlier)
     → AreInStepBut (exempt_at site place earlier)
     (obeyed (bodies_of site place (earlier ++ later)) (first ∷ others) rows)
     (book_at middle place).rows
 in_step_after site numbers earlier later middle state legal then_legal point place here first
-    others rows tx order last =
+    others rows order last =
     let opening_state = opening_at site numbers in
     let all = deeds_of site place (earlier ++ later) in
     let so_far = deeds_of site place earlier in
@@ -603,6 +611,10 @@ in_step_after site numbers earlier later middle state legal then_legal point pla
     let more = deeds_more began (events_at site place earlier) (events_at site place later) in
     let split : all ≡ so_far ++ more.0 = ap (deeds_from began)
     (filter-append test earlier later) ∙ more.1 in
+    let tx : AllByRecursion BeginsWithTxProfile all = begin_with_tx place opening_state
+    (earlier ++ later) state (length-map site.points opening_point)
+    (legal_join opening_state earlier middle later state legal then_legal)
+    (none_wait site.points place) in
     let calls : calls_of all ≡ bodies_of site place (earlier ++ later) =
     ap all_calls (calls_are_added all) in
     let count : number ≡ length (filter_map call_of so_far) = last
@@ -620,14 +632,12 @@ in_step_after site numbers earlier later middle state legal then_legal point pla
     (obeyed bs (first ∷ others) rows) (rows_after_all so_far [])) calls at_moment)
 
 pub stay_in_step : PointsStayInStep
-stay_in_step site numbers history state point place here first others rows tx order moment =
+stay_in_step site numbers history state point place here first others rows order moment =
     subst (λ (events : List Event). AreInStepBut (exempt_at site place moment.earlier)
     (obeyed (bodies_of site place events) (first ∷ others) rows)
     (book_at moment.state place).rows) (sym moment.parts)
     (in_step_after site numbers moment.earlier moment.later moment.state state moment.before
-    moment.since point place here first others rows
-    (subst (λ (events : List Event). AllByRecursion BeginsWithTxProfile
-    (deeds_of site place events)) moment.parts tx) order (sym moment.many))
+    moment.since point place here first others rows order (sym moment.many))
 
 pub obey_in_order : CallsAreObeyedInOrder
 obey_in_order site numbers history state legal point place here are_obeyed each =
@@ -642,11 +652,11 @@ obey_in_order site numbers history state legal point place here are_obeyed each 
 
 pub obeying_stay_in_step : ObeyingPointsStayInStep
 obeying_stay_in_step site numbers history state legal point place here are_obeyed each first others
-    rows is tx moment =
+    rows is moment =
     let order : AreInSendingOrder (numbers_of (first ∷ others)) =
     subst AreInSendingOrder (sym is)
     (obey_in_order site numbers history state legal point place here are_obeyed each) in
-    stay_in_step site numbers history state point place here first others rows tx order moment
+    stay_in_step site numbers history state point place here first others rows order moment
 
 -- ---- the moments of its calls
 

@@ -15,7 +15,7 @@ use Rattle.site_core.specs.Outbox.{opening_outbox, all_calls, numbered, Traffic,
 use Rattle.site_core.specs.ChargePoint.{ChargePointState, Deed, rows_after, traffic_of, point_with}
 use Rattle.site_core.specs.Step.{Work, AtPoint, Takes, Compiling, Answering, Finishing, work, deed}
 use Rattle.site_core.specs.OutboxOrder.{calls_confirmed, calls_so_far, bodies_added, AreFrom, GoesOn, AreInSendingOrder}
-use Rattle.site_core.specs.Obey.{Obeying, numbers_of, last_number, obeyed, exempt_after, AreInStepBut, BeginsWithTxProfile}
+use Rattle.site_core.specs.Obey.{Obeying, numbers_of, last_number, obeyed, exempt_after, AreInStepBut}
 use Rattle.site_core.specs.ObeyOrder.{obeyed_numbers, IsObeyed}
 use Rattle.site_core.specs.State.{MachineState, IsMachine, opening, opening_at, point_at, book_at, outbox_at, is_this_number}
 use Rattle.site_core.specs.History.{Event, Legal}
@@ -292,7 +292,6 @@ PointsStayInStep =
     (site : SiteState) (numbers : Numbers) (history : List Event) (state : MachineState)
     (point : List ℕ) (place : ℕ) → place_of site point ≡ Some place
     → (first : Obeying) (others : List Obeying) (rows : List Row)
-    → AllByRecursion BeginsWithTxProfile (deeds_of site place history)
     → AreInSendingOrder (numbers_of (first ∷ others))
     → (moment : Moment (opening_at site numbers) history state place
     (last_number first.number others))
@@ -329,7 +328,6 @@ ObeyingPointsStayInStep =
     (calls_confirmed_at site place history)
     → (first : Obeying) (others : List Obeying) (rows : List Row)
     → numbers_of (first ∷ others) ≡ numbers_obeyed_at site place history are_obeyed
-    → AllByRecursion BeginsWithTxProfile (deeds_of site place history)
     → (moment : Moment (opening_at site numbers) history state place
     (last_number first.number others))
     → AreInStepBut (exempt_at site place moment.earlier)

@@ -90,17 +90,19 @@ at_moment moment row = record row { moment = moment }
 abbrev pub lasts_but : List ℤ → Row → Bool
 lasts_but ids row = not (list_any (int_eq row.profile.id) ids) && not (is_tx row.profile.purpose)
 
--- These profiles, for no ids all that outlast transactions. Their moments are left out: the point
--- installs later than the central system.
+-- The profiles that outlast transactions, but for those of these ids. Their moments are left out:
+-- the point installs later than the central system.
 abbrev pub lasting_but : List ℤ → List Row → List Row
 lasting_but ids rows = map (at_moment 0) (filter (lasts_but ids) rows)
 
+-- a point's own rows and those of the central system have the same such profiles
 abbrev pub AreInStepBut : List ℤ → List Row → List Row → Type 0
 AreInStepBut ids own central = lasting_but ids own ≡ lasting_but ids central
 
 -- ---- the law
 
--- a transaction begins without a profile of its own, or with a TxProfile
+-- A transaction begins without a profile of its own, or with a TxProfile. Each one of the machine
+-- does: a remote start with another profile is refused.
 abbrev pub BeginsWithTxProfile : Deed → Type 0
 BeginsWithTxProfile (Starts connector begin number (Some profile)) = is_tx profile.purpose ≡ true
 BeginsWithTxProfile deed = Unit {0}
