@@ -158,7 +158,8 @@ lasting_within ids test each (row ∷ rows) = go (test row) refl (lasts_but ids 
         ap (lasting_but ids) (filter_gone test row rows fails) ∙ rest
         ∙ sym (lasting_gone ids row rows goes)
 
--- a test whose rows last or not alike for other ids acts for these as for those
+-- where each row that passes a test lasts for the fewer exempt ids if it does for these, the test's
+-- effect on the lasting rows is that for these
 lasting_beside : (ids fewer : List ℤ) (test : Row → Bool)
     → ((row : Row) → test (at_moment 0 row) ≡ test row)
     → ((row : Row) → test row ≡ true → lasts_but fewer row ≡ lasts_but ids row)
@@ -411,8 +412,7 @@ in_step_without_call (Stops connector) ids own rows tx none same =
 -- each other deed leaves all rows
 in_step_without_call deed ids own rows tx none same = same
 
--- a point that obeys the call of a deed stays in step, and for the ids that the call settles comes
--- to be so
+-- a point that obeys the call of a deed stays in step, also in the ids that the call settles
 in_step_with_call : (deed : Deed) (ids : List ℤ) (own rows : List Row) (moment : ℕ)
     → is_some (call_of deed) ≡ true → AreInStepBut ids own rows
     → AreInStepBut (exempt_after ids deed) (obeyed_call moment (call_of deed) own)
@@ -477,8 +477,7 @@ lasting_with_call ids (Stops connector) rows some = absurd (cc some)
 -- each other deed leaves all rows, and so does its call, if there is one
 lasting_with_call ids deed rows some = refl
 
--- when the central system makes a call it changes the lasting rows so, and the call would change
--- nothing more
+-- a call changes nothing more in the lasting rows that the central system has once it made it
 call_again : (ids : List ℤ) (deeds : List Deed) (before : ℕ) (rows : List Row)
     → on_lasting ids (slice_get (filter_map call_of deeds) before)
     (lasting_but ids (rows_after_call (suc before) deeds rows))
