@@ -22,10 +22,10 @@ use Rattle.site_core.specs.Run.{Runs}
 use Rattle.site_core.specs.History.{Event, history_of}
 use Rattle.site_core.specs.Headline.{IsRightAfter}
 use Rattle.site_core.specs.OutboxOrder.{AreInSendingOrder}
-use Rattle.site_core.specs.Obey.{Obeying, numbers_of, last_number, obeyed, lasting, BeginsAlone}
+use Rattle.site_core.specs.Obey.{Obeying, numbers_of, last_number, obeyed, AreInStepBut}
 use Rattle.site_core.specs.ObeyOrder.{obeyed_numbers, IsObeyed}
 use Rattle.site_core.specs.CallOrder.{is_at, calls_sent, numbers_of_calls, calls_confirmed_at}
-use Rattle.site_core.specs.CallOrder.{bodies_of, deeds_of, Moment}
+use Rattle.site_core.specs.CallOrder.{bodies_of, exempt_at, Moment}
 use Rattle.replay.specs.PrintedLine.{PrintedLine}
 use Rattle.replay.specs.declared.script.printed_line.PrintedLine.TheVariants as printed
 use Rattle.replay.specs.Run.{played, lines_of}
@@ -173,8 +173,8 @@ printed_numbers_obeyed site script place are_obeyed =
 
 -- A point obeys the calls that are printed for it, in the order of the lines. Any of them may be
 -- lost, but it obeys each confirmed call at least once. Its lasting rows are then those that the
--- central system had for it at a moment of the last call that it obeyed, unless a transaction began
--- there with a profile of its own.
+-- central system had for it at a moment of the last call that it obeyed, but for the ids that were
+-- exempt at that moment.
 abbrev pub PrintedCallsKeepPointsInStep : (site : SiteState) (script : List ℕ)
     → ScriptRun site script → Type 0
 PrintedCallsKeepPointsInStep site script run =
@@ -184,8 +184,8 @@ PrintedCallsKeepPointsInStep site script run =
     (calls_confirmed_at site place (history_of_run site script run))
     → (first : Obeying) (others : List Obeying) (rows : List Row)
     → numbers_of (first ∷ others) ≡ printed_numbers_obeyed site script place are_obeyed
-    → AllByRecursion BeginsAlone (deeds_of site place (history_of_run site script run))
     → (moment : Moment (opening site) (history_of_run site script run)
     (played site script).state.machine place (last_number first.number others))
-    → lasting (obeyed (bodies_of site place (history_of_run site script run)) (first ∷ others) rows)
-    ≡ lasting (book_at moment.state place).rows
+    → AreInStepBut (exempt_at site place moment.earlier)
+    (obeyed (bodies_of site place (history_of_run site script run)) (first ∷ others) rows)
+    (book_at moment.state place).rows

@@ -19,8 +19,9 @@ use site_core::{
 /// requested. The printed calls for a point have the numbers 0, 1, .., each perhaps several times
 /// before the next. A point may obey any of these calls, but each confirmed one at least once. Then
 /// it has the ChargePointMaxProfiles and TxDefaultProfiles that the central system had for it after
-/// the last obeyed call. Only the moments of their installs may differ. This excludes a point where
-/// a transaction began with a profile of its own.
+/// the last obeyed call. Only the moments of their installs may differ, and the profiles of an
+/// exempt id. Such an id is that of a transaction's own profile, until a profile with it is
+/// installed or all with it are cleared.
 pub fn scripts_are_runs()
     ensures runs { (site : SiteState) (script : List ℕ) → ScriptRun site script }
     ensures right { (site : SiteState) (script : List ℕ) (run : ScriptRun site script)

@@ -1,6 +1,6 @@
 -- The traffic of a point's outbox along a history, and the calls sent to the point; its profiles; the
 -- moments of its calls.
-use Rattle.std.proofs.Common.{◌≡◌, ℕ, zero, suc, ◌==◌, Bool, true, false, cond, List, [], ◌∷◌, ◌++◌, length, map, filter_map, flat_map, slice_index_or, slice_get, ◌+◌, is_some, Option, Some, None, refl, sym, ap, ap₂, ◌∙◌, subst, arith, append_assoc, length-append, ◌≤◌, ◌-◌, inl}
+use Rattle.std.proofs.Common.{◌≡◌, ℕ, ℤ, zero, suc, ◌==◌, Bool, true, false, cond, List, [], ◌∷◌, ◌++◌, length, map, filter_map, flat_map, slice_index_or, slice_get, ◌+◌, is_some, Option, Some, None, refl, sym, ap, ap₂, ◌∙◌, subst, arith, append_assoc, length-append, ◌≤◌, ◌-◌, inl}
 use Rattle.std.proofs.lemmas.List.{length-map, map-append}
 use Rattle.std.proofs.lemmas.List.Elements.{filter-append, All-contains_itself, recursion_from_All}
 use Rattle.std.specs.List.{AllByRecursion, Contains, cons_option}
@@ -13,17 +13,18 @@ use Rattle.site_core.specs.Outbox.{numbered, OutboxState, opening_outbox, all_ca
 use Rattle.site_core.specs.ChargePoint.{ChargePointState, Deed, rows_after, call_in, call_of, traffic_of, opening_point, outbox_with, point_with}
 use Rattle.site_core.specs.State.{MachineState, IsMachine, opening_at, no_point, point_at, book_at, outbox_at}
 use Rattle.site_core.specs.OutboxOrder.{AreFrom, GoesOn, sent_at, numbers_sent, number_of, calls_confirmed, added_at, bodies_added, AreInSendingOrder}
-use Rattle.site_core.specs.Obey.{BeginsAlone, calls_of, last_number, obeyed, lasting, rows_after_call, Obeying, numbers_of}
+use Rattle.site_core.specs.Obey.{AreInStepBut, BeginsWithTxProfile, calls_of, exempt_after, exempt_after_call, last_number, obeyed, rows_after_call, Obeying, numbers_of}
 use Rattle.site_core.specs.History.{Event, Legal}
 use Rattle.site_core.specs.CallOrder.{names, events_at, deed_by, deeds_from, deeds_since, deeds_of, traffic_since, traffic_at, point_by, point_by_all, calls_by_event, calls_sent, confirmed_by_event, numbers_of_calls, calls_made, IsOneOf, calls_since, CallsBeginAtZero, CallsStayConsecutive}
 use Rattle.site_core.specs.CallOrder.{PointsFollowHistories, OutboxesFollowHistories, CallsAreSentInOrder, CallsAreSentAsMade, CallsAreLeftUnlessConfirmed, ConfirmationsAreEvents, CallsGoOnInOrder, CallsAreSentAsKept, CallsStayUnlessConfirmed}
-use Rattle.site_core.specs.CallOrder.{opening_at_place, rows_after_all, bodies_of, RowsFollowHistories, RowsGoOn, PointsStayInStep, accepted, accepted_since, Moment, EachCallHasItsMoment, CallsAreObeyedInOrder, ObeyingPointsStayInStep}
+use Rattle.site_core.specs.CallOrder.{opening_at_place, rows_after_all, exempt_after_all, exempt_at, bodies_of, RowsFollowHistories, RowsGoOn, PointsStayInStep, accepted, accepted_since, Moment, EachCallHasItsMoment, CallsAreObeyedInOrder, ObeyingPointsStayInStep}
 use Rattle.site_core.specs.ObeyOrder.{obeyed_numbers, numbers_obeyed, IsObeyed}
 use Rattle.site_core.proofs.PointLemmas.{as_many}
 use Rattle.site_core.proofs.EffectLemmas.{calls_at, call_list, sent_by_traffic, confirmed_by_traffic, traffic_with}
 use Rattle.site_core.proofs.StepLemmas.{Acts, HasPlaces, acts, does, keeps_site}
-use Rattle.site_core.proofs.ObeyLemmas.{lasting_without_call, stays_in_step}
+use Rattle.site_core.proofs.ObeyLemmas.{in_step_without_call, stays_in_step}
 use Rattle.site_core.proofs.ObeyOrderLemmas.{obeyed_in_order}
+use Rattle.site_core.proofs.OwnProfileLemmas.{begin_with_tx, none_wait}
 use Rattle.site_core.proofs.OutboxOrderLemmas.{outbox, numbered_along, goes_on, left, sent_in_order, left_unless_confirmed}
 
 -- ---- the calls that an outbox sends
@@ -533,55 +534,74 @@ all_of_first : (P : Deed → Type 0) (one more : List Deed) → AllByRecursion P
 all_of_first P [] more all = tt
 all_of_first P (deed ∷ one) more all = (all.0, all_of_first P one more all.1)
 
--- after as many calls as the first deeds make, the lasting rows are those after these deeds
-rows_at_call : (one more : List Deed) (rows : List Row) (number : ℕ)
-    → AllByRecursion BeginsAlone one → number ≡ length (filter_map call_of one)
-    → lasting (rows_after_call number (one ++ more) rows) ≡ lasting (rows_after_all one rows)
-rows_at_call [] more rows zero alone is = refl
-rows_at_call [] more rows (suc before) alone is = absurd (omega arith)
-rows_at_call (deed ∷ one) more rows number alone is =
-    by (λ n. rows_at_call one more (rows_after rows deed) n alone.1) (call_of deed) refl number is
+-- in step after as many calls as the first deeds make, so in step after these deeds
+in_step_at_call : (one more : List Deed) (ids : List ℤ) (own rows : List Row) (number : ℕ)
+    → AllByRecursion BeginsWithTxProfile one → number ≡ length (filter_map call_of one)
+    → AreInStepBut (exempt_after_call number (one ++ more) ids) own
+    (rows_after_call number (one ++ more) rows)
+    → AreInStepBut (exempt_after_all one ids) own (rows_after_all one rows)
+in_step_at_call [] more ids own rows zero tx is same = same
+in_step_at_call [] more ids own rows (suc before) tx is same = absurd (omega arith)
+in_step_at_call (deed ∷ one) more ids own rows number tx is same =
+    by (λ n. in_step_at_call one more exempt own next n tx.1) (call_of deed) refl number is same
   where
     next : List Row
     next = rows_after rows deed
 
+    exempt : List ℤ
+    exempt = exempt_after ids deed
+
     count_with : Option CallBody → ℕ
     count_with call = length (cons_option call (filter_map call_of one))
 
-    by : ((n : ℕ) → n ≡ length (filter_map call_of one)
-        → lasting (rows_after_call n (one ++ more) next) ≡ lasting (rows_after_all one next))
+    So : ℕ → Type 0
+    So count = AreInStepBut (exempt_after_call count (one ++ more) exempt) own
+        (rows_after_call count (one ++ more) next)
+
+    Done : Type 0
+    Done = AreInStepBut (exempt_after_all one exempt) own (rows_after_all one next)
+
+    by : ((n : ℕ) → n ≡ length (filter_map call_of one) → So n → Done)
         → (call : Option CallBody) → call_of deed ≡ call → (count : ℕ)
         → count ≡ count_with (call_of deed)
-        → lasting (rows_after_call count (deed ∷ (one ++ more)) rows)
-        ≡ lasting (rows_after_all one next)
-    by rest (Some body) has zero many =
+        → AreInStepBut (exempt_after_call count (deed ∷ (one ++ more)) ids) own
+        (rows_after_call count (deed ∷ (one ++ more)) rows)
+        → Done
+    by rest (Some body) has zero many same =
         let none : 0 ≡ count_with (Some body) = many ∙ ap count_with has in
         absurd (omega (arith, none))
-    by rest (Some body) has (suc before) many =
+    by rest (Some body) has (suc before) many same =
         let count : suc before ≡ count_with (Some body) = many ∙ ap count_with has in
-        ap (λ (c : Option CallBody). lasting (rows_after_call (cond (is_some c) before
-        (suc before)) (one ++ more) next)) has
-        ∙ rest before (omega (arith, count))
-    by rest None has zero many =
-        sym (lasting_without_call deed rows alone.0 (ap (λ (c : Option CallBody). is_some c) has))
-        ∙ rest 0 (many ∙ ap count_with has)
-    by rest None has (suc before) many =
-        ap (λ (c : Option CallBody). lasting (rows_after_call (cond (is_some c) before
-        (suc before)) (one ++ more) next)) has
-        ∙ rest (suc before) (many ∙ ap count_with has)
+        rest before (omega (arith, count))
+        (subst (λ (c : Option CallBody). So (cond (is_some c) before (suc before))) has same)
+    by rest None has zero many same =
+        rest 0 (many ∙ ap count_with has)
+        (in_step_without_call deed ids own rows tx.0
+        (ap (λ (c : Option CallBody). is_some c) has) same)
+    by rest None has (suc before) many same =
+        rest (suc before) (many ∙ ap count_with has)
+        (subst (λ (c : Option CallBody). So (cond (is_some c) before (suc before))) has same)
+
+legal_join : (old : MachineState) (one : List Event) (middle : MachineState) (other : List Event)
+    (new : MachineState) → Legal old one middle → Legal middle other new
+    → Legal old (one ++ other) new
+legal_join old [] middle other new legal then_legal =
+    subst (λ (s : MachineState). Legal s other new) legal then_legal
+legal_join old (event ∷ one) middle other new legal then_legal =
+    (legal.0, legal.1, legal_join legal.0 one middle other new legal.2 then_legal)
 
 in_step_after : (site : SiteState) (numbers : Numbers) (earlier later : List Event)
     (middle state : MachineState)
     → Legal (opening_at site numbers) earlier middle → Legal middle later state
     → (point : List ℕ) (place : ℕ) → place_of site point ≡ Some place
     → (first : Obeying) (others : List Obeying) (rows : List Row)
-    → AllByRecursion BeginsAlone (deeds_of site place (earlier ++ later))
     → AreInSendingOrder (numbers_of (first ∷ others))
     → last_number first.number others ≡ length (accepted site place earlier)
-    → lasting (obeyed (bodies_of site place (earlier ++ later)) (first ∷ others) rows) ≡ lasting
+    → AreInStepBut (exempt_at site place earlier)
+    (obeyed (bodies_of site place (earlier ++ later)) (first ∷ others) rows)
     (book_at middle place).rows
 in_step_after site numbers earlier later middle state legal then_legal point place here first
-    others rows alone order last =
+    others rows order last =
     let opening_state = opening_at site numbers in
     let all = deeds_of site place (earlier ++ later) in
     let so_far = deeds_of site place earlier in
@@ -591,25 +611,33 @@ in_step_after site numbers earlier later middle state legal then_legal point pla
     let more = deeds_more began (events_at site place earlier) (events_at site place later) in
     let split : all ≡ so_far ++ more.0 = ap (deeds_from began)
     (filter-append test earlier later) ∙ more.1 in
+    let tx : AllByRecursion BeginsWithTxProfile all = begin_with_tx place opening_state
+    (earlier ++ later) state (length-map site.points opening_point)
+    (legal_join opening_state earlier middle later state legal then_legal)
+    (none_wait site.points place) in
     let calls : calls_of all ≡ bodies_of site place (earlier ++ later) =
     ap all_calls (calls_are_added all) in
     let count : number ≡ length (filter_map call_of so_far) = last
     ∙ ap (λ (bs : List CallBody). length bs) (sym (calls_are_added so_far)) in
-    ap (λ (bs : List CallBody). lasting (obeyed bs (first ∷ others) rows)) (sym calls)
-    ∙ stays_in_step all first others rows alone order
-    ∙ ap (λ (ds : List Deed). lasting (rows_after_call number ds [])) split
-    ∙ rows_at_call so_far more.0 [] number
-    (all_of_first BeginsAlone so_far more.0 (subst (AllByRecursion BeginsAlone) split alone)) count
-    ∙ ap lasting (sym (rows_follow site numbers earlier middle legal point place here))
+    let own = obeyed (calls_of all) (first ∷ others) rows in
+    let at_call = subst (λ (ds : List Deed). AreInStepBut (exempt_after_call number ds []) own
+    (rows_after_call number ds [])) split (stays_in_step all first others rows tx order) in
+    let at_moment = in_step_at_call so_far more.0 [] own [] number
+    (all_of_first BeginsWithTxProfile so_far more.0
+    (subst (AllByRecursion BeginsWithTxProfile) split tx)) count at_call in
+    subst (λ (central : List Row). AreInStepBut (exempt_at site place earlier)
+    (obeyed (bodies_of site place (earlier ++ later)) (first ∷ others) rows) central)
+    (sym (rows_follow site numbers earlier middle legal point place here))
+    (subst (λ (bs : List CallBody). AreInStepBut (exempt_at site place earlier)
+    (obeyed bs (first ∷ others) rows) (rows_after_all so_far [])) calls at_moment)
 
 pub stay_in_step : PointsStayInStep
-stay_in_step site numbers history state point place here first others rows alone order moment =
-    ap (λ (events : List Event). lasting (obeyed (bodies_of site place events)
-    (first ∷ others) rows)) moment.parts
-    ∙ in_step_after site numbers moment.earlier moment.later moment.state state moment.before
-    moment.since point place here first others rows
-    (subst (λ (events : List Event). AllByRecursion BeginsAlone (deeds_of site place events))
-    moment.parts alone) order (sym moment.many)
+stay_in_step site numbers history state point place here first others rows order moment =
+    subst (λ (events : List Event). AreInStepBut (exempt_at site place moment.earlier)
+    (obeyed (bodies_of site place events) (first ∷ others) rows)
+    (book_at moment.state place).rows) (sym moment.parts)
+    (in_step_after site numbers moment.earlier moment.later moment.state state moment.before
+    moment.since point place here first others rows order (sym moment.many))
 
 pub obey_in_order : CallsAreObeyedInOrder
 obey_in_order site numbers history state legal point place here are_obeyed each =
@@ -624,11 +652,11 @@ obey_in_order site numbers history state legal point place here are_obeyed each 
 
 pub obeying_stay_in_step : ObeyingPointsStayInStep
 obeying_stay_in_step site numbers history state legal point place here are_obeyed each first others
-    rows is alone moment =
+    rows is moment =
     let order : AreInSendingOrder (numbers_of (first ∷ others)) =
     subst AreInSendingOrder (sym is)
     (obey_in_order site numbers history state legal point place here are_obeyed each) in
-    stay_in_step site numbers history state point place here first others rows alone order moment
+    stay_in_step site numbers history state point place here first others rows order moment
 
 -- ---- the moments of its calls
 

@@ -22,3 +22,4 @@ pub mod OutboxExamples
 pub mod CallOrderLemmas
 pub mod CountLemmas
 pub mod AuditLemmas
+pub mod OwnProfileLemmas

@@ -1,6 +1,6 @@
 -- The laws of outboxes and of points that obey, for the machine: the calls and the profiles of a
 -- point along a history.
-use Rattle.std.specs.Prelude.{ℕ, ◌≤◌, ◌+◌, ◌≡◌, Bool, List, [], ◌∷◌, ◌++◌, length, map, filter, slice_get, Option, None, Some}
+use Rattle.std.specs.Prelude.{ℕ, ℤ, ◌≤◌, ◌+◌, ◌≡◌, Bool, List, [], ◌∷◌, ◌++◌, length, map, filter, slice_get, Option, None, Some}
 use Rattle.std.specs.List.{flat_map, filter_map, cons_option, AllByRecursion, Contains}
 use Rattle.profile.specs.declared.row.Row.{Row}
 use Rattle.site_rules.specs.Site.{SiteState, place_of}
@@ -15,7 +15,7 @@ use Rattle.site_core.specs.Outbox.{opening_outbox, all_calls, numbered, Traffic,
 use Rattle.site_core.specs.ChargePoint.{ChargePointState, Deed, rows_after, traffic_of, point_with}
 use Rattle.site_core.specs.Step.{Work, AtPoint, Takes, Compiling, Answering, Finishing, work, deed}
 use Rattle.site_core.specs.OutboxOrder.{calls_confirmed, calls_so_far, bodies_added, AreFrom, GoesOn, AreInSendingOrder}
-use Rattle.site_core.specs.Obey.{Obeying, numbers_of, last_number, obeyed, lasting, BeginsAlone}
+use Rattle.site_core.specs.Obey.{Obeying, numbers_of, last_number, obeyed, exempt_after, AreInStepBut}
 use Rattle.site_core.specs.ObeyOrder.{obeyed_numbers, IsObeyed}
 use Rattle.site_core.specs.State.{MachineState, IsMachine, opening, opening_at, point_at, book_at, outbox_at, is_this_number}
 use Rattle.site_core.specs.History.{Event, Legal}
@@ -227,6 +227,16 @@ abbrev pub rows_after_all : List Deed → List Row → List Row
 rows_after_all [] rows = rows
 rows_after_all (deed ∷ later) rows = rows_after_all later (rows_after rows deed)
 
+-- the exempt ids after all these deeds
+abbrev pub exempt_after_all : List Deed → List ℤ → List ℤ
+exempt_after_all [] ids = ids
+exempt_after_all (deed ∷ later) ids = exempt_after_all later (exempt_after ids deed)
+
+-- the ids that are exempt for the point at a place: of a transaction's own profile, and since then
+-- neither installed nor cleared
+abbrev pub exempt_at : SiteState → ℕ → List Event → List ℤ
+exempt_at site place history = exempt_after_all (deeds_of site place history) []
+
 -- the calls to the point at a place that were added: its installs, clears, audits and remote starts
 -- that were accepted
 abbrev pub accepted_since : MachineState → ℕ → List Event → List CallBody
@@ -274,20 +284,20 @@ EachCallHasItsMoment =
     → Moment (opening_at site numbers) history state place number
 
 -- A point with any rows obeys calls in the order of sending. Its lasting rows are then those that
--- the machine had for it at a moment of the last of these calls, whatever came later, unless a
--- transaction began there with a profile of its own. The moments of call k begin when the k-th call
--- was added, whatever its action, and end at the next one. Those of call 0 come before the first.
+-- the machine had for it at a moment of the last of these calls, whatever came later, but for the
+-- ids that were exempt at that moment. The moments of call k begin when the k-th call was added,
+-- whatever its action, and end at the next one. Those of call 0 come before the first.
 abbrev pub PointsStayInStep : Type 0
 PointsStayInStep =
     (site : SiteState) (numbers : Numbers) (history : List Event) (state : MachineState)
     (point : List ℕ) (place : ℕ) → place_of site point ≡ Some place
     → (first : Obeying) (others : List Obeying) (rows : List Row)
-    → AllByRecursion BeginsAlone (deeds_of site place history)
     → AreInSendingOrder (numbers_of (first ∷ others))
     → (moment : Moment (opening_at site numbers) history state place
     (last_number first.number others))
-    → lasting (obeyed (bodies_of site place history) (first ∷ others) rows)
-    ≡ lasting (book_at moment.state place).rows
+    → AreInStepBut (exempt_at site place moment.earlier)
+    (obeyed (bodies_of site place history) (first ∷ others) rows)
+    (book_at moment.state place).rows
 
 -- the numbers of the calls that the point at a place obeys, given for each sending in turn whether
 -- it does; it doesn't obey a lost one
@@ -306,8 +316,8 @@ CallsAreObeyedInOrder = OfEachPoint (λ site place history state.
 
 -- The same of a point that obeys the calls sent to it, in the order of the sendings. Any of them
 -- may be lost, but it obeys each confirmed call at least once. Its lasting rows are then those that
--- the machine had for it at a moment of the last call that it obeyed, unless a transaction began
--- there with a profile of its own.
+-- the machine had for it at a moment of the last call that it obeyed, but for the ids that were
+-- exempt at that moment.
 abbrev pub ObeyingPointsStayInStep : Type 0
 ObeyingPointsStayInStep =
     (site : SiteState) (numbers : Numbers) (history : List Event) (state : MachineState)
@@ -318,8 +328,8 @@ ObeyingPointsStayInStep =
     (calls_confirmed_at site place history)
     → (first : Obeying) (others : List Obeying) (rows : List Row)
     → numbers_of (first ∷ others) ≡ numbers_obeyed_at site place history are_obeyed
-    → AllByRecursion BeginsAlone (deeds_of site place history)
     → (moment : Moment (opening_at site numbers) history state place
     (last_number first.number others))
-    → lasting (obeyed (bodies_of site place history) (first ∷ others) rows)
-    ≡ lasting (book_at moment.state place).rows
+    → AreInStepBut (exempt_at site place moment.earlier)
+    (obeyed (bodies_of site place history) (first ∷ others) rows)
+    (book_at moment.state place).rows

@@ -50,9 +50,10 @@ pub fn histories_go_on_from_any_state()
 /// one, and end at the next one. Those of call 0 are before the first. A point that obeys its calls
 /// in the order of sending is in step with the machine: its ChargePointMaxProfiles and
 /// TxDefaultProfiles are those that the machine had for it at each moment of the last of these
-/// calls. Only their moments of install may differ. The same holds of a point that obeys the calls
-/// sent to it, and each confirmed one at least once: it obeys them in sending order. Sendings and
-/// replies may be lost.
+/// calls. Only their moments of install may differ, and the profiles of an exempt id. Such an id is
+/// that of a transaction's own profile, until a profile with it is installed or all with it are
+/// cleared. The same holds of a point that obeys the calls sent to it, and each confirmed one at
+/// least once: it obeys them in sending order. Sendings and replies may be lost.
 pub fn histories_keep_points_in_step()
     ensures rows { RowsFollowHistories }
     ensures moments { EachCallHasItsMoment }

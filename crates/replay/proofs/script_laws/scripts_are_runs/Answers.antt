@@ -47,7 +47,7 @@ returns-clause-order c = λ site script point place here.
 
 pub returns-clause-obeying : goal.returns-clause-obeying
 returns-clause-obeying c =
-    λ site script run point place here are_obeyed confirmed first others rows numbers alone moment.
+    λ site script run point place here are_obeyed confirmed first others rows numbers moment.
     let history = history_of_run site script run in
     let state = (played site script).state.machine in
     c.histories_keep_points_in_step.ensures.obeying site no_numbers history state
@@ -59,4 +59,4 @@ returns-clause-obeying c =
     first others rows
     (numbers ∙ ap (λ (calls : List Call). obeyed_numbers are_obeyed (numbers_of_calls calls))
     (run.calls_to_place place))
-    alone moment
+    moment
