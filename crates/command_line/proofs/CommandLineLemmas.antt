@@ -1,9 +1,8 @@
 -- The clauses of clap on a command line, for this program's command.
-use Rattle.std.proofs.Common.{◌≡◌, ℕ, ◌<◌, ◌^◌, Bool, List, [], ◌∷◌, inl, inr, Option, Some, None, IfSome, Result, Ok, Err, IfOk, option_map, true, false, refl, sym, ap, ◌∙◌, subst}
-use Rattle.std.specs.Prelude.{IsSomeAnd}
+use Rattle.std.proofs.Common.{◌≡◌, ℕ, ◌<◌, ◌^◌, List, [], ◌∷◌, inl, inr, Option, Some, None, IfSome, Result, Ok, Err, option_map, true, false, refl, sym, ap, ◌∙◌, subst}
 use Rattle.std.specs.Str.Parse.{IsNumeral, ParsesUnsigned, digits_value, without_leading_plus}
 use Rattle.clap.specs.Kinds.{or_else}
-use Rattle.clap.specs.Words.{App, HasKind, HasMatchesOf, IsAmong, Kinds, kind_of, Row, Text, app_of, fault_of, is_simple, is_simple_and_free, subcommand_of, subcommand_rows_of}
+use Rattle.clap.specs.Words.{App, HasKind, HasMatchesOf, IsAmong, Kinds, kind_of, Row, Text, fault_of, is_simple, is_simple_and_free, subcommand_of, subcommand_rows_of}
 use Rattle.clap.specs.Matches.{ReadsOne, subcommand_name_of}
 use Rattle.clap.specs.declared.error.Error.{Error}
 use Rattle.clap.specs.declared.error.kind.ErrorKind.{ErrorKind}
@@ -38,12 +37,11 @@ second : (kinds next : Kinds) → kinds ≡ [] → or_else kinds next ≡ next
 second kinds next none = rw none refl
 
 -- if clap accepts the words, the line's faults are those of its scripts
-pub faults_of_scripts : (app : App) (words : List Text) (name : Text) (rows : List Row) → app ≡ central_app
-    → (is_simple_and_free app ≡ true → fault_of app words ≡ []) → subcommand_named words ≡ Some (name, rows)
-    → line_faults words ≡ script_faults (Some (name, rows))
+pub faults_of_scripts : (app : App) (words : List Text) (met : Option (Text × List Row)) → app ≡ central_app
+    → (is_simple_and_free app ≡ true → fault_of app words ≡ []) → met ≡ subcommand_named words → line_faults words ≡ script_faults met
 unfolding line_faults
-faults_of_scripts app words name rows same taken named =
-    second _ _ (fault_as app words (λ (kinds : Kinds). kinds ≡ []) same taken) ∙ ap script_faults named
+faults_of_scripts app words met same taken named =
+    second _ _ (fault_as app words (λ (kinds : Kinds). kinds ≡ []) same taken) ∙ ap script_faults (sym named)
 
 pub none_of_one : (name : Text) (rows : List Row) → has_two_scripts rows ≡ false → script_faults (Some (name, rows)) ≡ []
 none_of_one name rows one = rw one refl
@@ -78,12 +76,6 @@ paired f g (Some met) both name rows same named given =
 pub met_with : (all : ArgMatches) (name : Text) (rows : List Row) → Some name ≡ subcommand_name_of all
     → Some rows ≡ option_map (λ p. p.1) (subcommand_rows_of all) → subcommand_rows_of all ≡ Some (name, rows)
 met_with all name rows named given = paired _ _ (out-ArgMatches all).subcommand (subcommand_rows_of all) name rows refl named given
-
--- a property of the subcommand that clap found holds for the one that the words name
-pub named_with : (P : Text × List Row → Type 0) (met : Option (Text × List Row)) (words : List Text) (name : Text) (rows : List Row)
-    → met ≡ subcommand_named words → met ≡ Some (name, rows) → P (name, rows) → IsSomeAnd (subcommand_named words) P
-named_with P met words name rows same is holds =
-    subst (λ (o : Option (Text × List Row)). IsSomeAnd o P) (sym is ∙ same) holds
 
 -- the number that clap reads is that of the option's text
 pub number_read : {E : Type 0} (gives : Text → Result ℕ E → Type 0) → ((text : Text) (r : Result ℕ E) → gives text r → ParsesUnsigned 64 10 text r)

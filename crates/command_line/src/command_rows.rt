@@ -1,8 +1,8 @@
 //! The program's commands and their options, with their help.
 
-ghost use Rattle.std.specs.Prelude.{◌≡◌};
+ghost use Rattle.std.specs.Prelude.{◌≡◌, map};
 ghost use Rattle.command_line.specs.CommandLine.{call_command, check_command, explain_command, journal_command, key_command, point_command, replay_command, run_command, serve_command, show_command, status_command};
-ghost use Rattle.command_line.specs.CommandRows.{app_of_row};
+ghost use Rattle.command_line.specs.CommandRows.{app_of_row, central_commands};
 
 use crate::help_text::{
     AFTER_BOOT_HELP, ALL_HELP, ALL_SITE_HELP, ASK_HELP, AT_HELP, AUDIT_HELP, CALL_ABOUT,
@@ -25,10 +25,29 @@ use jobs::{
     MAX_CALL_TIMEOUT, MAX_CONNECTORS, MAX_LINE, MAX_SEATS, MAX_SESSIONS, MAX_WAIT, MAX_WORKERS,
 };
 
+/// Returns the definitions of the program's commands, in the order of its help.
+pub(crate) fn command_rows() -> [CommandRow; 11]
+    ensures { map app_of_row result ≡ central_commands }
+{
+    [
+        run(),
+        status(),
+        key(),
+        serve(),
+        call(),
+        point(),
+        journal(),
+        replay(),
+        explain(),
+        check(),
+        show(),
+    ]
+}
+
 /// Returns the definition of the command `run`, with its options and their help: `run --site F
 /// --data DIR --listen A [--keys FILE] [--seats N] [--workers N] [--call-timeout SECONDS]
 /// [--status B] [--status-open] [--after-boot nothing]`.
-pub(crate) fn run() -> CommandRow
+fn run() -> CommandRow
     ensures { app_of_row result ≡ run_command }
 {
     CommandRow {
@@ -58,7 +77,7 @@ pub(crate) fn run() -> CommandRow
 
 /// Returns the definition of the command `status`, with its options and their help: `status
 /// --url U`.
-pub(crate) fn status() -> CommandRow
+fn status() -> CommandRow
     ensures { app_of_row result ≡ status_command }
 {
     CommandRow {
@@ -71,7 +90,7 @@ pub(crate) fn status() -> CommandRow
 
 /// Returns the definition of the command `key`, with its options and their help: `key --name NAME
 /// [--operator]`.
-pub(crate) fn key() -> CommandRow
+fn key() -> CommandRow
     ensures { app_of_row result ≡ key_command }
 {
     CommandRow {
@@ -87,7 +106,7 @@ pub(crate) fn key() -> CommandRow
 
 /// Returns the definition of the command `serve`, with its options and their help: `serve --site F
 /// --listen A --workers N --sessions K`.
-pub(crate) fn serve() -> CommandRow
+fn serve() -> CommandRow
     ensures { app_of_row result ≡ serve_command }
 {
     CommandRow {
@@ -107,7 +126,7 @@ pub(crate) fn serve() -> CommandRow
 /// [--login FILE] [--all] [--site F] [--data DIR] [--set-profile FILE] [--clear CRITERIA]
 /// [--remote-start CONNECTOR TAG [FILE]] [--ask CONNECTOR SECONDS] [--audit CONNECTOR SECONDS]
 /// [--status] [--undo LINE] [--wait SECONDS] [--force] [--dry-run]`.
-pub(crate) fn call() -> CommandRow
+fn call() -> CommandRow
     ensures { app_of_row result ≡ call_command }
 {
     CommandRow {
@@ -136,7 +155,7 @@ pub(crate) fn call() -> CommandRow
 
 /// Returns the definition of the command `point`, with its options and their help: `point --url U
 /// --site F --id ID [--login FILE]`.
-pub(crate) fn point() -> CommandRow
+fn point() -> CommandRow
     ensures { app_of_row result ≡ point_command }
 {
     CommandRow {
@@ -154,7 +173,7 @@ pub(crate) fn point() -> CommandRow
 
 /// Returns the definition of the command `journal`, with its options and their help: `journal
 /// --data DIR`.
-pub(crate) fn journal() -> CommandRow
+fn journal() -> CommandRow
     ensures { app_of_row result ≡ journal_command }
 {
     CommandRow {
@@ -167,7 +186,7 @@ pub(crate) fn journal() -> CommandRow
 
 /// Returns the definition of the command `replay`, with its options and their help: `replay
 /// --site F [--data DIR | --script FILE]`.
-pub(crate) fn replay() -> CommandRow
+fn replay() -> CommandRow
     ensures { app_of_row result ≡ replay_command }
 {
     CommandRow {
@@ -185,7 +204,7 @@ pub(crate) fn replay() -> CommandRow
 /// Returns the definition of the command `explain`, with its options and their help: `explain
 /// --site F --point ID --connector C --start INSTANT --duration D [--data DIR | --script FILE]
 /// [--at PLACE] [--zone NAME] [--picture FILE] [--json]`.
-pub(crate) fn explain() -> CommandRow
+fn explain() -> CommandRow
     ensures { app_of_row result ≡ explain_command }
 {
     CommandRow {
@@ -210,7 +229,7 @@ pub(crate) fn explain() -> CommandRow
 
 /// Returns the definition of the command `check`, with its options and their help: `check --site F
 /// [--keys FILE] [--data DIR | --script FILE] [--trace]`.
-pub(crate) fn check() -> CommandRow
+fn check() -> CommandRow
     ensures { app_of_row result ≡ check_command }
 {
     CommandRow {
@@ -229,7 +248,7 @@ pub(crate) fn check() -> CommandRow
 
 /// Returns the definition of the command `show`, with its options and their help: `show --site F
 /// [--data DIR | --script FILE] [--at PLACE] [--json]`.
-pub(crate) fn show() -> CommandRow
+fn show() -> CommandRow
     ensures { app_of_row result ≡ show_command }
 {
     CommandRow {

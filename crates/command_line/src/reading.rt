@@ -1,13 +1,13 @@
 //! The command line, by clap's own definition of how words are read.
 
 ghost use Rattle.std.specs.Prelude.{◌≡◌, IfOk, IfSome, IsSomeAnd, codes, map, option_map, string_bytes};
-ghost use Rattle.clap.specs.Words.{FailsBy, all_of, first_of, found_of, rows_of};
-ghost use Rattle.command_line.specs.CommandLine.{IsAsking, IsCalling, IsChecking, IsExplaining, IsFlag, IsJob, IsKeyMaking, IsNumber, IsOptionalNumber, IsPointing, IsReplaying, IsRunning, IsServing, IsShowing, IsSource, IsStarting, has_two_scripts, line_faults, subcommand_named};
+ghost use Rattle.clap.specs.Words.{FailsBy, all_of, app_of, first_of, found_of, rows_of, subcommand_rows_of};
+ghost use Rattle.command_line.specs.CommandLine.{IsAsking, IsFlag, IsJob, IsNumber, IsOptionalNumber, IsSource, IsStarting, central_app, has_two_scripts, line_faults, script_faults, subcommand_named};
 
 use crate::commands::central_command;
 use crate::help_text::TWO_SCRIPTS;
 use clap::error::ErrorKind;
-use clap::{ArgMatches, Error};
+use clap::{ArgMatches, Command, Error};
 use jobs::{
     Asking, Calling, Checking, Explaining, Job, KeyMaking, Pointing, Replaying, Running, Serving,
     Showing, Source, Starting,
@@ -28,7 +28,26 @@ pub fn job_of<'a>(alloc: Global, words: &'a [String]) -> Result<Job<'a>, Error>
     ensures faults { FailsBy (line_faults (map string_bytes words.now)) result }
 {
     let mut command = central_command(alloc)?;
+    job_of_words(&mut command, words)
+}
+
+/// Returns the job of a command line by the program's commands.
+fn job_of_words<'a>(command: &mut Command<'a>, words: &'a [String]) -> Result<Job<'a>, Error>
+    requires { app_of command.old ≡ central_app }
+    ensures job { IfOk result (λ job. IsSomeAnd (subcommand_named (map string_bytes words.now))
+        (λ named. IsJob named.0 named.1 job)) }
+    ensures faults { FailsBy (line_faults (map string_bytes words.now)) result }
+{
     let matches = command.try_get_matches_from_mut(words)?;
+    job_of_matches(command, &matches)
+}
+
+/// Returns the job of a command line that clap has read.
+fn job_of_matches<'a>(command: &mut Command<'a>, matches: &ArgMatches<'a>) -> Result<Job<'a>, Error>
+    ensures job { IfOk result (λ job. IsSomeAnd (subcommand_rows_of matches.now)
+        (λ named. IsJob named.0 named.1 job)) }
+    ensures faults { FailsBy (script_faults (subcommand_rows_of matches.now)) result }
+{
     // The command requires a subcommand, so this error never occurs.
     let Some((name, given)) = matches.subcommand() else {
         return Err(Error::from(AllocError));
@@ -49,61 +68,68 @@ fn job_named<'a>(name: &str, given: &ArgMatches<'a>) -> Option<Job<'a>>
     ensures { IfSome result (λ job. IsJob name.now (rows_of (found_of given.now)) job) }
 {
     match name {
-        "serve" => serving_of(given).map(Job::Serve),
-        "run" => running_of(given).map(Job::Run),
-        "key" => key_making_of(given).map(Job::Key),
-        "call" => calling_of(given).map(Job::Call),
-        "point" => pointing_of(given).map(Job::Point),
-        "replay" => replaying_of(given).map(Job::Replay),
-        "explain" => explaining_of(given).map(Job::Explain),
-        "check" => checking_of(given).map(Job::Check),
-        "show" => showing_of(given).map(Job::Show),
-        "status" => Some(Job::Status {
-            url: text_of(given, "url")?,
-        }),
-        "journal" => Some(Job::Journal {
-            folder: text_of(given, "data")?,
-        }),
+        "serve" => serving_of(given),
+        "run" => running_of(given),
+        "key" => key_making_of(given),
+        "call" => calling_of(given),
+        "point" => pointing_of(given),
+        "replay" => replaying_of(given),
+        "explain" => explaining_of(given),
+        "check" => checking_of(given),
+        "show" => showing_of(given),
+        "status" => status_of(given),
+        "journal" => journal_of(given),
         _ => None,
     }
 }
 
-/// Returns the job of `serve`, from its options as clap read them from the command line.
-fn serving_of<'a>(given: &ArgMatches<'a>) -> Option<Serving<'a>>
-    ensures { IfSome result (λ serving. IsServing (rows_of (found_of given.now)) serving) }
+/// Returns the job of `serve` with the options on the command line.
+fn serving_of<'a>(given: &ArgMatches<'a>) -> Option<Job<'a>>
+    ensures { IfSome result (λ job. IsJob (codes "serve") (rows_of (found_of given.now)) job) }
 {
-    let site = text_of(given, "site")?;
-    let listen = text_of(given, "listen")?;
-    let workers = number_of(given, "workers")?;
-    let sessions = number_of(given, "sessions")?;
+    let (Some(site), Some(listen)) = (text_of(given, "site"), text_of(given, "listen")) else {
+        return None;
+    };
+    let (Some(workers), Some(sessions)) = (
+        number_of(given, "workers"),
+        number_of(given, "sessions"),
+    ) else {
+        return None;
+    };
     // clap checks the ranges, too, but the contract of `number_of` has no bounds.
     if workers < 1 || sessions < 1 {
         return None;
     }
-    Some(Serving {
+    Some(Job::Serve(Serving {
         site,
         listen,
         workers,
         sessions,
-    })
+    }))
 }
 
-/// Returns the job of `replay`, from its options as clap read them from the command line.
-fn replaying_of<'a>(given: &ArgMatches<'a>) -> Option<Replaying<'a>>
-    ensures { IfSome result (λ replaying. IsReplaying (rows_of (found_of given.now)) replaying) }
+/// Returns the job of `replay` with the options on the command line.
+fn replaying_of<'a>(given: &ArgMatches<'a>) -> Option<Job<'a>>
+    ensures { IfSome result (λ job. IsJob (codes "replay") (rows_of (found_of given.now)) job) }
 {
-    let site = text_of(given, "site")?;
-    let source = source_of(given)?;
-    Some(Replaying { site, source })
+    let (Some(site), Some(source)) = (text_of(given, "site"), source_of(given)) else {
+        return None;
+    };
+    Some(Job::Replay(Replaying { site, source }))
 }
 
-/// Returns the job of `run`, from its options as clap read them from the command line, and the
-/// defaults of those that aren't given.
-fn running_of<'a>(given: &ArgMatches<'a>) -> Option<Running<'a>>
-    ensures { IfSome result (λ running. IsRunning (rows_of (found_of given.now)) running) }
+/// Returns the job of `run` with the options on the command line, and the defaults of those that
+/// aren't given.
+fn running_of<'a>(given: &ArgMatches<'a>) -> Option<Job<'a>>
+    ensures { IfSome result (λ job. IsJob (codes "run") (rows_of (found_of given.now)) job) }
 {
-    let site = text_of(given, "site")?;
-    let folder = text_of(given, "data")?;
+    let (Some(site), Some(folder), Some(listen)) = (
+        text_of(given, "site"),
+        text_of(given, "data"),
+        text_of(given, "listen"),
+    ) else {
+        return None;
+    };
     let seats = optional_number_of(given, "seats").unwrap_or(SEATS);
     let workers = optional_number_of(given, "workers").unwrap_or(WORKERS);
     let call_timeout = optional_number_of(given, "call-timeout").unwrap_or(CALL_TIMEOUT);
@@ -114,10 +140,10 @@ fn running_of<'a>(given: &ArgMatches<'a>) -> Option<Running<'a>>
     if seats < 1 || workers < 1 {
         return None;
     }
-    Some(Running {
+    Some(Job::Run(Running {
         site,
         folder,
-        listen: text_of(given, "listen")?,
+        listen,
         seats,
         workers,
         call_timeout,
@@ -125,38 +151,42 @@ fn running_of<'a>(given: &ArgMatches<'a>) -> Option<Running<'a>>
         status,
         is_status_open,
         after_boot: text_of(given, "after-boot"),
-    })
+    }))
 }
 
-/// Returns the job of `key`, from its options as clap read them from the command line.
-fn key_making_of<'a>(given: &ArgMatches<'a>) -> Option<KeyMaking<'a>>
-    ensures { IfSome result (λ making. IsKeyMaking (rows_of (found_of given.now)) making) }
+/// Returns the job of `key` with the options on the command line.
+fn key_making_of<'a>(given: &ArgMatches<'a>) -> Option<Job<'a>>
+    ensures { IfSome result (λ job. IsJob (codes "key") (rows_of (found_of given.now)) job) }
 {
     let name = text_of(given, "name")?;
     let is_operator = is_given(given, "operator");
-    Some(KeyMaking { name, is_operator })
+    Some(Job::Key(KeyMaking { name, is_operator }))
 }
 
-/// Returns the job of `call`, from its options as clap read them from the command line.
-fn calling_of<'a>(given: &ArgMatches<'a>) -> Option<Calling<'a>>
-    ensures { IfSome result (λ calling. IsCalling (rows_of (found_of given.now)) calling) }
+/// Returns the job of `call` with the options on the command line.
+fn calling_of<'a>(given: &ArgMatches<'a>) -> Option<Job<'a>>
+    ensures { IfSome result (λ job. IsJob (codes "call") (rows_of (found_of given.now)) job) }
 {
-    let url = text_of(given, "url")?;
+    let (Some(url), Some(remote_start), Some(ask), Some(audit)) = (
+        text_of(given, "url"),
+        starting_of(given),
+        asking_of(given, "ask"),
+        asking_of(given, "audit"),
+    ) else {
+        return None;
+    };
     let login = text_of(given, "login");
     let all = is_given(given, "all");
     let site = text_of(given, "site");
     let folder = text_of(given, "data");
     let set_profile = text_of(given, "set-profile");
     let clear = text_of(given, "clear");
-    let remote_start = starting_of(given)?;
-    let ask = asking_of(given, "ask")?;
-    let audit = asking_of(given, "audit")?;
     let status = is_given(given, "status");
     let undo = optional_number_of(given, "undo");
     let wait = optional_number_of(given, "wait");
     let force = is_given(given, "force");
     let dry_run = is_given(given, "dry-run");
-    Some(Calling {
+    Some(Job::Call(Calling {
         url,
         login,
         all,
@@ -172,7 +202,7 @@ fn calling_of<'a>(given: &ArgMatches<'a>) -> Option<Calling<'a>>
         wait,
         force,
         dry_run,
-    })
+    }))
 }
 
 /// Returns the remote start that `--remote-start` of `call` on the command line requests, if it is
@@ -210,38 +240,45 @@ fn asking_of<'a>(given: &ArgMatches<'a>, option: &str) -> Option<Option<Asking<'
     }
 }
 
-/// Returns the job of `point`, from its options as clap read them from the command line.
-fn pointing_of<'a>(given: &ArgMatches<'a>) -> Option<Pointing<'a>>
-    ensures { IfSome result (λ pointing. IsPointing (rows_of (found_of given.now)) pointing) }
+/// Returns the job of `point` with the options on the command line.
+fn pointing_of<'a>(given: &ArgMatches<'a>) -> Option<Job<'a>>
+    ensures { IfSome result (λ job. IsJob (codes "point") (rows_of (found_of given.now)) job) }
 {
-    let url = text_of(given, "url")?;
-    let site = text_of(given, "site")?;
-    let id = text_of(given, "id")?;
+    let (Some(url), Some(site), Some(id)) = (
+        text_of(given, "url"),
+        text_of(given, "site"),
+        text_of(given, "id"),
+    ) else {
+        return None;
+    };
     let login = text_of(given, "login");
-    Some(Pointing {
+    Some(Job::Point(Pointing {
         url,
         site,
         id,
         login,
-    })
+    }))
 }
 
-/// Returns the job of `explain`, from its options as clap read them from the command line.
-fn explaining_of<'a>(given: &ArgMatches<'a>) -> Option<Explaining<'a>>
-    ensures { IfSome result
-        (λ explaining. IsExplaining (rows_of (found_of given.now)) explaining) }
+/// Returns the job of `explain` with the options on the command line.
+fn explaining_of<'a>(given: &ArgMatches<'a>) -> Option<Job<'a>>
+    ensures { IfSome result (λ job. IsJob (codes "explain") (rows_of (found_of given.now)) job) }
 {
-    let site = text_of(given, "site")?;
-    let point = text_of(given, "point")?;
-    let connector = number_of(given, "connector")?;
-    let start = text_of(given, "start")?;
-    let duration = text_of(given, "duration")?;
-    let source = source_of(given)?;
+    let (Some(site), Some(point), Some(connector), Some(start), Some(duration), Some(source)) = (
+        text_of(given, "site"),
+        text_of(given, "point"),
+        number_of(given, "connector"),
+        text_of(given, "start"),
+        text_of(given, "duration"),
+        source_of(given),
+    ) else {
+        return None;
+    };
     let at = text_of(given, "at");
     let zone = text_of(given, "zone");
     let picture = text_of(given, "picture");
     let json = is_given(given, "json");
-    Some(Explaining {
+    Some(Job::Explain(Explaining {
         site,
         point,
         connector,
@@ -252,38 +289,56 @@ fn explaining_of<'a>(given: &ArgMatches<'a>) -> Option<Explaining<'a>>
         zone,
         picture,
         json,
-    })
+    }))
 }
 
-/// Returns the job of `check`, from its options as clap read them from the command line.
-fn checking_of<'a>(given: &ArgMatches<'a>) -> Option<Checking<'a>>
-    ensures { IfSome result (λ checking. IsChecking (rows_of (found_of given.now)) checking) }
+/// Returns the job of `check` with the options on the command line.
+fn checking_of<'a>(given: &ArgMatches<'a>) -> Option<Job<'a>>
+    ensures { IfSome result (λ job. IsJob (codes "check") (rows_of (found_of given.now)) job) }
 {
-    let site = text_of(given, "site")?;
+    let (Some(site), Some(source)) = (text_of(given, "site"), source_of(given)) else {
+        return None;
+    };
     let keys = text_of(given, "keys");
-    let source = source_of(given)?;
     let trace = is_given(given, "trace");
-    Some(Checking {
+    Some(Job::Check(Checking {
         site,
         keys,
         source,
         trace,
-    })
+    }))
 }
 
-/// Returns the job of `show`, from its options as clap read them from the command line.
-fn showing_of<'a>(given: &ArgMatches<'a>) -> Option<Showing<'a>>
-    ensures { IfSome result (λ showing. IsShowing (rows_of (found_of given.now)) showing) }
+/// Returns the job of `show` with the options on the command line.
+fn showing_of<'a>(given: &ArgMatches<'a>) -> Option<Job<'a>>
+    ensures { IfSome result (λ job. IsJob (codes "show") (rows_of (found_of given.now)) job) }
 {
-    let site = text_of(given, "site")?;
-    let source = source_of(given)?;
+    let (Some(site), Some(source)) = (text_of(given, "site"), source_of(given)) else {
+        return None;
+    };
     let json = is_given(given, "json");
-    Some(Showing {
+    Some(Job::Show(Showing {
         site,
         source,
         at: text_of(given, "at"),
         json,
-    })
+    }))
+}
+
+/// Returns the job of `status` with the options on the command line.
+fn status_of<'a>(given: &ArgMatches<'a>) -> Option<Job<'a>>
+    ensures { IfSome result (λ job. IsJob (codes "status") (rows_of (found_of given.now)) job) }
+{
+    let url = text_of(given, "url")?;
+    Some(Job::Status { url })
+}
+
+/// Returns the job of `journal` with the options on the command line.
+fn journal_of<'a>(given: &ArgMatches<'a>) -> Option<Job<'a>>
+    ensures { IfSome result (λ job. IsJob (codes "journal") (rows_of (found_of given.now)) job) }
+{
+    let folder = text_of(given, "data")?;
+    Some(Job::Journal { folder })
 }
 
 /// Returns the source that the command line names for the script of `replay`, `check`, `show` or
