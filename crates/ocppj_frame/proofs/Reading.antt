@@ -1,13 +1,19 @@
 -- The reading of an array or an object by `serde_json`, from one value to the next.
-use Rattle.std.proofs.Common.{◌≡◌, ℕ, zero, suc, ◌-◌, ◌<◌, ◌≤◌, List, [], ◌∷◌, ◌++◌, length, Option, Some, None, option_map, option_and_then, unwrap_or, refl, ap, ◌∙◌}
+use Rattle.std.proofs.Common.{◌≡◌, ◌≢◌, ℕ, zero, suc, ◌-◌, ◌<◌, ◌≤◌, List, [], ◌∷◌, ◌++◌, length, Option, Some, None, option_map, option_and_then, unwrap_or, Result, Ok, Err, refl, ap, ◌∙◌}
+use Rattle.std.specs.Prelude.{IfOk}
 use Rattle.json.specs.Json as json
 use Rattle.json.specs.Json.{Parse, parse_map, after_end_array, read_key, items_step, items, members, value}
 use Rattle.json.specs.Token.{Token}
-use Rattle.json.proofs.Grammar.{items_end, items_more, members_end, members_no_key, members_more, value-begin_array, value-begin_object}
+use Rattle.json.specs.Reads.{token_of}
+use Rattle.json.specs.declared.token.Token as variants
+use Rattle.json.specs.declared.token.Token.TheVariants.{BeginObject, EndObject, BeginArray, EndArray, Key, String, Number, Bool, Null, Bad}
+use Rattle.json.proofs.Grammar.{items_end, items_more, members_end, members_no_key, members_more, value-begin_array, value-begin_object, value_is}
 use Rattle.serde_json.specs.Data.{Data, array, object, Items, no_items, item, Members, put}
 use Rattle.serde_json.specs.Read.{of_json, of_items, of_members, converted}
+use Rattle.ocppj_frame.specs.ByCases.Tokens.{HaveNoNumber, scalar_of}
 use Rattle.ocppj_frame.specs.View.{view, items_view}
 use Rattle.ocppj_frame.specs.declared.marked_value.MarkedValue.{MarkedValue}
+use Rattle.ocppj_frame.specs.declared.read_fault.ReadFault.{ReadFault}
 
 -- a pair with a fixed second part
 
@@ -32,6 +38,40 @@ pub was_parsed : {A B : Type 0} (f : A → Option B) (o : Option (A × List Toke
 was_parsed f None b r e = absurd (cc)
 was_parsed f (Some p) b r e =
     let parts = pair_parts (f p.0) p.1 r b e in (p.0, ap (λ s. Some (p.0, s)) parts.1, parts.0)
+
+-- a token that opens no array and no object, or one where no level is left
+
+pub flat_value : (t : Token) (rest : List Token) → HaveNoNumber (t ∷ rest)
+    → converted of_json (value 0 (t ∷ rest)) ≡ option_map (λ d. (d, rest)) (scalar_of t)
+unfolding value
+flat_value Token.begin_object rest h = refl
+flat_value Token.end_object rest h = refl
+flat_value Token.begin_array rest h = refl
+flat_value Token.end_array rest h = refl
+flat_value (Token.key s) rest h = refl
+flat_value (Token.string s) rest h = refl
+flat_value (Token.number s) rest h = absurd h
+flat_value (Token.boolean b) rest h = refl
+flat_value Token.null rest h = refl
+flat_value Token.bad rest h = refl
+
+pub scalar_value : (depth : ℕ) (t : variants.Token) (rest : List Token) → t ≢ BeginArray → t ≢ BeginObject → HaveNoNumber (token_of t ∷ rest)
+    → converted of_json (value depth (token_of t ∷ rest)) ≡ option_map (λ d. (d, rest)) (scalar_of (token_of t))
+scalar_value depth BeginObject rest a o h = absurd (o refl)
+scalar_value depth EndObject rest a o h = ap (converted of_json) (value_is depth _)
+scalar_value depth BeginArray rest a o h = absurd (a refl)
+scalar_value depth EndArray rest a o h = ap (converted of_json) (value_is depth _)
+scalar_value depth (Key s) rest a o h = ap (converted of_json) (value_is depth _)
+scalar_value depth (String s) rest a o h = ap (converted of_json) (value_is depth _)
+scalar_value depth (Number s) rest a o h = absurd h
+scalar_value depth (Bool b) rest a o h = ap (converted of_json) (value_is depth _)
+scalar_value depth Null rest a o h = ap (converted of_json) (value_is depth _)
+scalar_value depth Bad rest a o h = ap (converted of_json) (value_is depth _)
+
+pub scalar_read : (r : Result MarkedValue ReadFault) (read : Option (Data × List Token)) (d : Option Data) (rest : List Token)
+    → read ≡ option_map (λ e. (e, rest)) d → IfOk r (λ found. d ≡ Some (view found)) → IfOk r (λ found. read ≡ Some (view found, rest))
+scalar_read (Ok found) read d rest e is = e ∙ ap (option_map (λ f. (f, rest))) is
+scalar_read (Err fault) read d rest e is = tt
 
 -- an array's items, an object's members
 

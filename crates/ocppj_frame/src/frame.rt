@@ -1,9 +1,10 @@
 //! Reads a text as a frame.
-ghost use Rattle.std.specs.Prelude.{◌≡◌, IfOk, None, Ok, Some, drop, option_and_then, option_map, slice_get};
+ghost use Rattle.std.specs.Prelude.{◌≡◌, IfOk, option_and_then, option_map, slice_get, unwrap_or};
 ghost use Rattle.ocpp_scalars.specs.Reading.{ReadsUnless};
 ghost use Rattle.ocppj_frame.specs.Fault.{is_memory};
 ghost use Rattle.ocppj_frame.specs.Frame.{HasObject, message_in};
 ghost use Rattle.ocppj_frame.specs.ByCases.Message.{call_of, message_by, message_of_text, message_of_tree, payload_of};
+ghost use Rattle.ocppj_frame.specs.Message.{call_result, empty_object};
 ghost use Rattle.ocppj_frame.specs.Payload.{elements_left, tree_in};
 ghost use Rattle.ocppj_frame.specs.Tree.{as_text};
 
@@ -13,7 +14,6 @@ use crate::message::{MessageType, message_id, message_type, payload_of};
 use crate::message_id::MessageId;
 use crate::payload::{Elements, Payload, read_tree};
 use crate::reading_memory::ReadingMemory;
-use bumpalo::Bump;
 use std::alloc::Global;
 
 /// The maximum length of a frame's text, in bytes.
@@ -68,72 +68,72 @@ fn frame_of_tree(alloc: Global, tree: Payload<'_>) -> Result<Frame<'_>, FrameFau
     let Some(mut elements) = tree.into_elements() else {
         return Err(FrameFault::Dropped);
     };
-    let arena = elements.arena();
-    let kind = message_type(elements.next());
-    let id = message_id(alloc, elements.next())?;
-    let third = elements.next();
-    let fourth = elements.next();
-    frame_by(arena, kind, id, third, fourth)
+    let kind = message_type(elements.next_number());
+    let id = message_id(alloc, elements.next_text())?;
+    frame_by(kind, id, &mut elements)
 }
 
-/// Makes the OCPP-J frame (CALL, CALLRESULT or CALLERROR) of this type and id from the third and
-/// fourth element of its list, or returns its fault.
+/// Makes the OCPP-J message of this type and id from the third and fourth element of its list,
+/// which are the next ones, or returns the message's fault.
 fn frame_by<'a>(
-    arena: &'a Bump,
     kind: Option<MessageType>,
     id: Option<MessageId>,
-    third: Option<Payload<'a>>,
-    fourth: Option<Payload<'a>>,
+    elements: &mut Elements<'a>,
 ) -> Result<Frame<'a>, FrameFault>
     ensures message { ReadsUnless is_memory message_in result
-        (message_by kind id (option_map tree_in third.entry) (option_map tree_in fourth.entry)) }
+        (message_by kind id (slice_get (elements_left elements.old) 0)
+        (slice_get (elements_left elements.old) 1)) }
     ensures object { IfOk result HasObject }
 {
-    match (kind, id) {
-        (Some(MessageType::Other), _) => Ok(Frame::Other),
-        (Some(MessageType::Call), Some(id)) => call_of(arena, id, third, fourth),
-        (Some(MessageType::CallResult), Some(id)) => Ok(Frame::Reply {
-            id,
-            payload: payload_of(arena, third).unwrap_or(Payload::empty(arena)),
-        }),
-        (Some(MessageType::CallError), Some(id)) => Ok(Frame::Fault { id }),
-        _ => Err(FrameFault::Dropped),
+    let Some(kind) = kind else {
+        return Err(FrameFault::Dropped);
+    };
+    if matches!(kind, MessageType::Other) {
+        return Ok(Frame::Other);
+    }
+    let Some(id) = id else {
+        return Err(FrameFault::Dropped);
+    };
+    match kind {
+        MessageType::Call => call_of(id, elements),
+        MessageType::CallResult => Ok(reply_of(id, elements)),
+        MessageType::CallError => Ok(Frame::Fault { id }),
+        MessageType::Other => Ok(Frame::Other),
     }
 }
 
-/// Makes the OCPP-J frame of the CALL of this id from its action and payload, or returns
-/// `Formation` if either is malformed.
-fn call_of<'a>(
-    arena: &'a Bump,
-    id: MessageId,
-    third: Option<Payload<'a>>,
-    fourth: Option<Payload<'a>>,
-) -> Result<Frame<'a>, FrameFault>
+/// Makes the CALL of this id from its action and payload, which are the next elements of its list,
+/// or returns `Formation` if either is malformed.
+fn call_of<'a>(id: MessageId, elements: &mut Elements<'a>) -> Result<Frame<'a>, FrameFault>
     ensures message { ReadsUnless is_memory message_in result
-        (call_of id (option_and_then as_text (option_map tree_in third.entry))
-        (payload_of (option_map tree_in fourth.entry))) }
+        (call_of id (option_and_then as_text (slice_get (elements_left elements.old) 0))
+        (payload_of (slice_get (elements_left elements.old) 1))) }
     ensures object { IfOk result HasObject }
 {
-    let Some(action) = action_of(third) else {
+    let Some(action) = elements.next_text() else {
         return Err(FrameFault::Formation { id });
     };
-    let Some(payload) = payload_of(arena, fourth) else {
+    let Some(payload) = payload_of(elements.arena(), elements.next()) else {
         return Err(FrameFault::Formation { id });
     };
     Ok(Frame::Call {
         id,
-        action,
+        action: ActionName::new(action),
         payload,
     })
 }
 
-/// Returns the name of the action in the third element of an OCPP-J frame that is a CALL, if that
-/// is a text.
-fn action_of(element: Option<Payload<'_>>) -> Option<ActionName<'_>>
-    ensures { result ≡ option_and_then as_text (option_map tree_in element.entry) }
+/// Makes the CALLRESULT of this id from its payload, which is the next element of its list. A
+/// payload that isn't an object counts as empty.
+fn reply_of<'a>(id: MessageId, elements: &mut Elements<'a>) -> Frame<'a>
+    ensures message { message_in result
+        ≡ call_result id (unwrap_or (payload_of (slice_get (elements_left elements.old) 0)) empty_object) }
+    ensures object { HasObject result }
 {
-    match element?.into_text() {
-        Some(text) => Some(ActionName::new(text)),
-        None => None,
-    }
+    let arena = elements.arena();
+    let payload = match payload_of(arena, elements.next()) {
+        Some(payload) => payload,
+        None => Payload::empty(arena),
+    };
+    Frame::Reply { id, payload }
 }

@@ -1,11 +1,12 @@
 //! The JSON value of a marked text.
-ghost use Rattle.std.specs.Prelude.{◌≡◌, ◌<◌, IfOk, OnOk, Some, None, Err, length};
-ghost use Rattle.json.specs.Json.{items, members, value};
+ghost use Rattle.std.specs.Prelude.{◌≡◌, ◌≢◌, ◌<◌, ◌∷◌, ◌++◌, [], IfOk, OnOk, Some, None, Err, length};
+ghost use Rattle.json.specs.Json.{items, members, parse_map, value};
 ghost use Rattle.json.specs.Lex.{tokens};
-ghost use Rattle.serde_json.specs.Data.{no_members};
+ghost use Rattle.json.specs.Reads.{token_of};
+ghost use Rattle.serde_json.specs.Data.{array, no_members, object, put};
 ghost use Rattle.serde_json.specs.Read.{converted, of_items, of_json, of_members, read};
 ghost use Rattle.ocppj_frame.specs.View.{items_view, members_view, view};
-ghost use Rattle.ocppj_frame.specs.ByCases.Tokens.{HaveNoNumber};
+ghost use Rattle.ocppj_frame.specs.ByCases.Tokens.{HaveNoNumber, scalar_of};
 
 use crate::read_fault::ReadFault;
 use bumpalo::Bump;
@@ -65,45 +66,52 @@ fn read_value<'a>(
     ensures refused { result ≡ Err ReadFault.NotJson
         → converted of_json (value depth reader.old) ≡ None }
 {
-    let token = reader.next().ok_or(ReadFault::NotJson)?;
+    let Some(token) = reader.next() else {
+        return Err(ReadFault::NotJson);
+    };
+    // Where no level is left, an array or an object is refused as any other token that isn't a
+    // scalar.
+    if depth == 0 {
+        return scalar(token);
+    }
+    match token {
+        Token::BeginArray => read_array(arena, reader, depth - 1),
+        Token::BeginObject => read_object(arena, reader, depth - 1),
+        token => scalar(token),
+    }
+}
+
+/// Returns the value that a single token of a marked text, such as an OCPP-J message, is. A marked
+/// text has no number, and a number is refused.
+fn scalar(token: Token<'_>) -> Result<MarkedValue<'_>, ReadFault>
+    ensures value { IfOk result (λ found. scalar_of (token_of token.entry) ≡ Some (view found)) }
+    ensures refused { result ≡ Err ReadFault.NotJson → scalar_of (token_of token.entry) ≡ None }
+{
     match token {
         Token::String(text) => Ok(MarkedValue::String(text)),
         Token::Bool(false) => Ok(MarkedValue::False),
         Token::Bool(true) => Ok(MarkedValue::True),
         Token::Null => Ok(MarkedValue::Null),
-        Token::BeginArray => {
-            if depth == 0 {
-                return Err(ReadFault::NotJson);
-            }
-            Ok(MarkedValue::Array(read_items(arena, reader, depth - 1)?))
-        }
-        Token::BeginObject => {
-            if depth == 0 {
-                return Err(ReadFault::NotJson);
-            }
-            Ok(MarkedValue::Object(read_members(arena, reader, depth - 1)?))
-        }
-        Token::EndObject | Token::EndArray | Token::Key(_) | Token::Bad => Err(ReadFault::NotJson),
-        // Proved unreachable: a marked text has no number.
-        Token::Number(_) => Err(ReadFault::NotJson),
+        _ => Err(ReadFault::NotJson),
     }
 }
 
-/// Reads the items of an array in a JSON text, such as an OCPP-J frame, whose strings and numbers
-/// have marks, up to its closing bracket.
-// This and `read_members` aren't inlined: `read_value` clears its variables on each entry, and
+/// Reads the items of a JSON array in a marked text, such as an OCPP-J message, up to its closing
+/// bracket, as the array.
+// This and `read_object` aren't inlined: `read_value` clears its variables on each entry, and
 // would have theirs as well.
 #[cycle(read)]
 #[inline(never)]
-fn read_items<'a>(
+fn read_array<'a>(
     arena: &'a Bump,
     reader: &mut Reader<'a>,
     depth: usize,
-) -> Result<Vec<MarkedValue<'a>, &'a Bump>, ReadFault>
+) -> Result<MarkedValue<'a>, ReadFault>
     requires { HaveNoNumber reader.old }
-    ensures items { IfOk result
-        (λ found. converted of_items (items (value depth) (length reader.old) reader.old)
-        ≡ Some (items_view found.items, reader.new)) }
+    ensures array { IfOk result
+        (λ found. parse_map array
+        (converted of_items (items (value depth) (length reader.old) reader.old))
+        ≡ Some (view found, reader.new)) }
     ensures shorter { OnOk result (length reader.new < length reader.old) }
     ensures no_numbers { OnOk result (HaveNoNumber reader.new) }
     ensures refused { result ≡ Err ReadFault.NotJson
@@ -112,25 +120,37 @@ fn read_items<'a>(
     let mut found = Vec::new(arena);
     'items: while !reader.take_end_array() {
         let item = read_value(arena, reader, depth)?;
-        found.push(item)?;
+        push_item(&mut found, item)?;
     }
-    Ok(found)
+    Ok(MarkedValue::Array(found))
 }
 
-/// Reads the members of an object in a JSON text, such as an OCPP-J frame, whose strings and
-/// numbers have marks, up to its closing brace. The last of equal keys counts.
+/// Appends an item to those of a JSON array in a marked text, such as an OCPP-J message.
+fn push_item<'a>(
+    found: &mut Vec<MarkedValue<'a>, &'a Bump>,
+    item: MarkedValue<'a>,
+) -> Result<(), ReadFault>
+    ensures items { OnOk result (found.new.items ≡ found.old.items ++ item.entry ∷ []) }
+    ensures refused { result ≢ Err ReadFault.NotJson }
+{
+    found.push(item)?;
+    Ok(())
+}
+
+/// Reads the members of a JSON object in a marked text, such as an OCPP-J message, up to its
+/// closing brace, as the object. The last of equal keys counts.
 #[cycle(read)]
 #[inline(never)]
-fn read_members<'a>(
+fn read_object<'a>(
     arena: &'a Bump,
     reader: &mut Reader<'a>,
     depth: usize,
-) -> Result<BTreeMap<&'a str, MarkedValue<'a>, &'a Bump>, ReadFault>
+) -> Result<MarkedValue<'a>, ReadFault>
     requires { HaveNoNumber reader.old }
-    ensures members { IfOk result
-        (λ found. converted (λ ms. of_members ms no_members)
-        (members (value depth) (length reader.old) reader.old)
-        ≡ Some (members_view found.entries, reader.new)) }
+    ensures object { IfOk result
+        (λ found. parse_map object (converted (λ ms. of_members ms no_members)
+        (members (value depth) (length reader.old) reader.old))
+        ≡ Some (view found, reader.new)) }
     ensures shorter { OnOk result (length reader.new < length reader.old) }
     ensures no_numbers { OnOk result (HaveNoNumber reader.new) }
     ensures refused { result ≡ Err ReadFault.NotJson
@@ -140,7 +160,22 @@ fn read_members<'a>(
     let mut found = BTreeMap::new(arena);
     'members: while let Some(key) = reader.next_key()? {
         let member = read_value(arena, reader, depth)?;
-        drop(found.insert(key, member)?);
+        put_member(&mut found, key, member)?;
     }
-    Ok(found)
+    Ok(MarkedValue::Object(found))
+}
+
+/// Puts a member into a JSON object of a marked text, such as an OCPP-J message, in place of one
+/// that has the same key.
+fn put_member<'a>(
+    found: &mut BTreeMap<&'a str, MarkedValue<'a>, &'a Bump>,
+    key: &'a str,
+    member: MarkedValue<'a>,
+) -> Result<(), ReadFault>
+    ensures inserted { OnOk result (members_view found.new.entries
+        ≡ put key.entry.now (view member.entry) (members_view found.old.entries)) }
+    ensures refused { result ≢ Err ReadFault.NotJson }
+{
+    drop(found.insert(key, member)?);
+    Ok(())
 }

@@ -1,6 +1,8 @@
 //! The elements of a message.
-ghost use Rattle.std.specs.Prelude.{◌≡◌, IfOk, IfSome, Some, option_map, true};
-ghost use Rattle.ocppj_frame.specs.ByCases.Message.{message_id, message_type, payload_of, type_of_number};
+ghost use Rattle.std.specs.Prelude.{◌≡◌, IfOk, IfSome, option_and_then, option_map, true};
+ghost use Rattle.std.specs.Result.{result_ok};
+ghost use Rattle.ocpp_scalars.specs.ByCases.Number.{whole_of};
+ghost use Rattle.ocppj_frame.specs.ByCases.Message.{payload_of, type_of_number, unless_long};
 ghost use Rattle.ocppj_frame.specs.Payload.{tree_in};
 ghost use Rattle.ocppj_frame.specs.Tree.{is_object};
 
@@ -20,12 +22,13 @@ pub enum MessageType {
     Other,
 }
 
-/// Returns the message type in the first element of an OCPP-J frame, if that is a whole number.
-pub(crate) fn message_type(element: Option<Payload<'_>>) -> Option<MessageType>
-    ensures { result ≡ message_type (option_map tree_in element.entry) }
+/// Returns the type of an OCPP-J message by its first element, if that is a whole number. It is
+/// given by its digits, if the element is a number.
+pub(crate) fn message_type(digits: Option<&str>) -> Option<MessageType>
+    ensures { result ≡ option_map type_of_number (option_and_then (λ ds. result_ok (whole_of ds))
+        (option_map (λ ds. ds.now) digits.entry)) }
 {
-    let element = element?;
-    match read_whole(element.root().number()?) {
+    match read_whole(digits?) {
         Ok(number) => Some(type_of_number(number)),
         Err(_) => None,
     }
@@ -43,21 +46,16 @@ fn type_of_number(number: i32) -> MessageType
     }
 }
 
-/// Copies the id in the second element of an OCPP-J frame. `None` if that isn't a text, or is too
-/// long for an id.
-pub(crate) fn message_id(
-    alloc: Global,
-    element: Option<Payload<'_>>,
-) -> Result<Option<MessageId>, AllocError>
-    ensures { IfOk result (λ id. id ≡ message_id (option_map tree_in element.entry)) }
+/// Copies the id of an OCPP-J message from its second element, whose text is given, if it is a
+/// text. `None` if it isn't, or is too long for an id.
+pub(crate) fn message_id(alloc: Global, text: Option<&str>) -> Result<Option<MessageId>, AllocError>
+    ensures { IfOk result
+        (λ id. id ≡ option_and_then unless_long (option_map (λ t. t.now) text.entry)) }
 {
-    let Some(element) = element else {
-        return Ok(None);
-    };
-    let Some(text) = element.into_text() else {
-        return Ok(None);
-    };
-    MessageId::try_copy(alloc, text)
+    match text {
+        Some(text) => MessageId::try_copy(alloc, text),
+        None => Ok(None),
+    }
 }
 
 /// Returns the payload in an element of an OCPP-J frame: the empty object if it is absent or null,
@@ -69,11 +67,12 @@ pub(crate) fn payload_of<'a>(arena: &'a Bump, element: Option<Payload<'a>>) -> O
     let Some(payload) = element else {
         return Some(Payload::empty(arena));
     };
-    if payload.root().is_null() {
-        return Some(Payload::empty(arena));
+    let root = payload.root();
+    if root.is_object() {
+        return Some(payload);
     }
-    if payload.root().is_object() {
-        Some(payload)
+    if root.is_null() {
+        Some(Payload::empty(arena))
     } else {
         None
     }

@@ -1,5 +1,5 @@
 //! Writes frames: each as one text, or in parts appended to a text.
-ghost use Rattle.std.specs.Prelude.{◌≡◌, IfOk, string_bytes};
+ghost use Rattle.std.specs.Prelude.{◌≡◌, ◌++◌, IfOk, codes, string_bytes};
 ghost use Rattle.json.specs.Print.{quoted};
 ghost use Rattle.ocpp_scalars.specs.Appending.{Appends};
 ghost use Rattle.ocppj_frame.specs.Write.{call_error_text, call_head, call_result_text, call_text, frame_end, result_head};
@@ -58,11 +58,7 @@ pub fn push_call_head(out: &mut String, id: &str, action: &str) -> Result<(), Al
     ensures { Appends result (string_bytes out.old) (string_bytes out.new)
         (call_head id.now action.now) }
 {
-    out.push_str("[2,")?;
-    push_string(out, id)?;
-    out.push_str(",")?;
-    push_string(out, action)?;
-    out.push_str(",")
+    push_elements(out, "[2,", id, action)
 }
 
 /// Appends the part of a CALLRESULT before its payload, `[3,"id",`.
@@ -70,8 +66,7 @@ pub fn push_result_head(out: &mut String, id: &str) -> Result<(), AllocError>
     ensures { Appends result (string_bytes out.old) (string_bytes out.new) (result_head id.now) }
 {
     out.push_str("[3,")?;
-    push_string(out, id)?;
-    out.push_str(",")
+    push_element(out, id)
 }
 
 /// Appends the part of a frame after its payload, `]`.
@@ -91,13 +86,30 @@ pub fn push_error(
     ensures { Appends result (string_bytes out.old) (string_bytes out.new)
         (call_error_text id.now code.now description.now) }
 {
-    out.push_str("[4,")?;
-    push_string(out, id)?;
-    out.push_str(",")?;
-    push_string(out, code)?;
-    out.push_str(",")?;
+    push_elements(out, "[4,", id, code)?;
     push_string(out, description)?;
     out.push_str(",{}]")
+}
+
+/// Appends the beginning of an OCPP-J message: `head`, and two text elements which another element
+/// follows.
+fn push_elements(out: &mut String, head: &str, first: &str, second: &str) -> Result<(), AllocError>
+    ensures { Appends result (string_bytes out.old) (string_bytes out.new)
+        (head.now ++ quoted first.now ++ codes "," ++ quoted second.now ++ codes ",") }
+{
+    out.push_str(head)?;
+    push_element(out, first)?;
+    push_element(out, second)
+}
+
+/// Appends a text element of an OCPP-J message, which another element follows: a JSON string and a
+/// comma.
+fn push_element(out: &mut String, text: &str) -> Result<(), AllocError>
+    ensures { Appends result (string_bytes out.old) (string_bytes out.new)
+        (quoted text.now ++ codes ",") }
+{
+    push_string(out, text)?;
+    out.push_str(",")
 }
 
 /// Appends a text as a JSON string (RFC 8259, section 7).

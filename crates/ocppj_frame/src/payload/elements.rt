@@ -5,7 +5,6 @@ ghost use Rattle.ocppj_frame.specs.Read.{trees_of};
 ghost use Rattle.ocppj_frame.specs.View.{items_view};
 
 use super::Payload;
-use crate::mark::after_mark;
 use crate::marked_value::MarkedValue;
 use bumpalo::Bump;
 use std::collections::BTreeMap;
@@ -21,8 +20,9 @@ pub(crate) struct Elements<'memory> {
 }
 
 impl<'memory> Elements<'memory> {
-    ghost use Rattle.std.specs.Prelude.{◌≡◌, drop, option_map, slice_get};
+    ghost use Rattle.std.specs.Prelude.{◌≡◌, drop, option_and_then, option_map, slice_get};
     ghost use Rattle.ocppj_frame.specs.Payload.{elements_left, tree_in};
+    ghost use Rattle.ocppj_frame.specs.Tree.{as_number, as_text};
 
     /// Returns the arena of the list that an OCPP-J frame is, in which an empty payload can be
     /// made.
@@ -41,12 +41,38 @@ impl<'memory> Elements<'memory> {
             None => None,
         }
     }
+
+    /// Returns the text in the next element of an OCPP-J message's list, if that is a text, and
+    /// moves past the element.
+    pub(crate) fn next_text(&mut self) -> Option<&'memory str>
+        ensures text { option_map (λ t. t.now) result
+            ≡ option_and_then as_text (slice_get (elements_left self.old) 0) }
+        ensures left { elements_left self.new ≡ drop 1 (elements_left self.old) }
+    {
+        match self.next() {
+            Some(element) => element.root().text(),
+            None => None,
+        }
+    }
+
+    /// Returns the number's text in the next element of an OCPP-J message's list, if that is a
+    /// number, and moves past the element.
+    pub(crate) fn next_number(&mut self) -> Option<&'memory str>
+        ensures digits { option_map (λ ds. ds.now) result
+            ≡ option_and_then as_number (slice_get (elements_left self.old) 0) }
+        ensures left { elements_left self.new ≡ drop 1 (elements_left self.old) }
+    {
+        match self.next() {
+            Some(element) => element.root().number(),
+            None => None,
+        }
+    }
 }
 
 impl<'memory> Payload<'memory> {
     ghost use Rattle.std.specs.Prelude.{◌≡◌, option_map};
     ghost use Rattle.ocppj_frame.specs.Payload.{elements_left, tree_in};
-    ghost use Rattle.ocppj_frame.specs.Tree.{as_list, as_text, no_fields, object};
+    ghost use Rattle.ocppj_frame.specs.Tree.{as_list, no_fields, object};
 
     /// Returns the object without fields, the payload of an OCPP-J frame that has none. Allocates
     /// nothing.
@@ -68,17 +94,6 @@ impl<'memory> Payload<'memory> {
                 arena: *values.allocator(),
                 values: values.into_iter(),
             }),
-            _ => None,
-        }
-    }
-
-    /// Returns the text in an element of an OCPP-J frame, if the element is a text.
-    pub(crate) fn into_text(self) -> Option<&'memory str>
-        ensures { option_map (λ t. t.now) result ≡ as_text (tree_in self.entry) }
-    {
-        let Payload { value } = self;
-        match value {
-            MarkedValue::String(marked) => after_mark(marked, b's'),
             _ => None,
         }
     }

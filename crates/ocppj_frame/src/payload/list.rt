@@ -56,7 +56,9 @@ impl<'tree, 'memory> Iterator for EntriesIter<'tree, 'memory> {
     ghost remaining = { item_count entries_left };
 
     fn next(&mut self) -> Option<Node<'tree, 'memory>> {
-        let (value, others) = self.left.values.split_first()?;
+        let Some((value, others)) = self.left.values.split_first() else {
+            return None;
+        };
         self.left = Entries { values: others };
         Some(Node { value })
     }

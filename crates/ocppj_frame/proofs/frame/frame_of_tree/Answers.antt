@@ -11,5 +11,5 @@ use Rattle.ocppj_frame.proofs.frame.frame_of_tree.Goals as goal
 pub returns-clause-message : goal.returns-clause-message
 returns-clause-message c =
     let P : Result Message FrameFault → Type 0 = λ m. ReadsUnless is_memory message_in c.frame_by.result m in
-    subst P (sym (message_of_taken _ _ _ _ _ _ _ _ _ _ _ c.in-Some.ensures c.next.ensures.left c.next-2.ensures.left c.next-third.ensures.left
-    c.next.ensures.element c.next-2.ensures.element c.next-third.ensures.element c.next-fourth.ensures.element c.message_type-kind.ensures c.in_ok-id.ensures)) c.frame_by.ensures.message
+    subst P (sym (message_of_taken _ _ _ _ _ _ _ _ c.in-Some.ensures c.next_number.ensures.left c.next_text.ensures.left
+    c.next_number.ensures.digits c.next_text.ensures.text c.message_type-kind.ensures c.in_ok-id.ensures)) c.frame_by.ensures.message
