@@ -146,17 +146,22 @@ fn hint_of(before: Option<char>, found: char) -> Option<&'static str> {
 /// Writes the character found at the break of a text that isn't JSON, and the cure.
 impl fmt::Display for JsonBreak {
     fn fmt<W: fmt::Write>(&self, f: &mut fmt::Formatter<W>) -> fmt::Result {
-        match self.found {
-            None => f.write_str("it ends too early")?,
-            Some(found) if is_printable(found) => write!(f, "'{found}' is found")?,
-            Some(found) => {
-                let code = u32::from(found);
-                write!(f, "U+{code:04X} is found")?
-            }
-        }
+        write_found(f, self.found)?;
         match self.hint {
             Some(hint) => write!(f, ": {hint}"),
             None => Ok(()),
+        }
+    }
+}
+
+/// Writes, for the finding that a site file or a message isn't JSON, the character at its break.
+fn write_found<W: fmt::Write>(f: &mut fmt::Formatter<W>, found: Option<char>) -> fmt::Result {
+    match found {
+        None => f.write_str("it ends too early"),
+        Some(found) if is_printable(found) => write!(f, "'{found}' is found"),
+        Some(found) => {
+            let code = u32::from(found);
+            write!(f, "U+{code:04X} is found")
         }
     }
 }

@@ -98,20 +98,25 @@ impl fmt::Display for Location {
             Location::Character { line, column } => write!(f, "line {line}, column {column}"),
             Location::Point { index, id } => {
                 write!(f, "points[{index}]")?;
-                match id {
-                    Some(id) => write!(f, " ({id})"),
-                    None => Ok(()),
-                }
+                write_identity(f, id)
             }
             Location::Line { number, point } => {
                 write!(f, "line {number}")?;
-                match point {
-                    Some(point) => write!(f, " ({point})"),
-                    None => Ok(()),
-                }
+                write_identity(f, point)
             }
             Location::End(point) => write!(f, "{point}, at the end"),
         }
+    }
+}
+
+/// Writes the identity of a point after the place of a finding of `check`, if it has one.
+fn write_identity<W: fmt::Write>(
+    f: &mut fmt::Formatter<W>,
+    identity: &Option<String>,
+) -> fmt::Result {
+    match identity {
+        Some(identity) => write!(f, " ({identity})"),
+        None => Ok(()),
     }
 }
 

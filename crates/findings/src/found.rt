@@ -46,18 +46,25 @@ impl fmt::Display for KnownField<'_> {
     fn fmt<W: fmt::Write>(&self, f: &mut fmt::Formatter<W>) -> fmt::Result {
         let name = self.name;
         let wanted = self.wanted;
-        let Some(value) = self.value else {
-            write!(f, "{name}: it is absent; expected {wanted}")?;
-            return match self.hint {
-                Some(hint) => {
-                    let hint = Excerpt(hint);
-                    write!(f, " (is \"{hint}\" meant to be it?)")
-                }
-                None => Ok(()),
-            };
-        };
-        // A field that is present is spelled right, so no other one is meant to be it.
-        write!(f, "{name}: {value}; expected {wanted}")
+        match self.value {
+            // A field that is present is spelled right, so no other one is meant to be it.
+            Some(value) => write!(f, "{name}: {value}; expected {wanted}"),
+            None => {
+                write!(f, "{name}: it is absent; expected {wanted}")?;
+                write_hint(f, self.hint)
+            }
+        }
+    }
+}
+
+/// Writes, for a finding of `check`, the unknown field that is probably meant to be an absent one.
+fn write_hint<W: fmt::Write>(f: &mut fmt::Formatter<W>, hint: Option<&str>) -> fmt::Result {
+    match hint {
+        Some(hint) => {
+            let hint = Excerpt(hint);
+            write!(f, " (is \"{hint}\" meant to be it?)")
+        }
+        None => Ok(()),
     }
 }
 

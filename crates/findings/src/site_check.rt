@@ -25,33 +25,30 @@ pub fn check_site(alloc: Global, bytes: &[u8]) -> Result<Vec<Finding>, AllocErro
         (Some(SiteFault::TooLarge), _) => {
             let count = bytes.len();
             let message = format!(in alloc; "{count} bytes; at most {MAX_SITE_BYTES} are allowed")?;
-            alone(alloc, Finding::fault(Location::File, message))
+            alone(alloc, Location::File, message)
         }
         (_, Err(error)) => {
             let offset = error.valid_up_to();
             let message = format!(in alloc; "it isn't UTF-8 from the byte at offset {offset} on")?;
-            alone(alloc, Finding::fault(Location::File, message))
+            alone(alloc, Location::File, message)
         }
-        (Some(SiteFault::NotJson), Ok(text)) => {
-            let (place, message) = describe_break(alloc, text)?;
-            alone(alloc, Finding::fault(place, message))
-        }
+        (Some(SiteFault::NotJson), Ok(text)) => check_broken(alloc, text),
         (_, Ok(text)) => check_text(alloc, text),
     }
 }
 
-/// Returns a list of the one finding with which `check` of a site file ends.
-fn alone(alloc: Global, finding: Finding) -> Result<Vec<Finding>, AllocError> {
+/// Returns a list of the one fault with which `check` of a site file ends.
+fn alone(alloc: Global, place: Location, message: String) -> Result<Vec<Finding>, AllocError> {
     let mut findings = Vec::new(alloc);
-    findings.push(finding)?;
+    findings.push(Finding::fault(place, message))?;
     Ok(findings)
 }
 
-/// Describes, for `check`, the break of a site file that isn't JSON throughout, with its place.
-fn describe_break(alloc: Global, text: &str) -> Result<(Location, String), AllocError> {
+/// Returns the fault with which `check` ends in a site file that isn't JSON: where it breaks.
+fn check_broken(alloc: Global, text: &str) -> Result<Vec<Finding>, AllocError> {
     let fault = first_break(alloc, text)?;
     let message = format!(in alloc; "the JSON breaks where {fault}")?;
-    Ok((place_in_text(text, fault.offset), message))
+    alone(alloc, place_in_text(text, fault.offset), message)
 }
 
 /// Returns the findings of `check` in a site file from which a JSON tree can be read.
@@ -61,15 +58,25 @@ fn check_text(alloc: Global, text: &str) -> Result<Vec<Finding>, AllocError> {
     }
     // A malformed number breaks the JSON. But the file is read if a later field of the same name
     // replaces it. In a marked text it is a string, so its check goes on.
-    let (place, message) = describe_break(alloc, text)?;
     let mut room = Vec::new(alloc);
     let marked = mark_text(text, &mut room)?;
-    let Some(mut findings) = pass_over(alloc, marked, true)? else {
-        return alone(alloc, Finding::fault(place, message));
-    };
-    let message = format!(in alloc; "{message}; a later field of the same name counts")?;
-    findings.push(Finding::warning(place, message))?;
-    Ok(findings)
+    match pass_over(alloc, marked, true)? {
+        Some(mut findings) => {
+            add_break(alloc, text, &mut findings)?;
+            Ok(findings)
+        }
+        None => check_broken(alloc, text),
+    }
+}
+
+/// Adds to the findings of `check` a warning of where a site file breaks that is read all the same.
+fn add_break(alloc: Global, text: &str, findings: &mut Vec<Finding>) -> Result<(), AllocError> {
+    let fault = first_break(alloc, text)?;
+    let message = format!(in alloc;
+        "the JSON breaks where {fault}; a later field of the same name counts"
+    )?;
+    findings.push(Finding::warning(place_in_text(text, fault.offset), message))?;
+    Ok(())
 }
 
 /// Goes through the text of a site file, which may be marked, and returns the findings of `check`,
@@ -83,50 +90,79 @@ fn pass_over(
     let mut reader = Reader::new(text, &mut scratch)?;
     let mut pass = SitePass::new(alloc, text, is_marked);
     let mut findings = Vec::new(alloc);
-    if read_fields(&mut pass, &mut reader, &mut findings).is_err() {
+    if read_whole(&mut pass, &mut reader, &mut findings).is_err() {
         return Ok(None);
     }
     pass.append_to(&mut findings)?;
     Ok(Some(findings))
 }
 
-/// Reads the unit and the points of a site file, and adds the findings of `check` in them.
-fn read_fields<'a>(
+/// Reads the value that a site file is, and adds the findings of `check` in it.
+fn read_whole<'a>(
     pass: &mut SitePass<'a>,
     reader: &mut Reader<'a>,
     findings: &mut Vec<Finding>,
 ) -> Result<(), Invalid> {
-    if !pass.begins(reader, b'{') {
-        let whole = pass.read_value(reader)?;
-        let outcome = add_no_object(pass.alloc, whole, findings);
-        pass.note(outcome);
-        return Ok(());
+    if pass.begins(reader, b'{') {
+        return read_site_object(pass, reader, findings);
     }
+    let whole = pass.read_value(reader)?;
+    let outcome = add_no_object(pass.alloc, whole, findings);
+    pass.note(outcome);
+    Ok(())
+}
+
+/// Reads the object of a site file, which has begun, and adds the findings of `check` in it.
+fn read_site_object<'a>(
+    pass: &mut SitePass<'a>,
+    reader: &mut Reader<'a>,
+    findings: &mut Vec<Finding>,
+) -> Result<(), Invalid> {
     let mut fields = [
         KnownField::new("unit", "\"A\" or \"W\""),
         KnownField::new("points", "a list of 1 to 1000 objects"),
     ];
     let mut points = CheckedPoints::new(pass.alloc);
+    read_fields(pass, reader, &mut fields, &mut points)?;
+    let outcome = add_site(pass.alloc, &fields, &mut points, findings);
+    pass.note(outcome);
+    Ok(())
+}
+
+/// Reads the unit and the points of a site file for `check`.
+fn read_fields<'a>(
+    pass: &mut SitePass<'a>,
+    reader: &mut Reader<'a>,
+    fields: &mut [KnownField<'a>],
+    points: &mut CheckedPoints,
+) -> Result<(), Invalid> {
     // Each field has at least one byte, so this range ends the loop without a proof of its own.
     for _ in 0..pass.text.len() {
-        let Some(place) = pass.next_field(reader, &mut fields)? else {
+        let Some(place) = pass.next_field(reader, fields)? else {
             break;
         };
-        let value = if place == POINTS && pass.begins(reader, b'[') {
-            // Of duplicate fields the last one counts. The earlier points are freed first.
-            points = CheckedPoints::new(pass.alloc);
-            points.read(pass, reader)?;
-            Glance::List
-        } else {
-            pass.read_value(reader)?
-        };
+        let value = read_field(pass, reader, place, points)?;
         if let Some(field) = fields.get_mut(place) {
             field.value = Some(value);
         }
     }
-    let outcome = add_site(pass.alloc, fields, points, findings);
-    pass.note(outcome);
     Ok(())
+}
+
+/// Reads the value of a site file's field for `check`, with the contents of the list of points.
+fn read_field<'a>(
+    pass: &mut SitePass<'a>,
+    reader: &mut Reader<'a>,
+    place: usize,
+    points: &mut CheckedPoints,
+) -> Result<Glance<'a>, Invalid> {
+    if place != POINTS || !pass.begins(reader, b'[') {
+        return pass.read_value(reader);
+    }
+    // Of duplicate fields the last one counts. The earlier points are freed first.
+    *points = CheckedPoints::new(pass.alloc);
+    points.read(pass, reader)?;
+    Ok(Glance::List)
 }
 
 /// Adds to the findings of `check` the fault that a site file is a JSON value other than an object.
@@ -146,19 +182,27 @@ fn add_no_object(
 /// findings in the points.
 fn add_site(
     alloc: Global,
-    fields: [KnownField<'_>; 2],
-    list: CheckedPoints,
+    fields: &[KnownField<'_>; 2],
+    list: &mut CheckedPoints,
     findings: &mut Vec<Finding>,
 ) -> Result<(), AllocError> {
     let [unit, points] = fields;
     if !is_unit(unit.value) {
-        let message = format!(in alloc; "{unit}")?;
-        findings.push(Finding::fault(Location::File, message))?;
+        add_field_fault(alloc, unit, findings)?;
     }
-    if let Some(Glance::List) = points.value {
-        return list.append_to(findings);
+    match points.value {
+        Some(Glance::List) => list.append_to(findings),
+        _ => add_field_fault(alloc, points, findings),
     }
-    let message = format!(in alloc; "{points}")?;
+}
+
+/// Adds to the findings of `check` the fault of a site file's `unit` or `points`.
+fn add_field_fault(
+    alloc: Global,
+    field: &KnownField<'_>,
+    findings: &mut Vec<Finding>,
+) -> Result<(), AllocError> {
+    let message = format!(in alloc; "{field}")?;
     findings.push(Finding::fault(Location::File, message))?;
     Ok(())
 }

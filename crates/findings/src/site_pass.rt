@@ -166,51 +166,70 @@ impl<'a> SitePass<'a> {
             self.more = true;
             return Ok(());
         }
-        let mut names = Vec::new(self.alloc);
-        for field in fields.iter() {
-            names.push(field.name)?;
-        }
-        let meant = similar_name(self.alloc, name, names.as_slice())?;
-        let field = fields
-            .iter()
-            .position(|field| meant == Some(field.name) && field.hint.is_none());
-        if let Some(field) = field.and_then(|index| fields.get_mut(index)) {
-            field.hint = Some(name);
-        }
+        let meant = meant_name(self.alloc, fields, name)?;
+        note_hint(fields, meant, name);
+        let message = unknown_message(self.alloc, name, meant)?;
         let place = self.place(offset);
-        let name = Excerpt(name);
-        let message = match meant {
-            Some(meant) => format!(in self.alloc;
-                "\"{name}\" is no field that is looked at (\"{meant}\" is one)"
-            )?,
-            None => format!(in self.alloc; "\"{name}\" is no field that is looked at")?,
-        };
         self.unknown.push(Finding::warning(place, message))?;
         Ok(())
     }
 
     /// Appends the warnings of a site file's unknown and duplicate fields to the findings of
     /// `check`, unless an allocation failed.
-    pub(crate) fn append_to(self, findings: &mut Vec<Finding>) -> Result<(), AllocError> {
-        let SitePass {
-            alloc,
-            mut unknown,
-            more,
-            mut repeated,
-            is_short,
-            ..
-        } = self;
-        if is_short {
+    pub(crate) fn append_to(&mut self, findings: &mut Vec<Finding>) -> Result<(), AllocError> {
+        if self.is_short {
             return Err(AllocError);
         }
-        findings.append(&mut unknown)?;
-        if more {
-            let message = format!(in alloc;
-                "there are more than {MAX_REPORTED} fields that nothing looks at"
-            )?;
-            findings.push(Finding::warning(Location::File, message))?;
+        findings.append(&mut self.unknown)?;
+        if self.more {
+            warn_more(self.alloc, findings)?;
         }
-        findings.append(&mut repeated)?;
+        findings.append(&mut self.repeated)?;
         Ok(())
     }
+}
+
+/// Returns the known field that is probably meant by an unknown field of a site file, for `check`.
+fn meant_name(
+    alloc: Global,
+    fields: &[KnownField<'_>],
+    name: &str,
+) -> Result<Option<&'static str>, AllocError> {
+    let mut names = Vec::new(alloc);
+    for field in fields {
+        names.push(field.name)?;
+    }
+    similar_name(alloc, name, names.as_slice())
+}
+
+/// Notes an unknown field of a site file at the known field that is probably meant, for `check`.
+fn note_hint<'a>(fields: &mut [KnownField<'a>], meant: Option<&str>, name: &'a str) {
+    let field = fields
+        .iter()
+        .position(|field| meant == Some(field.name) && field.hint.is_none());
+    if let Some(field) = field.and_then(|index| fields.get_mut(index)) {
+        field.hint = Some(name);
+    }
+}
+
+/// Describes, for a warning of `check`, an unknown field of a site file, and the known field that
+/// is probably meant.
+fn unknown_message(alloc: Global, name: &str, meant: Option<&str>) -> Result<String, AllocError> {
+    let name = Excerpt(name);
+    match meant {
+        Some(meant) => format!(in alloc;
+            "\"{name}\" is no field that is looked at (\"{meant}\" is one)"
+        ),
+        None => format!(in alloc; "\"{name}\" is no field that is looked at"),
+    }
+}
+
+/// Adds to the findings of `check` a warning that a site file has more unknown fields than are
+/// reported.
+fn warn_more(alloc: Global, findings: &mut Vec<Finding>) -> Result<(), AllocError> {
+    let message = format!(in alloc;
+        "there are more than {MAX_REPORTED} fields that nothing looks at"
+    )?;
+    findings.push(Finding::warning(Location::File, message))?;
+    Ok(())
 }

@@ -112,23 +112,8 @@ impl CheckedPoints {
             ),
         ];
         let mut connectors = Connectors::new(self.alloc);
-        for _ in 0..pass.text.len() {
-            let Some(place) = pass.next_field(reader, &mut fields)? else {
-                break;
-            };
-            let value = if place == CONNECTORS && pass.begins(reader, b'[') {
-                // Of duplicate fields the last one counts. The earlier messages are freed first.
-                connectors = Connectors::new(self.alloc);
-                connectors.read(pass, reader)?;
-                Glance::List
-            } else {
-                pass.read_value(reader)?
-            };
-            if let Some(field) = fields.get_mut(place) {
-                field.value = Some(value);
-            }
-        }
-        let outcome = self.check(index, fields, connectors);
+        connectors.read_point(pass, reader, &mut fields)?;
+        let outcome = self.check(index, &fields, &mut connectors);
         pass.note(outcome);
         Ok(())
     }
@@ -137,62 +122,107 @@ impl CheckedPoints {
     fn check(
         &mut self,
         index: usize,
-        fields: [KnownField<'_>; 3],
-        list: Connectors,
+        fields: &[KnownField<'_>; 3],
+        list: &mut Connectors,
     ) -> Result<(), AllocError> {
         // Only the number of the other points matters: their findings wouldn't be kept.
         if self.more {
             return Ok(());
         }
-        let alloc = self.alloc;
         let [id, ceiling, connectors] = fields;
-        let mut faults = Vec::new(alloc);
-        if let Some(fault) = self.id_fault(index, &id)? {
-            faults.push(fault)?;
-        }
+        self.check_id(index, id)?;
         let most = ceiling.value.and_then(ceiling_of);
         if most.is_none() {
-            faults.push(format!(in alloc; "{ceiling}")?)?;
+            self.add_field_fault(index, id, ceiling)?;
         }
-        let mut together = 0;
-        if let Some(Glance::List) = connectors.value {
-            together = list.add_faults(alloc, &mut faults)?;
-        } else {
-            faults.push(format!(in alloc; "{connectors}")?)?;
-        }
-        for fault in faults {
-            self.add(Finding::fault(place_of(alloc, index, &id)?, fault))?;
-        }
+        let Some(Glance::List) = connectors.value else {
+            return self.add_field_fault(index, id, connectors);
+        };
+        let together = list.together();
+        self.check_connectors(index, id, list)?;
         match most {
-            Some(most) if together > most => {
-                let message = together_message(alloc, most, together)?;
-                self.add(Finding::remark(place_of(alloc, index, &id)?, message))
-            }
+            Some(most) if together > most => self.add_remark(index, id, most, together),
             _ => Ok(()),
         }
     }
 
-    /// Describes, for `check`, the fault of the `id` of a site file's point, if it isn't valid or
-    /// is that of an earlier point. Otherwise notes the `id`.
-    fn id_fault(
+    /// Adds the fault of `check` of the `id` of a site file's point, if it isn't valid or is that
+    /// of an earlier point. Otherwise notes the `id`.
+    fn check_id(&mut self, index: usize, id: &KnownField<'_>) -> Result<(), AllocError> {
+        match id.value {
+            Some(Glance::Text(text)) if is_point_id(text) => self.note_id(index, id, text),
+            _ => self.add_field_fault(index, id, id),
+        }
+    }
+
+    /// Notes the valid `id` of a site file's point, or adds the fault of `check` if it is that of
+    /// an earlier point.
+    fn note_id(&mut self, index: usize, id: &KnownField<'_>, text: &str) -> Result<(), AllocError> {
+        if let Some(earlier) = self.places.get(text).copied() {
+            let message = format!(in self.alloc;
+                "id: points[{earlier}] has it too; each point has its own"
+            )?;
+            return self.add_fault(index, id, message);
+        }
+        self.places
+            .insert(String::from_str(self.alloc, text)?, index)?;
+        Ok(())
+    }
+
+    /// Adds the faults of the list of a point's connectors in a site file, for `check`.
+    fn check_connectors(
         &mut self,
         index: usize,
         id: &KnownField<'_>,
-    ) -> Result<Option<String>, AllocError> {
-        let alloc = self.alloc;
-        match id.value {
-            Some(Glance::Text(text)) if is_point_id(text) => {
-                if let Some(earlier) = self.places.get(text) {
-                    let message = format!(in alloc;
-                        "id: points[{earlier}] has it too; each point has its own"
-                    )?;
-                    return Ok(Some(message));
-                }
-                self.places.insert(String::from_str(alloc, text)?, index)?;
-                Ok(None)
-            }
-            _ => Ok(Some(format!(in alloc; "{id}")?)),
+        list: &mut Connectors,
+    ) -> Result<(), AllocError> {
+        let count = list.count;
+        if count == 0 || count > MAX_CONNECTORS {
+            let message = format!(in self.alloc;
+                "connectors: {count} entries; expected 1 to {MAX_CONNECTORS}"
+            )?;
+            self.add_fault(index, id, message)?;
         }
+        for message in list.wrong.drain(..) {
+            self.add_fault(index, id, message)?;
+        }
+        Ok(())
+    }
+
+    /// Adds the fault of `check` of a field of a site file's point.
+    fn add_field_fault<'a>(
+        &mut self,
+        index: usize,
+        id: &KnownField<'a>,
+        field: &KnownField<'a>,
+    ) -> Result<(), AllocError> {
+        let message = format!(in self.alloc; "{field}")?;
+        self.add_fault(index, id, message)
+    }
+
+    /// Adds a fault of `check` in a point of a site file.
+    fn add_fault(
+        &mut self,
+        index: usize,
+        id: &KnownField<'_>,
+        message: String,
+    ) -> Result<(), AllocError> {
+        let place = place_of(self.alloc, index, id)?;
+        self.add(Finding::fault(place, message))
+    }
+
+    /// Adds the remark of `check` that the ceilings of a point's connectors in a site file add up
+    /// to more than the point's.
+    fn add_remark(
+        &mut self,
+        index: usize,
+        id: &KnownField<'_>,
+        ceiling: u64,
+        together: u64,
+    ) -> Result<(), AllocError> {
+        let message = together_message(self.alloc, ceiling, together)?;
+        let place = place_of(self.alloc, index, id)?;
+        self.add(Finding::remark(place, message))
     }
 
     /// Adds a finding of `check` in the points of a site file, unless there are too many.
@@ -207,24 +237,13 @@ impl CheckedPoints {
 
     /// Appends the findings of `check` in the points of a site file: a fault if there are too few
     /// or too many points, those in each, and a warning if there are more findings.
-    pub(crate) fn append_to(self, findings: &mut Vec<Finding>) -> Result<(), AllocError> {
-        let CheckedPoints {
-            alloc,
-            count,
-            findings: mut found,
-            more,
-            ..
-        } = self;
-        if count == 0 || count > MAX_POINTS {
-            let message = format!(in alloc; "points: {count} entries; expected 1 to {MAX_POINTS}")?;
-            findings.push(Finding::fault(Location::File, message))?;
+    pub(crate) fn append_to(&mut self, findings: &mut Vec<Finding>) -> Result<(), AllocError> {
+        if self.count == 0 || self.count > MAX_POINTS {
+            add_count_fault(self.alloc, self.count, findings)?;
         }
-        findings.append(&mut found)?;
-        if more {
-            let message = format!(in alloc;
-                "there are more than {MAX_FOUND} faults and remarks; the others aren't listed"
-            )?;
-            findings.push(Finding::warning(Location::File, message))?;
+        findings.append(&mut self.findings)?;
+        if self.more {
+            warn_more(self.alloc, findings)?;
         }
         Ok(())
     }
@@ -238,6 +257,42 @@ impl Connectors {
             together: 0,
             wrong: Vec::new(alloc),
         }
+    }
+
+    /// Reads the fields of a point of a site file for `check`, with the ceilings in its list of
+    /// connectors.
+    fn read_point<'a>(
+        &mut self,
+        pass: &mut SitePass<'a>,
+        reader: &mut Reader<'a>,
+        fields: &mut [KnownField<'a>],
+    ) -> Result<(), Invalid> {
+        for _ in 0..pass.text.len() {
+            let Some(place) = pass.next_field(reader, fields)? else {
+                break;
+            };
+            let value = self.read_field(pass, reader, place)?;
+            if let Some(field) = fields.get_mut(place) {
+                field.value = Some(value);
+            }
+        }
+        Ok(())
+    }
+
+    /// Reads the value of a field of a point in a site file for `check`.
+    fn read_field<'a>(
+        &mut self,
+        pass: &mut SitePass<'a>,
+        reader: &mut Reader<'a>,
+        place: usize,
+    ) -> Result<Glance<'a>, Invalid> {
+        if place != CONNECTORS || !pass.begins(reader, b'[') {
+            return pass.read_value(reader);
+        }
+        // Of duplicate fields the last one counts. The earlier messages are freed first.
+        *self = Connectors::new(pass.alloc);
+        self.read(pass, reader)?;
+        Ok(Glance::List)
     }
 
     /// Reads for `check` the list of the ceilings of a point's connectors in a site file, which has
@@ -271,23 +326,36 @@ impl Connectors {
         Ok(())
     }
 
-    /// Adds the faults of the list of a point's connectors in a site file, for `check`. Returns the
-    /// sum of their ceilings, 0 if one isn't valid.
-    fn add_faults(self, alloc: Global, faults: &mut Vec<String>) -> Result<u64, AllocError> {
-        let Connectors {
-            count,
-            together,
-            mut wrong,
-        } = self;
-        if count == 0 || count > MAX_CONNECTORS {
-            faults.push(format!(in alloc;
-                "connectors: {count} entries; expected 1 to {MAX_CONNECTORS}"
-            )?)?;
+    /// Returns the sum of the ceilings of a point's connectors in a site file, 0 if one isn't valid,
+    /// for a remark of `check`.
+    fn together(&self) -> u64 {
+        if self.wrong.is_empty() {
+            self.together
+        } else {
+            0
         }
-        let sum = if wrong.is_empty() { together } else { 0 };
-        faults.append(&mut wrong)?;
-        Ok(sum)
     }
+}
+
+/// Adds to the findings of `check` the fault that a site file has too few or too many points.
+fn add_count_fault(
+    alloc: Global,
+    count: usize,
+    findings: &mut Vec<Finding>,
+) -> Result<(), AllocError> {
+    let message = format!(in alloc; "points: {count} entries; expected 1 to {MAX_POINTS}")?;
+    findings.push(Finding::fault(Location::File, message))?;
+    Ok(())
+}
+
+/// Adds to the findings of `check` a warning that the points of a site file have more than are
+/// listed.
+fn warn_more(alloc: Global, findings: &mut Vec<Finding>) -> Result<(), AllocError> {
+    let message = format!(in alloc;
+        "there are more than {MAX_FOUND} faults and remarks; the others aren't listed"
+    )?;
+    findings.push(Finding::warning(Location::File, message))?;
+    Ok(())
 }
 
 /// Returns the ceiling of a point or a connector in a site file, in tenths, if its value is valid,

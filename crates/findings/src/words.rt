@@ -15,11 +15,12 @@ impl fmt::Display for Excerpt<'_> {
     fn fmt<W: fmt::Write>(&self, f: &mut fmt::Formatter<W>) -> fmt::Result {
         for character in self.0.chars().take(MAX_EXCERPT) {
             // A finding is one line, which a line feed in the checked text would break.
-            if character.is_control() {
-                f.write_char('\u{fffd}')?;
+            let shown = if character.is_control() {
+                '\u{fffd}'
             } else {
-                f.write_char(character)?;
-            }
+                character
+            };
+            f.write_char(shown)?;
         }
         match self.0.chars().nth(MAX_EXCERPT) {
             Some(_) => f.write_str(".."),
