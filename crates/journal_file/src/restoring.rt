@@ -12,7 +12,7 @@ use crate::opening::OpenJournal;
 use crate::restored_journal::RestoredJournal;
 use ghost_list::{ListName, Unnamed};
 use journal::{Unrestored, lose_links, push_header, restore, split_line};
-use ocpp_scalars::{Instant, Moments, SystemClock};
+use ocpp_scalars::{Moments, SystemClock};
 use replay::Progress;
 use site_core::Machine;
 use site_status::RestoredCalls;
@@ -38,6 +38,15 @@ pub struct Resumed {
     pub restored: Vec<RestoredCalls>,
 }
 
+/// The journal file of a site whose book it restored, at the start of `run`.
+#[derive(Drop)]
+struct RestoredSite {
+    journal: RestoredJournal,
+    /// The lines to add to it.
+    added: String,
+    resumed: Resumed,
+}
+
 /// Restores the book that sessions will share from its journal, with a pass of its own. Returns the
 /// journal, with all its lines on disk, and the figures of the site.
 pub fn restore_shared<
@@ -56,36 +65,63 @@ pub fn restore_shared<
     requires { syncs.name ≡ N.companion }
 {
     let mut pass = pass;
-    let Some(now) = (SystemClock { rt }).now() else {
-        return Err(FolderFault::Clock);
-    };
     let boots = String::from_str(rt.alloc(), opened.boots.as_str())?;
     let mut book = shared.lock(rt);
-    let mut call_lines = CallLines::new(rt.alloc(), book.present().site().len())?;
-    let (restored, mut added) = restore_book(
-        rt,
-        opened,
-        digest,
-        &mut book,
-        &mut pass,
-        &mut call_lines,
-        now,
-    )?;
-    note_earlier_boots(rt, boots.as_str(), &mut book, &mut added)?;
-    let resumed = count_resumed(book.present(), call_lines.into_points()?);
+    let restored = restore_site(rt, opened, digest, &mut book, &mut pass);
     let states = book.recorded();
     drop(book);
-    let journal = JournalFile::make(*rt, restored, added.as_str(), states, syncs)?;
+    let RestoredSite {
+        journal,
+        added,
+        resumed,
+    } = restored?;
+    let journal = JournalFile::make(*rt, journal, added.as_str(), states, syncs)?;
+    keep_restored(rt, &journal, boots.as_str())?;
+    Ok((journal, resumed))
+}
+
+/// Writes the lines that the start of `run` adds to its journal file, and syncs it. Then the file
+/// of boots that earlier versions kept beside it isn't needed any more.
+fn keep_restored<R: Files<File = File> + Eprint + AllocGlobal + Clock + Wait + Drop, N: ListName>(
+    rt: &R,
+    journal: &JournalFile<R, N>,
+    boots: &str,
+) -> Result<(), FolderFault> {
     let kept = journal.keep_all();
     // No thread writes these lines yet.
     journal.write_log_lines();
-    match kept {
-        Ok(()) => {
-            remove_earlier_boots(rt, boots.as_str());
-            Ok((journal, resumed))
-        }
-        Err(_) => Err(FolderFault::Write),
+    if kept.is_err() {
+        return Err(FolderFault::Write);
     }
+    remove_earlier_boots(rt, boots);
+    Ok(())
+}
+
+/// Restores a site's book from its journal file at the start of `run`, with the boots that earlier
+/// versions kept beside the journal. Returns the journal with the lines to add to it, and the
+/// figures of the site.
+fn restore_site<
+    C: Ledger,
+    A: Ledger,
+    R: Files<File = File> + Eprint + AllocGlobal + Clock,
+    N: ListName,
+>(
+    rt: &R,
+    opened: OpenJournal,
+    digest: &[u8; 32],
+    book: &mut Book<C, A, N>,
+    pass: &mut Pass<C, A>,
+) -> Result<RestoredSite, FolderFault> {
+    let boots = String::from_str(rt.alloc(), opened.boots.as_str())?;
+    let mut call_lines = CallLines::new(rt.alloc(), book.present().site().len())?;
+    let (journal, mut added) = restore_book(rt, opened, digest, book, pass, &mut call_lines)?;
+    note_earlier_boots(rt, boots.as_str(), book, &mut added)?;
+    let resumed = count_resumed(book.present(), call_lines.into_points()?);
+    Ok(RestoredSite {
+        journal,
+        added,
+        resumed,
+    })
 }
 
 /// Restores a site's book from its journal file at the start of `run`, each step with the number it
@@ -104,9 +140,11 @@ fn restore_book<
     book: &mut Book<C, A, N>,
     pass: &mut Pass<C, A>,
     call_lines: &mut CallLines,
-    now: Instant,
 ) -> Result<(RestoredJournal, String), FolderFault> {
     let alloc = rt.alloc();
+    let Some(now) = (SystemClock { rt }).now() else {
+        return Err(FolderFault::Clock);
+    };
     let mut opened = opened;
     let mut journal = JournalLines::new(alloc);
     let restored = restore_lines(rt, &mut opened.lines, &mut journal, book, pass, call_lines);
