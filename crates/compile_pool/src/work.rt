@@ -59,8 +59,8 @@ fn work_within(view: &View<'_>, ask: &Ask, most: u64) -> Option<u64>
     Some(most - left)
 }
 
-/// Counts a charge point's connectors with an active transaction, to find the work of a worker's
-/// job.
+/// Counts a charge point's connectors with an active transaction. The pool estimates by it whether
+/// a job is a short one for its workers.
 fn active_count(starts: &[Option<Instant>]) -> u32
     requires few { length starts.now < 2 ^ 32 }
     ensures { result ≡ active_count starts.now }

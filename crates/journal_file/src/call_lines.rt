@@ -146,8 +146,8 @@ impl PointLines {
     }
 }
 
-/// Returns the reply by which a point confirmed its call, if a line of the journal has one. The
-/// start of `run` finds rejected calls by it.
+/// Returns the reply by which a point confirmed its call, if a line of the journal file has one. In
+/// these, `run` finds the rejected calls while it restores the file.
 fn reply_in<'a>(line: &Line<'a>) -> Option<&'a str> {
     match line.noted {
         Noted::Reply { frame, .. } => Some(frame),

@@ -197,7 +197,8 @@ impl JournalLines {
         Ok(())
     }
 
-    /// Returns the fault that the next line of a journal's file doesn't name a site file.
+    /// Returns the fault that the next line of a journal's file doesn't name a site file. `run`
+    /// reports it at its start, and so do the commands that read a journal.
     fn no_site_line(&self, fault: HeaderFault) -> FolderFault {
         FolderFault::Header {
             line: self.count.saturating_add(1),

@@ -86,7 +86,8 @@ fn push_time(out: &mut String, seconds: u32) -> Result<(), AllocError>
     push_two(out, (seconds % 60) as u8)
 }
 
-/// Appends a number below 100 in two digits, as a part of an OCPP timestamp.
+/// Appends a number below 100 as two digits: a part of the date or of the time of day in the text of
+/// an instant.
 fn push_two(out: &mut String, number: u8) -> Result<(), AllocError>
     requires { number < 100 }
     ensures { Appends result (string_bytes out.old) (string_bytes out.new) (in_digits 2 number) }

@@ -81,8 +81,8 @@ fn no_places() -> RowIndexes
     [NO_ROW; LEVELS]
 }
 
-/// Stores the index of a charge point's row (installed profile) at its stack level in the table of
-/// levels. The table leads from a level to the row that applies there.
+/// Stores the index of a charge point's row (installed profile) in the table that maps each stack
+/// level to its row. The profiles in force are found in it.
 fn set_place(places: &mut RowIndexes, level: usize, place: u8)
     requires level { level < 100 }
     ensures here { slice_index places.new level ≡ place }

@@ -20,10 +20,11 @@ use crate::history::History;
 use crate::ledgers::Ledgers;
 use crate::pass::{Pass, passes_of};
 use crate::recorded_states::{NoName, RecordedStates, StateRecorder};
-use crate::recorder::make_recorded;
+use crate::recorder::{make_recorded, refusal_of};
 use crate::stored_event::StoredEvent;
 use crate::totals::Totals;
 use ghost_list::{ListName, Unnamed};
+use ocpp_scalars::Refusal;
 use site_core::{Machine, Refused, Reply, Step};
 use site_rules::Site;
 use std::alloc::{AllocError, Global};
@@ -176,6 +177,23 @@ impl<C: Ledger, A: Ledger, N: ListName> Book<C, A, N> {
         self.ledgers
             .count(pass, &reply, self.history.made(), version);
         Ok(reply)
+    }
+
+    /// Makes a step of a session for the book's methods whose arguments don't come back on a
+    /// refusal.
+    fn reply_to(&mut self, pass: &mut Pass<C, A>, step: Step) -> Result<Reply, Refusal>
+        requires { may_fold step ≡ true }
+        ensures calls { IfOk result
+            (λ reply. Calls self.old pass.old step reply self.new pass.new) }
+        ensures own { IfOk result (λ reply. is_reply_to step reply ≡ true) }
+        ensures asked { IfOk result HasAskedConnector }
+        ensures refusal { IfErr result (λ refusal. IsRefusalOf self.old step refusal) }
+        ensures kept { IfErr result (λ refusal. (self.new ≡ self.old) × (pass.new ≡ pass.old)) }
+    {
+        match self.make_step(pass, step) {
+            Ok(reply) => Ok(reply),
+            Err(refused) => Err(refusal_of(refused)),
+        }
     }
 
     /// Returns the number of stored events. Also shows the invariant of a book. Its present state

@@ -143,8 +143,8 @@ fn text_of_row(alloc: Global, row: &Row) -> Result<String, AllocError> {
     Ok(text)
 }
 
-/// Appends the message by which a session, like an operator, installs a profile of its point again
-/// after a boot. It asks the central system for this call.
+/// Appends the message with which a session installs a profile of its point again after a boot, as
+/// an operator's message would.
 fn push_message(text: &mut String, body: &CallBody) -> Result<(), AllocError> {
     push_call_head(text, MESSAGE_ID, body.action())?;
     push_payload(text, body)?;

@@ -41,10 +41,9 @@ impl<C: Ledger, A: Ledger, N: ListName> Book<C, A, N> {
             connector,
             duration,
         };
-        match self.make_step(pass, step) {
-            Ok(Reply::Audited { call, .. }) => Ok(call),
-            Ok(_) => unreachable!(),
-            Err(refused) => Err(refused.refusal),
+        match self.reply_to(pass, step)? {
+            Reply::Audited { call, .. } => Ok(call),
+            _ => unreachable!(),
         }
     }
 
@@ -91,10 +90,9 @@ impl<C: Ledger, A: Ledger, N: ListName> Book<C, A, N> {
         ensures pass { IfErr result (λ refusal. pass.new ≡ pass.old) }
         ensures kept { self.new ≡ self.old }
     {
-        match self.make_step(pass, Step::Status(point)) {
-            Ok(Reply::Status(status)) => Ok(status),
-            Ok(_) => unreachable!(),
-            Err(refused) => Err(refused.refusal),
+        match self.reply_to(pass, Step::Status(point))? {
+            Reply::Status(status) => Ok(status),
+            _ => unreachable!(),
         }
     }
 

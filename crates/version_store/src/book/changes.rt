@@ -66,11 +66,10 @@ impl<C: Ledger, A: Ledger, N: ListName> Book<C, A, N> {
             (steps.Clear point criteria) refusal) }
         ensures kept { IfErr result (λ refusal. (self.new ≡ self.old) × (pass.new ≡ pass.old)) }
     {
-        match self.make_step(pass, Step::Clear { point, criteria }) {
-            Ok(Reply::Accepted) => Ok(true),
-            Ok(Reply::Unknown) => Ok(false),
-            Ok(_) => unreachable!(),
-            Err(refused) => Err(refused.refusal),
+        match self.reply_to(pass, Step::Clear { point, criteria })? {
+            Reply::Accepted => Ok(true),
+            Reply::Unknown => Ok(false),
+            _ => unreachable!(),
         }
     }
 
@@ -124,11 +123,10 @@ impl<C: Ledger, A: Ledger, N: ListName> Book<C, A, N> {
             (steps.Stop point transaction) refusal) }
         ensures kept { IfErr result (λ refusal. (self.new ≡ self.old) × (pass.new ≡ pass.old)) }
     {
-        match self.make_step(pass, Step::Stop { point, transaction }) {
-            Ok(Reply::Ended) => Ok(true),
-            Ok(Reply::NoSuch) => Ok(false),
-            Ok(_) => unreachable!(),
-            Err(refused) => Err(refused.refusal),
+        match self.reply_to(pass, Step::Stop { point, transaction })? {
+            Reply::Ended => Ok(true),
+            Reply::NoSuch => Ok(false),
+            _ => unreachable!(),
         }
     }
 }

@@ -8,7 +8,7 @@ ghost use Rattle.version_store.specs.Calls.{Calls, Makes, IsRefusalOf, sending};
 
 use crate::book::Book;
 use crate::pass::Pass;
-use crate::recorder::make_recorded;
+use crate::recorder::make_recorded_or_drop;
 use ghost_list::ListName;
 use messages::Call;
 use ocpp_scalars::{Instant, Refusal};
@@ -24,10 +24,9 @@ impl<C: Ledger, A: Ledger, N: ListName> Book<C, A, N> {
             IsRefusalOf self.old (steps.Attach point) refusal) }
         ensures kept { IfErr result (λ refusal. (self.new ≡ self.old) × (pass.new ≡ pass.old)) }
     {
-        match self.make_step(pass, Step::Attach(point)) {
-            Ok(Reply::Attached(link)) => Ok(link),
-            Ok(_) => unreachable!(),
-            Err(refused) => Err(refused.refusal),
+        match self.reply_to(pass, Step::Attach(point))? {
+            Reply::Attached(link) => Ok(link),
+            _ => unreachable!(),
         }
     }
 
@@ -40,15 +39,11 @@ impl<C: Ledger, A: Ledger, N: ListName> Book<C, A, N> {
             IsRefusalOf self.old (steps.Send point link) refusal) }
         ensures kept { IfErr result (λ refusal. self.new ≡ self.old) }
     {
-        match make_recorded(
-            &mut self.history,
-            &mut self.recorder,
-            Step::Send { point, link },
-        ) {
-            Ok(Reply::Sent(call)) => Ok(Some(call)),
-            Ok(Reply::Nothing) => Ok(None),
-            Ok(_) => unreachable!(),
-            Err(refused) => Err(refused.refusal),
+        let step = Step::Send { point, link };
+        match make_recorded_or_drop(&mut self.history, &mut self.recorder, step)? {
+            Reply::Sent(call) => Ok(Some(call)),
+            Reply::Nothing => Ok(None),
+            _ => unreachable!(),
         }
     }
 
@@ -73,10 +68,9 @@ impl<C: Ledger, A: Ledger, N: ListName> Book<C, A, N> {
             call,
             accepted,
         };
-        match make_recorded(&mut self.history, &mut self.recorder, step) {
-            Ok(Reply::Confirmed) => Ok(()),
-            Ok(_) => unreachable!(),
-            Err(refused) => Err(refused.refusal),
+        match make_recorded_or_drop(&mut self.history, &mut self.recorder, step)? {
+            Reply::Confirmed => Ok(()),
+            _ => unreachable!(),
         }
     }
 
@@ -88,14 +82,10 @@ impl<C: Ledger, A: Ledger, N: ListName> Book<C, A, N> {
             IsRefusalOf self.old (steps.Lost point link) refusal) }
         ensures kept { IfErr result (λ refusal. self.new ≡ self.old) }
     {
-        match make_recorded(
-            &mut self.history,
-            &mut self.recorder,
-            Step::Lost { point, link },
-        ) {
-            Ok(Reply::LinkLost) => Ok(()),
-            Ok(_) => unreachable!(),
-            Err(refused) => Err(refused.refusal),
+        let step = Step::Lost { point, link };
+        match make_recorded_or_drop(&mut self.history, &mut self.recorder, step)? {
+            Reply::LinkLost => Ok(()),
+            _ => unreachable!(),
         }
     }
 
@@ -108,14 +98,10 @@ impl<C: Ledger, A: Ledger, N: ListName> Book<C, A, N> {
             IsRefusalOf self.old (steps.Boot point moment) refusal) }
         ensures kept { IfErr result (λ refusal. self.new ≡ self.old) }
     {
-        match make_recorded(
-            &mut self.history,
-            &mut self.recorder,
-            Step::Boot { point, moment },
-        ) {
-            Ok(Reply::Booted(first)) => Ok(first),
-            Ok(_) => unreachable!(),
-            Err(refused) => Err(refused.refusal),
+        let step = Step::Boot { point, moment };
+        match make_recorded_or_drop(&mut self.history, &mut self.recorder, step)? {
+            Reply::Booted(first) => Ok(first),
+            _ => unreachable!(),
         }
     }
 }
