@@ -29,9 +29,10 @@ impl<'a> PlayedScript<'a> {
     {
         let mut calls = SiteCalls::new(alloc, site.len())?;
         let mut playing = Playing::new(alloc, script, site)?;
+        let last_line = last_line.unwrap_or(u64::MAX);
         // Bounds the loop: each line has at least one byte.
         for _line in 0..script.len() {
-            if last_line.is_some_and(|last| last < playing.next_line()) {
+            if last_line < playing.next_line() {
                 break;
             }
             match playing.follow_next()? {
