@@ -126,19 +126,28 @@ fn break_at(text: &str, offset: usize, is_whole: bool) -> JsonBreak {
 fn hint_of(before: Option<char>, found: char) -> Option<&'static str> {
     match (before, found) {
         (Some(','), ']' | '}') => Some("the comma before it is one too many"),
-        (_, '\'') => Some("JSON strings have double quotes"),
-        (_, '\u{201c}' | '\u{201d}' | '\u{201e}' | '\u{2018}' | '\u{2019}' | '\u{ab}' | '\u{bb}') =>
-            { Some("a typographic quote; JSON has the straight one") }
-        (_, '\u{feff}') => Some("a byte order mark; save the file without it"),
-        (_, '\u{a0}') => Some("a no-break space; JSON has only the ordinary space"),
-        (_, '#' | '/') => Some("JSON has no comments"),
-        (_, 'N' | 'T' | 'F') => Some("true, false and null are in lower case"),
         (None | Some(',' | ':' | '[' | '{'), '"') => Some(
             "the string there has no end, or isn't allowed as it is",
         ),
         (Some('"' | ']' | '}' | 'a'..='z' | '0'..='9'), '"' | '{' | '[' | '0'..='9') => Some(
             "a comma is missing before it",
         ),
+        _ => hint_at(found),
+    }
+}
+
+/// Returns the cure of a common mistake, for the finding that a site file or a message stops being
+/// JSON: at a character that JSON has only in strings.
+fn hint_at(found: char) -> Option<&'static str> {
+    match found {
+        '\'' => Some("JSON strings have double quotes"),
+        '\u{201c}' | '\u{201d}' | '\u{201e}' | '\u{2018}' | '\u{2019}' | '\u{ab}' | '\u{bb}' => {
+            Some("a typographic quote; JSON has the straight one")
+        }
+        '\u{feff}' => Some("a byte order mark; save the file without it"),
+        '\u{a0}' => Some("a no-break space; JSON has only the ordinary space"),
+        '#' | '/' => Some("JSON has no comments"),
+        'N' | 'T' | 'F' => Some("true, false and null are in lower case"),
         _ => None,
     }
 }

@@ -59,23 +59,30 @@ fn replaced(
     came: PrevailingProfile,
     gone: PrevailingProfile,
 ) -> Result<Finding, AllocError> {
+    let message = replaced_message(alloc, came, gone)?;
     let place = Location::line(number);
-    let (purpose, id) = (purpose_name(came.purpose), came.id);
-    let name = named(alloc, gone)?;
-    if id != gone.id {
-        let message = format!(in alloc;
-            "{purpose} {id} takes the place of {name}, which has its connector, purpose and stack level"
-        )?;
-        return Ok(Finding::remark(place, message));
-    }
-    let message = format!(in alloc;
-        "{purpose} {id} takes the place of {name}, which has the same chargingProfileId"
-    )?;
     // With the same id and purpose this updates a profile; another purpose is probably a mistake.
-    if came.purpose == gone.purpose {
-        return Ok(Finding::remark(place, message));
+    if came.id == gone.id && came.purpose != gone.purpose {
+        return Ok(Finding::warning(place, message));
     }
-    Ok(Finding::warning(place, message))
+    Ok(Finding::remark(place, message))
+}
+
+/// Describes, for a finding of `check` or `call`, a profile of a point that an install replaced.
+fn replaced_message(
+    alloc: Global,
+    came: PrevailingProfile,
+    gone: PrevailingProfile,
+) -> Result<String, AllocError> {
+    let purpose = purpose_name(came.purpose);
+    let id = came.id;
+    let same = if id == gone.id {
+        "the same chargingProfileId"
+    } else {
+        "its connector, purpose and stack level"
+    };
+    let name = named(alloc, gone)?;
+    format!(in alloc; "{purpose} {id} takes the place of {name}, which has {same}")
 }
 
 /// Makes the warning of `check` or `call` that a ClearChargingProfile removed a fuse limit (a
@@ -104,7 +111,7 @@ fn named(alloc: Global, profile: PrevailingProfile) -> Result<String, AllocError
 fn clears_at_large(alloc: Global, text: &str) -> Result<bool, AllocError> {
     let mut memory = ReadingMemory::new(alloc);
     match read_frame(&mut memory, text) {
-        Ok(frame) => is_clear_at_large(alloc, frame),
+        Ok(frame) => is_clear_at_large(alloc, &frame),
         Err(FrameFault::OutOfMemory) => Err(AllocError),
         Err(_) => Ok(false),
     }
@@ -112,7 +119,7 @@ fn clears_at_large(alloc: Global, text: &str) -> Result<bool, AllocError> {
 
 /// Returns whether a frame is a ClearChargingProfile with criteria but no id or purpose. If so,
 /// `check` or `call` reports each fuse limit among the point's profiles that it removed.
-fn is_clear_at_large(alloc: Global, frame: Frame<'_>) -> Result<bool, AllocError> {
+fn is_clear_at_large(alloc: Global, frame: &Frame<'_>) -> Result<bool, AllocError> {
     match frame {
         Frame::Call {
             action,
@@ -130,9 +137,18 @@ fn is_clear_at_large(alloc: Global, frame: Frame<'_>) -> Result<bool, AllocError
 /// If so, `check` or `call` reports each fuse limit among the point's profiles that it removed.
 fn has_large_criteria(alloc: Global, payload: Node<'_, '_>) -> Result<bool, AllocError> {
     match read_fields(alloc, ActionKind::ClearChargingProfile, payload) {
-        Ok(Action::ClearChargingProfile(criteria)) => Ok(is_at_large(&criteria)),
+        Ok(action) => Ok(clears_by_large_criteria(&action)),
         Err(CallFault::Refused(Refusal::OutOfMemory)) => Err(AllocError),
-        _ => Ok(false),
+        Err(_) => Ok(false),
+    }
+}
+
+/// Returns whether an action is a ClearChargingProfile with criteria but neither id nor purpose. If
+/// so, `check` or `call` reports each fuse limit among the point's profiles that it removed.
+fn clears_by_large_criteria(action: &Action) -> bool {
+    match action {
+        Action::ClearChargingProfile(criteria) => is_at_large(criteria),
+        _ => false,
     }
 }
 

@@ -3,8 +3,8 @@
 ghost use Rattle.std.specs.Prelude.{◌↔◌, IfOk, IsSome};
 ghost use Rattle.profile_findings.specs.Fuse.{IsRaised, IsRaisedOrGone};
 
-use crate::installed_check::highest_limit;
-use findings::{Finding, Location, tenths_text};
+use crate::installed_check::{finding_at_end, highest_limit};
+use findings::{Finding, Location, Severity, tenths_text};
 use messages::unit_name;
 use point_book::PointBook;
 use profile::{Purpose, Unit};
@@ -39,8 +39,8 @@ pub fn check_fuse(
         Some(now) if now > was => raised_message(alloc, unit, was, now)?,
         Some(_) => return Ok(None),
     };
-    let place = Location::End(String::from_str(alloc, point)?);
-    Ok(Some(Finding::warning(place, message)))
+    let finding = finding_at_end(alloc, Severity::Warning, point, message)?;
+    Ok(Some(finding))
 }
 
 /// Returns a remark on the line of this number if it raises the fuse limit of its point.
@@ -66,12 +66,11 @@ pub fn check_raise(
 
 /// Makes the remark that the point of this identity, unlike most of its site, has no fuse limit.
 pub fn check_unlimited(alloc: Global, point: &str) -> Result<Finding, AllocError> {
-    let place = Location::End(String::from_str(alloc, point)?);
     let message = String::from_str(
         alloc,
         "it has no ChargePointMaxProfile, though most points of the site do",
     )?;
-    Ok(Finding::remark(place, message))
+    finding_at_end(alloc, Severity::Remark, point, message)
 }
 
 /// Describes, for a warning before `call` sends a message, that it removes the point's fuse limit

@@ -21,47 +21,46 @@ pub fn check_installed_profiles(
     book: &PointBook,
 ) -> Result<Vec<Finding>, AllocError> {
     let view = book.view();
-    let mut findings = hidden_defaults(alloc, point, &view)?;
-    findings.append(&mut lifted_limits(alloc, unit, point, &view)?)?;
-    if let Some(finding) = excess_finding(alloc, unit, point, book)? {
-        findings.push(finding)?;
-    }
+    let mut findings = Vec::new(alloc);
+    add_hidden(alloc, point, &view, &mut findings)?;
+    add_lifted(alloc, unit, point, &view, &mut findings)?;
+    add_excess(alloc, unit, point, book, &mut findings)?;
     Ok(findings)
 }
 
-/// Returns a warning of `check` or `call` for each TxDefaultProfile of a point at connector 0 that
-/// may prevail at no connector.
-fn hidden_defaults(
+/// Adds to the findings of `check` or `call` a warning for each TxDefaultProfile of a point at
+/// connector 0 that may prevail at no connector.
+fn add_hidden(
     alloc: Global,
     point: &str,
     view: &View<'_>,
-) -> Result<Vec<Finding>, AllocError> {
-    let mut findings = Vec::new(alloc);
+    findings: &mut Vec<Finding>,
+) -> Result<(), AllocError> {
     for row in view.rows {
         if is_hidden_everywhere(view, row) {
             let message = hidden_message(alloc, row)?;
             findings.push(finding_at_end(alloc, Severity::Warning, point, message)?)?;
         }
     }
-    Ok(findings)
+    Ok(())
 }
 
-/// Returns a warning of `check` or `call` for each ChargePointMaxProfile of a point that one of a
-/// higher stack level may exceed. It names the first such one.
-fn lifted_limits(
+/// Adds to the findings of `check` or `call` a warning for each ChargePointMaxProfile of a point
+/// that one of a higher stack level may exceed. It names the first such one.
+fn add_lifted(
     alloc: Global,
     unit: Unit,
     point: &str,
     view: &View<'_>,
-) -> Result<Vec<Finding>, AllocError> {
-    let mut findings = Vec::new(alloc);
+    findings: &mut Vec<Finding>,
+) -> Result<(), AllocError> {
     for low in view.rows {
         if let Some(high) = view.rows.iter().find(|high| lifts(high, low)) {
             let message = lifted_message(alloc, unit, high, low)?;
             findings.push(finding_at_end(alloc, Severity::Warning, point, message)?)?;
         }
     }
-    Ok(findings)
+    Ok(())
 }
 
 /// Returns whether a point's ChargePointMaxProfile may allow more than one that it overrides, for a
@@ -95,17 +94,18 @@ fn lowest_limit(row: &Row) -> u32 {
     lowest
 }
 
-/// Makes the finding of `check` or `call` that a point's connectors may draw more together than its
-/// ChargePointMaxProfile allows, if they may.
-fn excess_finding(
+/// Adds to the findings of `check` or `call` that a point's connectors may draw more together than
+/// its ChargePointMaxProfile allows, if they may.
+fn add_excess(
     alloc: Global,
     unit: Unit,
     point: &str,
     book: &PointBook,
-) -> Result<Option<Finding>, AllocError> {
+    findings: &mut Vec<Finding>,
+) -> Result<(), AllocError> {
     let excess = match worst_excess(alloc, book) {
         Ok(Some(excess)) => excess,
-        Ok(None) => return Ok(None),
+        Ok(None) => return Ok(()),
         Err(error) => return Err(error),
     };
     // The ceilings of most points add up to more than the point may draw: alone they are a remark.
@@ -115,12 +115,13 @@ fn excess_finding(
         Severity::Remark
     };
     let message = excess_message(alloc, unit, &excess)?;
-    Ok(Some(finding_at_end(alloc, severity, point, message)?))
+    findings.push(finding_at_end(alloc, severity, point, message)?)?;
+    Ok(())
 }
 
 /// Makes a finding of `check` or `call` in the profiles of the point of this identity after a
 /// script, a journal or a call to be sent.
-fn finding_at_end(
+pub(crate) fn finding_at_end(
     alloc: Global,
     severity: Severity,
     point: &str,
@@ -146,29 +147,41 @@ fn hidden_message(alloc: Global, row: &Row) -> Result<String, AllocError> {
 /// Describes, for a warning of `check` or `call`, a ChargePointMaxProfile that allows more than
 /// another one of a lower stack level.
 fn lifted_message(alloc: Global, unit: Unit, high: &Row, low: &Row) -> Result<String, AllocError> {
-    let unit = unit_name(unit);
     let (above, below) = (high.profile.id, low.profile.id);
-    let most = tenths_text(alloc, u64::from(highest_limit(high)))?;
-    let least = tenths_text(alloc, u64::from(lowest_limit(low)))?;
+    let most = limit_text(alloc, unit, u64::from(highest_limit(high)))?;
+    let least = limit_text(alloc, unit, u64::from(lowest_limit(low)))?;
     format!(in alloc;
-        "ChargePointMaxProfile {above} allows up to {most} {unit}, and {below} only {least} {unit}: while {above} has a limit, {below} doesn't count, since its stack level is lower"
+        "ChargePointMaxProfile {above} allows up to {most}, and {below} only {least}: while {above} has a limit, {below} doesn't count, since its stack level is lower"
     )
+}
+
+/// Writes a limit or a sum of limits, given in tenths, with its unit, for a finding of `check` or
+/// `call`.
+fn limit_text(alloc: Global, unit: Unit, tenths: u64) -> Result<String, AllocError> {
+    let number = tenths_text(alloc, tenths)?;
+    let unit = unit_name(unit);
+    format!(in alloc; "{number} {unit}")
 }
 
 /// Describes, for a finding of `check` or `call`, connectors that may draw more together than the
 /// ChargePointMaxProfile of their point allows.
 fn excess_message(alloc: Global, unit: Unit, excess: &Excess<'_>) -> Result<String, AllocError> {
+    let drawn = drawn_message(alloc, unit, excess)?;
+    let limit = limit_text(alloc, unit, u64::from(excess.limit))?;
+    let id = excess.most.profile.id;
+    format!(in alloc;
+        "if all connectors charge, {drawn}, more than the {limit} of ChargePointMaxProfile {id}: nothing here divides that among them"
+    )
+}
+
+/// Describes, for a finding of `check` or `call`, what a point's connectors may draw together.
+fn drawn_message(alloc: Global, unit: Unit, excess: &Excess<'_>) -> Result<String, AllocError> {
     let what = if excess.is_scheduled {
         "schedules"
     } else {
         "ceilings"
     };
-    let unit = unit_name(unit);
-    let together = tenths_text(alloc, excess.together)?;
+    let together = limit_text(alloc, unit, excess.together)?;
     let since = instant_text(alloc, excess.instant)?;
-    let limit = tenths_text(alloc, u64::from(excess.limit))?;
-    let id = excess.most.profile.id;
-    format!(in alloc;
-        "if all connectors charge, their {what} let them draw {together} {unit} together from {since} on, more than the {limit} {unit} of ChargePointMaxProfile {id}: nothing here divides that among them"
-    )
+    format!(in alloc; "their {what} let them draw {together} together from {since} on")
 }

@@ -8,7 +8,7 @@ use point_book::PointBook;
 use profile::{Purpose, Row};
 use recurrence::{next_change, rate_at, sooner};
 use std::alloc::{AllocError, Global};
-use sweep_compiler::{Turns, explain};
+use sweep_compiler::{Interval, Turns, explain};
 
 /// The length of the checked time, in seconds.
 // The longest recurrence of OCPP 1.6, which has Daily and Weekly.
@@ -79,9 +79,7 @@ pub(crate) fn worst_excess(
         return Ok(None);
     };
     let mut turns = Vec::new(alloc);
-    push_most_turns(&mut turns, &week)?;
-    push_limit_turns(alloc, &mut turns, &week)?;
-    turns.sort_by_key(|turn| turn.second)?;
+    push_turns(alloc, &mut turns, &week)?;
     let Some(overrun) = worst_of(turns.as_slice()) else {
         return Ok(None);
     };
@@ -108,6 +106,17 @@ fn week_of(book: &PointBook) -> Option<Week<'_>> {
         asked,
         duration: duration.min(WEEK),
     })
+}
+
+/// Appends the changes in the week that `check` or `call` examines, sorted by second.
+fn push_turns<'a>(
+    alloc: Global,
+    turns: &mut Vec<WeekTurn<'a>>,
+    week: &Week<'a>,
+) -> Result<(), AllocError> {
+    push_most_turns(turns, week)?;
+    push_limit_turns(alloc, turns, week)?;
+    turns.sort_by_key(|turn| turn.second)
 }
 
 /// Appends the changes of a point's prevailing ChargePointMaxProfile in the week that `check` or
@@ -232,8 +241,19 @@ fn push_turns_of<'a>(
     let Ok(ask) = Ask::try_new(connector, week.asked, week.duration) else {
         return Ok(());
     };
+    let explained = explain(alloc, week.book, &ask, &mut Turns::new())?;
+    push_intervals(turns, explained.intervals(), count)
+}
+
+/// Appends the changes of a connector's limit in its intervals in the week that `check` or `call`
+/// examines, times the number of connectors like it.
+fn push_intervals(
+    turns: &mut Vec<WeekTurn<'_>>,
+    intervals: &[Interval],
+    count: u64,
+) -> Result<(), AllocError> {
     let mut was = 0;
-    for interval in explain(alloc, week.book, &ask, &mut Turns::new())?.intervals() {
+    for interval in intervals {
         let now = u64::from(interval.reason.limit).saturating_mul(count);
         turns.push(WeekTurn {
             second: interval.start,
@@ -283,10 +303,12 @@ fn overrun_of(second: u32, together: u64, most: Option<Most<'_>>) -> Option<Over
 /// Returns the worse of an overrun of a point's ChargePointMaxProfile and a later one, for a
 /// finding of `check` or `call`. If both are equal, returns the first.
 fn worse<'a>(first: Option<Overrun<'a>>, later: Option<Overrun<'a>>) -> Option<Overrun<'a>> {
-    match (first, later) {
-        (Some(first), Some(later)) if later.beyond() <= first.beyond() => Some(first),
-        (first, None) => first,
-        (_, later) => later,
+    let Some(candidate) = later else {
+        return first;
+    };
+    match first {
+        Some(worst) if candidate.beyond() <= worst.beyond() => first,
+        _ => later,
     }
 }
 
