@@ -1,9 +1,10 @@
 //! The strip below a picture's plot that names the cause of each interval's limit.
 
 use crate::drawing::{PictureInput, push_letter};
+use crate::elements::{begin_text, push_size};
 use crate::entries::{LimitEntry, place_of};
 use crate::explained_request::ExplainedRequest;
-use crate::markup::{push_escaped, push_made_escaped};
+use crate::markup::{push_escaped, push_made_escaped, push_number};
 use crate::scale::{BOTTOM, LEFT, Scale};
 use crate::steps::MAX_INTERVALS;
 use crate::words::{push_length, push_limit, push_short_cause, push_why};
@@ -24,13 +25,10 @@ pub(crate) fn push_causes(
     out: &mut Page,
     sketch: PictureInput<'_>,
 ) -> Result<(), AllocError> {
-    let (x, base) = (LEFT - 10, UPPER + 17);
-    write!(
-        out,
-        "<text class=\"end soft\" x=\"{x}\" y=\"{base}\">set by</text>\n"
-    );
+    begin_text(out, "end soft", LEFT - 10, UPPER + 17);
+    out.push_str("set by</text>\n");
     let mut is_odd = false;
-    for interval in sketch.explained.intervals.iter().take(MAX_INTERVALS) {
+    for interval in sketch.explained.first_intervals(MAX_INTERVALS) {
         let field = IntervalBand::of(sketch.scale, interval, is_odd);
         // A field without width can't be seen.
         if field.breadth > 0 {
@@ -73,20 +71,36 @@ fn push_field(
     explained: &ExplainedRequest<'_>,
     field: IntervalBand<'_>,
 ) {
-    let (x, width, height) = (field.left, field.breadth, LOWER - UPPER);
-    let class = if field.is_odd { "cause odd" } else { "cause" };
-    write!(out, "<rect class=\"{class}\" x=\"{x}\" y=\"{UPPER}\"");
-    write!(out, " width=\"{width}\" height=\"{height}\"><title>");
-    let reason = &field.interval.reason;
-    let mut title = Page::new(alloc);
-    push_limit(&mut title, reason.limit, explained.unit);
-    title.push_str(" for ");
-    let length = field.interval.end.saturating_sub(field.interval.start);
-    push_length(&mut title, length);
-    title.push_str(": ");
-    push_why(&mut title, reason, explained.unit, explained.known);
-    push_made_escaped(out, title.finish());
+    out.push_str("<rect class=\"");
+    out.push_str(if field.is_odd { "cause odd" } else { "cause" });
+    push_number(out, "\" x=\"", field.left);
+    push_number(out, "\" y=\"", UPPER);
+    out.push('"');
+    push_size(out, field.breadth, LOWER - UPPER);
+    out.push_str("><title>");
+    push_made_escaped(out, title_of(alloc, explained, field.interval));
     out.push_str("</title></rect>\n");
+}
+
+/// Returns the limit, the length and the cause of an interval, as the title of its field in
+/// `explain`'s picture.
+fn title_of(
+    alloc: Global,
+    explained: &ExplainedRequest<'_>,
+    interval: &Interval,
+) -> Result<String, AllocError> {
+    let mut title = Page::new(alloc);
+    push_limit(&mut title, interval.reason.limit, explained.unit);
+    title.push_str(" for ");
+    push_length(&mut title, interval.end.saturating_sub(interval.start));
+    title.push_str(": ");
+    push_why(
+        &mut title,
+        &interval.reason,
+        explained.unit,
+        explained.known,
+    );
+    title.finish()
 }
 
 /// Appends the name of a cause to its field in `explain`'s picture if there is room for it, or else
@@ -125,8 +139,8 @@ fn has_room(field: IntervalBand<'_>, text: &str) -> bool {
 /// Appends the name or the letter of a cause in the middle of its interval's field in `explain`'s
 /// picture.
 fn push_middle(out: &mut Page, field: IntervalBand<'_>, text: &str) {
-    let (x, base) = (field.left.saturating_add(field.breadth / 2), UPPER + 17);
-    write!(out, "<text class=\"name\" x=\"{x}\" y=\"{base}\">");
+    let x = field.left.saturating_add(field.breadth / 2);
+    begin_text(out, "name", x, UPPER + 17);
     push_escaped(out, text);
     out.push_str("</text>\n");
 }

@@ -59,24 +59,13 @@ impl<'a> CellMaker<'a> {
         let to = ClockTime::shown(self.zone, self.explained.moment(interval.end));
         let dates = (self.day != Some(from.day), to.day != from.day);
         self.day = Some(from.day);
-        let mut length = Page::new(alloc);
-        push_length(&mut length, interval.end.saturating_sub(interval.start));
-        let mut limit = Page::new(alloc);
-        push_limit(&mut limit, interval.reason.limit, self.explained.unit);
-        let mut why = Page::new(alloc);
-        push_why(
-            &mut why,
-            &interval.reason,
-            self.explained.unit,
-            self.explained.known,
-        );
         Ok(Cells {
             from: self.time(alloc, from, dates.0)?,
             to: self.time(alloc, to, dates.1)?,
-            length: length.finish()?,
-            limit: limit.finish()?,
+            length: length_text(alloc, interval)?,
+            limit: limit_text(alloc, self.explained, interval)?,
             tenths: interval.reason.limit,
-            why: why.finish()?,
+            why: why_text(alloc, self.explained, interval)?,
         })
     }
 
@@ -91,6 +80,35 @@ impl<'a> CellMaker<'a> {
         push_time(&mut out, time.second, self.with_seconds);
         out.finish()
     }
+}
+
+/// Returns the length of an interval for `explain`'s table, HTML page or picture.
+fn length_text(alloc: Global, interval: &Interval) -> Result<String, AllocError> {
+    let mut length = Page::new(alloc);
+    push_length(&mut length, interval.end.saturating_sub(interval.start));
+    length.finish()
+}
+
+/// Returns the limit of an interval for `explain`'s table, HTML page or picture.
+fn limit_text(
+    alloc: Global,
+    explained: &ExplainedRequest<'_>,
+    interval: &Interval,
+) -> Result<String, AllocError> {
+    let mut limit = Page::new(alloc);
+    push_limit(&mut limit, interval.reason.limit, explained.unit);
+    limit.finish()
+}
+
+/// Returns the cause of an interval's limit for `explain`'s table, HTML page or picture.
+fn why_text(
+    alloc: Global,
+    explained: &ExplainedRequest<'_>,
+    interval: &Interval,
+) -> Result<String, AllocError> {
+    let mut why = Page::new(alloc);
+    push_why(&mut why, &interval.reason, explained.unit, explained.known);
+    why.finish()
 }
 
 /// Formats all intervals of an explained schedule as the cells of `explain`'s table.

@@ -1,10 +1,12 @@
 //! The lines of a picture, its axes and its grid.
 
 use crate::clock::{DAY, push_date, push_time, weekday};
+use crate::elements::{begin_text, push_level, push_upright};
 use crate::entries::{LimitEntry, LimitLine};
 use crate::explained_request::ExplainedRequest;
+use crate::markup::push_number;
 use crate::scale::{BOTTOM, LEFT, RIGHT, Scale, TOP};
-use crate::steps::Steps;
+use crate::steps::{LimitStep, Steps};
 use crate::ticks::{MOST_DATES, MOST_LIMITS, MOST_TIMES, date_step, time_step};
 use crate::words::push_limit;
 use meaning::Cause;
@@ -27,23 +29,26 @@ pub(crate) struct PictureInput<'a> {
 pub(crate) fn push_path(out: &mut Page, scale: Scale, steps: &Steps) {
     let mut is_down = false;
     for step in &steps.items {
-        let x = scale.x(step.second);
-        if is_down {
-            write!(out, "H{x}");
-        }
-        if let Some(limit) = step.limit {
-            let y = scale.y(limit);
-            if is_down {
-                write!(out, "V{y}");
-            } else {
-                write!(out, "M{x} {y}");
-            }
-        }
+        push_step(out, scale, *step, is_down);
         is_down = step.limit.is_some();
     }
     if is_down {
-        let x = scale.x(steps.end);
-        write!(out, "H{x}");
+        push_number(out, "H", scale.x(steps.end));
+    }
+}
+
+/// Appends the SVG path data of a step to `explain`'s picture, after a step with a limit if
+/// `is_down`.
+fn push_step(out: &mut Page, scale: Scale, step: LimitStep, is_down: bool) {
+    let x = scale.x(step.second);
+    if is_down {
+        push_number(out, "H", x);
+    }
+    if let Some(limit) = step.limit {
+        if !is_down {
+            push_number(out, "M", x);
+        }
+        push_number(out, if is_down { "V" } else { " " }, scale.y(limit));
     }
 }
 
@@ -51,9 +56,11 @@ pub(crate) fn push_path(out: &mut Page, scale: Scale, steps: &Steps) {
 pub(crate) fn push_limit_line(out: &mut Page, scale: Scale, steps: &Steps) {
     out.push_str("<path class=\"area\" d=\"");
     push_path(out, scale, steps);
-    let end = scale.x(steps.end);
-    write!(out, "L{end} {BOTTOM}L{LEFT} {BOTTOM}Z\"/>\n");
-    out.push_str("<path class=\"limit\" d=\"");
+    push_number(out, "L", scale.x(steps.end));
+    push_number(out, " ", BOTTOM);
+    push_number(out, "L", LEFT);
+    push_number(out, " ", BOTTOM);
+    out.push_str("Z\"/>\n<path class=\"limit\" d=\"");
     push_path(out, scale, steps);
     out.push_str("\"/>\n");
 }
@@ -71,8 +78,8 @@ pub(crate) fn push_entry_line(out: &mut Page, scale: Scale, place: usize, entry:
         }
         LimitLine::Level(_) if scale.is_passed_by(&entry.line) => {}
         LimitLine::Level(limit) => {
-            let (class, y) = (ceiling_class(entry), scale.y(*limit));
-            write!(out, "<path class=\"{class}\" d=\"M{LEFT} {y}H{RIGHT}\"/>\n");
+            push_level(out, ceiling_class(entry), LEFT, scale.y(*limit), RIGHT);
+            out.push('\n');
         }
         LimitLine::Nothing => {}
     }
@@ -90,8 +97,8 @@ pub(crate) fn ceiling_class(entry: &LimitEntry) -> &'static str {
 /// place among the picture's lines.
 pub(crate) fn push_style(out: &mut Page, place: usize) {
     // Six colours and eight dashes give 24 different lines before one repeats.
-    let (colour, dash) = (place % 6, place % 8);
-    write!(out, "c{colour} d{dash}");
+    push_number(out, "c", (place % 6) as u64);
+    push_number(out, " d", (place % 8) as u64);
 }
 
 /// Appends the letter of a profile's or a ceiling's line in `explain`'s picture, by its place among
@@ -99,8 +106,7 @@ pub(crate) fn push_style(out: &mut Page, place: usize) {
 pub(crate) fn push_letter(out: &mut Page, place: usize) {
     out.push((b'A' + (place % 26) as u8) as char);
     if place >= 26 {
-        let round = place / 26;
-        write!(out, "{round}");
+        push_number(out, "", (place / 26) as u64);
     }
 }
 
@@ -117,12 +123,12 @@ pub(crate) fn push_limit_axis(out: &mut Page, scale: Scale, unit: Unit) {
 /// Appends a tick of the limit axis to `explain`'s picture: its grid line and its limit.
 fn push_limit_tick(out: &mut Page, scale: Scale, limit: u32, unit: Unit) {
     let y = scale.y(limit);
-    write!(out, "<path class=\"grid\" d=\"M{LEFT} {y}H{RIGHT}\"/>");
-    let (x, base) = (LEFT - 10, y + 4);
-    write!(out, "<text class=\"end soft\" x=\"{x}\" y=\"{base}\">");
+    push_level(out, "grid", LEFT, y, RIGHT);
+    begin_text(out, "end soft", LEFT - 10, y + 4);
     if scale.step % 10 == 0 {
-        let (whole, unit) = (limit / 10, unit_name(unit));
-        write!(out, "{whole} {unit}");
+        push_number(out, "", u64::from(limit / 10));
+        out.push(' ');
+        out.push_str(unit_name(unit));
     } else {
         push_limit(out, limit, unit);
     }
@@ -158,15 +164,11 @@ fn second_at(explained: &ExplainedRequest<'_>, moment: u64) -> u32 {
 
 /// Appends a tick of the time axis to `explain`'s picture: its grid line and its time of day.
 fn push_time_tick(out: &mut Page, x: u64, moment: u64, step: u64) {
-    let (foot, base) = (BOTTOM + 5, BOTTOM + 20);
     let has_seconds = step % 60 != 0;
     // A label with seconds is wider, and would go past the right edge of the picture.
     let middle = if has_seconds { x.min(RIGHT - 8) } else { x };
-    write!(out, "<path class=\"grid\" d=\"M{x} {TOP}V{foot}\"/>");
-    write!(
-        out,
-        "<text class=\"middle soft\" x=\"{middle}\" y=\"{base}\">"
-    );
+    push_upright(out, "grid", x, TOP, BOTTOM + 5);
+    begin_text(out, "middle soft", middle, BOTTOM + 20);
     push_time(out, moment % DAY, has_seconds);
     out.push_str("</text>\n");
 }
@@ -195,9 +197,9 @@ fn push_dates(alloc: Global, out: &mut Page, explained: &ExplainedRequest<'_>, s
 /// Appends the date of a day to the time axis of `explain`'s picture, with a mark and the day of
 /// the week.
 fn push_day(alloc: Global, out: &mut Page, day: u64, x: u64) {
-    let (upper, lower, text) = (BOTTOM + 27, BOTTOM + 42, x.saturating_add(5));
-    write!(out, "<path class=\"day\" d=\"M{x} {upper}V{lower}\"/>");
-    write!(out, "<text class=\"soft\" x=\"{text}\" y=\"{lower}\">");
+    let lower = BOTTOM + 42;
+    push_upright(out, "day", x, BOTTOM + 27, lower);
+    begin_text(out, "soft", x.saturating_add(5), lower);
     out.push_str(weekday(day));
     out.push(' ');
     push_date(alloc, out, day);

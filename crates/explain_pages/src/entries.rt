@@ -42,8 +42,18 @@ pub(crate) fn entries_of(
         }
     }
     push_ceilings(&mut entries, explained)?;
+    push_other_causes(&mut entries, explained)?;
+    Ok(entries)
+}
+
+/// Appends the causes of limits that have no line of their own to the legend's entries in
+/// `explain`'s picture.
+fn push_other_causes(
+    entries: &mut Vec<LimitEntry>,
+    explained: &ExplainedRequest<'_>,
+) -> Result<(), AllocError> {
     // Later intervals aren't drawn, so their causes need no line in the legend.
-    for interval in explained.intervals.iter().take(MAX_INTERVALS) {
+    for interval in explained.first_intervals(MAX_INTERVALS) {
         let cause = interval.reason.cause;
         if place_of(entries.as_slice(), cause).is_none() {
             entries.push(LimitEntry {
@@ -52,7 +62,7 @@ pub(crate) fn entries_of(
             })?;
         }
     }
-    Ok(entries)
+    Ok(())
 }
 
 /// Returns the place of a limit's cause among the legend's entries in `explain`'s picture.
@@ -67,11 +77,11 @@ fn profile_entry(
     explained: &ExplainedRequest<'_>,
     row: &Row,
 ) -> Result<Option<LimitEntry>, AllocError> {
-    let mut steps = None;
-    if may_count(explained, row) {
-        steps = Some(steps_of(alloc, explained, row)?);
+    if !may_count(explained, row) {
+        return Ok(None);
     }
-    Ok(steps.and_then(|steps| stepped_entry(row, steps)))
+    let steps = steps_of(alloc, explained, row)?;
+    Ok(stepped_entry(row, steps))
 }
 
 /// Returns whether an installed profile may set a limit of the explained request, so that `explain`

@@ -67,6 +67,12 @@ impl ExplainedRequest<'_> {
     {
         self.ask.start.seconds() + u64::from(second)
     }
+
+    /// Returns the first `most` intervals of the explained request, or all if there are fewer, for
+    /// the pages of `explain`.
+    pub(crate) fn first_intervals(&self, most: usize) -> &[Interval] {
+        &self.intervals[..self.intervals.len().min(most)]
+    }
 }
 
 /// Returns whether a profile sets the limit, or a share of it, in one of the intervals.

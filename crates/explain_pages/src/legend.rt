@@ -2,9 +2,10 @@
 
 use crate::causes::LOWER;
 use crate::drawing::{PictureInput, ceiling_class, push_letter, push_style};
+use crate::elements::{begin_text, push_level};
 use crate::entries::{LimitEntry, LimitLine};
 use crate::explained_request::ExplainedRequest;
-use crate::markup::push_made_escaped;
+use crate::markup::{push_made_escaped, push_number};
 use crate::scale::{LEFT, Scale};
 use crate::steps::Steps;
 use crate::table::push_moment;
@@ -49,16 +50,17 @@ fn middle_of(place: usize) -> u64 {
 /// Appends the letter of a profile or a ceiling and a piece of its line to the legend of
 /// `explain`'s picture.
 fn push_entry(out: &mut Page, place: usize, entry: &LimitEntry, middle: u64) {
-    let base = middle.saturating_add(4);
-    write!(out, "<text class=\"letter\" x=\"{LEFT}\" y=\"{base}\">");
+    begin_text(out, "letter", LEFT, middle.saturating_add(4));
     push_letter(out, place);
     out.push_str("</text>");
     match entry.line {
         LimitLine::Steps(_) => {
-            let (from, to) = (LEFT + 28, LEFT + 88);
             out.push_str("<path class=\"line ");
             push_style(out, place);
-            write!(out, "\" d=\"M{from} {middle}H{to}\"/>");
+            push_number(out, "\" d=\"M", LEFT + 28);
+            push_number(out, " ", middle);
+            push_number(out, "H", LEFT + 88);
+            out.push_str("\"/>");
         }
         LimitLine::Level(_) => push_sample(out, ceiling_class(entry), middle),
         LimitLine::Nothing => {}
@@ -67,15 +69,15 @@ fn push_entry(out: &mut Page, place: usize, entry: &LimitEntry, middle: u64) {
 
 /// Appends a piece of a line with a CSS class to the legend of `explain`'s picture.
 fn push_sample(out: &mut Page, class: &str, middle: u64) {
-    let (from, to) = (LEFT + 28, LEFT + 88);
-    write!(out, "<path class=\"{class}\" d=\"M{from} {middle}H{to}\"/>");
+    push_level(out, class, LEFT + 28, middle, LEFT + 88);
 }
 
 /// Appends the name of the limit, of a profile or of a ceiling to its line in the legend of
 /// `explain`'s picture.
 fn push_text(out: &mut Page, made: Result<String, AllocError>, middle: u64) {
-    let (x, base) = (LEFT + 100, middle.saturating_add(4));
-    write!(out, "<text x=\"{x}\" y=\"{base}\">");
+    push_number(out, "<text x=\"", LEFT + 100);
+    push_number(out, "\" y=\"", middle.saturating_add(4));
+    out.push_str("\">");
     push_made_escaped(out, made);
     out.push_str("</text>\n");
 }

@@ -1,6 +1,7 @@
 //! The letters at the lines of a picture, which don't overlap.
 
 use crate::drawing::push_letter;
+use crate::elements::begin_text;
 use crate::entries::{LimitEntry, LimitLine};
 use crate::scale::{LEFT, RIGHT, Scale};
 use page_text::Page;
@@ -25,8 +26,7 @@ pub(crate) fn push_letters(
         if let Some(spot) = beginning(scale, &entry.line) {
             if let Some(spot) = free_spot(spots.as_slice(), spot) {
                 spots.push(spot)?;
-                let (x, y) = spot;
-                write!(out, "<text class=\"letter\" x=\"{x}\" y=\"{y}\">");
+                begin_text(out, "letter", spot.0, spot.1);
                 push_letter(out, place);
                 out.push_str("</text>\n");
             }

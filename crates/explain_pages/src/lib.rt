@@ -7,6 +7,7 @@ mod causes;
 mod cells;
 mod clock;
 mod drawing;
+mod elements;
 mod entries;
 mod explained_request;
 mod holding;

@@ -3,6 +3,12 @@
 use page_text::Page;
 use std::alloc::AllocError;
 
+/// Appends a number to a page of `explain`, after the text that comes before it.
+pub(crate) fn push_number(out: &mut Page, before: &str, number: u64) {
+    out.push_str(before);
+    write!(out, "{number}");
+}
+
 /// Appends a text, escaped for XML and HTML within elements and quoted attributes. U+FFFE, U+FFFF
 /// and control characters other than tab and line feed become U+FFFD.
 pub fn push_escaped(out: &mut Page, text: &str) {

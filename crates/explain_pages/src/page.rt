@@ -8,31 +8,37 @@ use crate::picture::{push_more, push_picture};
 use crate::steps::MAX_INTERVALS;
 use crate::styles::PAGE;
 use crate::table::{heading, place};
-use crate::words::{push_profile, sentence};
+use crate::words::not_counted_text;
 use ocpp_scalars::Instant;
 use page_text::Page;
 use std::alloc::{AllocError, Global};
+use sweep_compiler::Interval;
 
 /// Formats an explained schedule as a whole HTML file that loads nothing: the picture, the
 /// intervals in a table, and the profiles that never set the limit. The table has the first
 /// `MAX_INTERVALS`; a note counts the others.
 pub fn write_page(alloc: Global, explained: &ExplainedRequest<'_>) -> Result<String, AllocError> {
     let mut out = Page::new(alloc);
-    out.push_str("<!DOCTYPE html>\n<html lang=\"en\">\n<head>\n<meta charset=\"utf-8\">\n");
-    out.push_str("<meta name=\"viewport\" content=\"width=device-width, initial-scale=1\">\n");
-    out.push_str("<title>The limit of ");
-    push_made_escaped(&mut out, heading(alloc, explained, None));
-    out.push_str("</title>\n");
-    out.push_str(PAGE);
-    out.push_str("</head>\n<body>\n<main>\n<h1>");
-    push_made_escaped(&mut out, place(alloc, explained));
-    out.push_str("</h1>\n<figure>\n");
+    push_front(alloc, &mut out, explained);
     push_picture(alloc, &mut out, explained)?;
     out.push_str("</figure>\n");
     push_table(alloc, &mut out, explained)?;
     push_not_counted(alloc, &mut out, explained.not_counted);
     out.push_str("</main>\n</body>\n</html>\n");
     out.finish()
+}
+
+/// Appends what `explain`'s HTML page has before its picture: its head and its heading.
+fn push_front(alloc: Global, out: &mut Page, explained: &ExplainedRequest<'_>) {
+    out.push_str("<!DOCTYPE html>\n<html lang=\"en\">\n<head>\n<meta charset=\"utf-8\">\n");
+    out.push_str("<meta name=\"viewport\" content=\"width=device-width, initial-scale=1\">\n");
+    out.push_str("<title>The limit of ");
+    push_made_escaped(out, heading(alloc, explained, None));
+    out.push_str("</title>\n");
+    out.push_str(PAGE);
+    out.push_str("</head>\n<body>\n<main>\n<h1>");
+    push_made_escaped(out, place(alloc, explained));
+    out.push_str("</h1>\n<figure>\n");
 }
 
 // A table wider than the screen scrolls in this region, and a keyboard reaches it as a tab stop.
@@ -53,17 +59,21 @@ fn push_table(
 ) -> Result<(), AllocError> {
     out.push_str(HEAD);
     let mut maker = CellMaker::new(explained, None);
-    for interval in explained.intervals.iter().take(MAX_INTERVALS) {
-        let cells = maker.cells(alloc, interval)?;
-        out.push_str("<tr><th scope=\"row\">");
-        push_clock(out, explained.moment(interval.start), cells.from.as_str());
-        out.push_str("</th><td>");
-        push_clock(out, explained.moment(interval.end), cells.to.as_str());
-        push_cells(out, &cells);
+    for interval in explained.first_intervals(MAX_INTERVALS) {
+        push_row(out, explained, interval, &maker.cells(alloc, interval)?);
     }
     out.push_str("</tbody>\n</table>\n</div>\n");
     push_note(out, explained.intervals.len());
     Ok(())
+}
+
+/// Appends an interval with these cells to the table of `explain`'s HTML page, as a row.
+fn push_row(out: &mut Page, explained: &ExplainedRequest<'_>, interval: &Interval, cells: &Cells) {
+    out.push_str("<tr><th scope=\"row\">");
+    push_clock(out, explained.moment(interval.start), cells.from.as_str());
+    out.push_str("</th><td>");
+    push_clock(out, explained.moment(interval.end), cells.to.as_str());
+    push_cells(out, cells);
 }
 
 /// Appends to `explain`'s HTML page the number of intervals that its table leaves out, if there are
@@ -107,12 +117,8 @@ fn push_not_counted(alloc: Global, out: &mut Page, all: &[NotCounted]) {
     }
     out.push_str("<h2>Profiles that never set the limit in this time</h2>\n<ul>\n");
     for one in all {
-        let mut line = Page::new(alloc);
-        push_profile(&mut line, one.profile);
-        line.push_str(": ");
-        line.push_str(sentence(one.reason));
         out.push_str("<li>");
-        push_made_escaped(out, line.finish());
+        push_made_escaped(out, not_counted_text(alloc, one));
         out.push_str("</li>\n");
     }
     out.push_str("</ul>\n");

@@ -1,20 +1,20 @@
 //! The picture of an explained schedule, as SVG.
 
 use crate::causes::push_causes;
-use crate::cells::CellMaker;
+use crate::cells::{CellMaker, Cells};
 use crate::drawing::{
     PictureInput, push_entry_line, push_limit_axis, push_limit_line, push_time_axis,
 };
+use crate::elements::{push_left_text, push_size};
 use crate::entries::entries_of;
 use crate::explained_request::ExplainedRequest;
 use crate::legend::{lower_edge, push_legend};
 use crate::letters::push_letters;
-use crate::markup::{push_element, push_made_escaped};
-use crate::scale::{BREADTH, LEFT, Scale};
+use crate::markup::{push_element, push_made_escaped, push_number};
+use crate::scale::{BREADTH, Scale};
 use crate::steps::interval_steps;
 use crate::styles::PICTURE;
-use crate::table::{heading, place, push_moment};
-use crate::words::push_length;
+use crate::table::{heading, place, push_span};
 use messages::unit_name;
 use page_text::Page;
 use std::alloc::{AllocError, Global};
@@ -45,15 +45,7 @@ pub(crate) fn push_picture(
 ) -> Result<(), AllocError> {
     let entries = entries_of(alloc, explained)?;
     let limit = interval_steps(alloc, explained)?;
-    let height = lower_edge(entries.len());
-    push_opening(out, height);
-    push_description(alloc, out, explained)?;
-    out.push_str(PICTURE);
-    write!(
-        out,
-        "<rect class=\"paper\" width=\"{BREADTH}\" height=\"{height}\"/>\n"
-    );
-    push_head(alloc, out, explained);
+    push_front(alloc, out, explained, lower_edge(entries.len()))?;
     let sketch = PictureInput {
         explained,
         scale: Scale::of(explained, entries.as_slice()),
@@ -65,13 +57,34 @@ pub(crate) fn push_picture(
     Ok(())
 }
 
+/// Appends what `explain`'s picture has before its drawing: its start tag, its description, its
+/// styles, its paper and its heading.
+fn push_front(
+    alloc: Global,
+    out: &mut Page,
+    explained: &ExplainedRequest<'_>,
+    height: u64,
+) -> Result<(), AllocError> {
+    push_opening(out, height);
+    push_description(alloc, out, explained)?;
+    out.push_str(PICTURE);
+    out.push_str("<rect class=\"paper\"");
+    push_size(out, BREADTH, height);
+    out.push_str("/>\n");
+    push_head(alloc, out, explained);
+    Ok(())
+}
+
 /// Appends the start tag of the element `svg` of `explain`'s picture, with its size.
 fn push_opening(out: &mut Page, height: u64) {
     out.push_str("<svg xmlns=\"http://www.w3.org/2000/svg\" class=\"hilfrogwy\" role=\"img\"");
     // A screen reader takes the picture as one image, and reads out these two elements for it.
     out.push_str(" aria-labelledby=\"picture-title picture-description\"");
-    write!(out, " viewBox=\"0 0 {BREADTH} {height}\"");
-    write!(out, " width=\"{BREADTH}\" height=\"{height}\">\n");
+    push_number(out, " viewBox=\"0 0 ", BREADTH);
+    push_number(out, " ", height);
+    out.push('"');
+    push_size(out, BREADTH, height);
+    out.push_str(">\n");
 }
 
 /// Appends the title and the description of `explain`'s picture, which a screen reader reads out.
@@ -85,46 +98,46 @@ fn push_description(
     out.push_str("</title>\n");
     out.push_str("<desc id=\"picture-description\">Times in UTC.");
     let mut maker = CellMaker::new(explained, None);
-    for interval in explained.intervals.iter().take(DESCRIBED) {
-        let cells = maker.cells(alloc, interval)?;
-        push_element(out, " ", cells.from.as_str(), " to ");
-        push_element(out, "", cells.to.as_str(), ": ");
-        push_element(out, "", cells.limit.as_str(), ", ");
-        push_element(out, "", cells.why.as_str(), ".");
+    for interval in explained.first_intervals(DESCRIBED) {
+        push_described(out, &maker.cells(alloc, interval)?);
     }
     push_more(out, explained.intervals.len(), DESCRIBED);
     out.push_str("</desc>\n");
     Ok(())
 }
 
+/// Appends an interval with these cells to the description of `explain`'s picture.
+fn push_described(out: &mut Page, cells: &Cells) {
+    push_element(out, " ", cells.from.as_str(), " to ");
+    push_element(out, "", cells.to.as_str(), ": ");
+    push_element(out, "", cells.limit.as_str(), ", ");
+    push_element(out, "", cells.why.as_str(), ".");
+}
+
 /// Appends the number of intervals that the description of `explain`'s picture or the table of its
 /// HTML page leaves out, if there are any.
 pub(crate) fn push_more(out: &mut Page, count: usize, shown: usize) {
     if count > shown {
-        let more = count - shown;
-        write!(out, " Further intervals: {more}.");
+        push_number(out, " Further intervals: ", (count - shown) as u64);
+        out.push('.');
     }
 }
 
 /// Appends the heading above the plot of `explain`'s picture: the point, the connector, the unit
 /// and the time.
 fn push_head(alloc: Global, out: &mut Page, explained: &ExplainedRequest<'_>) {
-    write!(out, "<text class=\"head\" x=\"{LEFT}\" y=\"30\">");
-    push_made_escaped(out, place(alloc, explained));
-    out.push_str("</text>\n");
+    push_left_text(out, "head", 30, place(alloc, explained));
+    push_left_text(out, "soft", 52, head_text(alloc, explained));
+}
+
+/// Returns the unit and the time of the explained schedule, for the heading of `explain`'s picture.
+fn head_text(alloc: Global, explained: &ExplainedRequest<'_>) -> Result<String, AllocError> {
     let mut text = Page::new(alloc);
     text.push_str("limit in ");
     text.push_str(unit_name(explained.unit));
     text.push_str(", ");
-    push_moment(alloc, &mut text, explained, None, 0);
-    text.push_str(" to ");
-    push_moment(alloc, &mut text, explained, None, explained.ask.duration);
-    text.push_str(" UTC (");
-    push_length(&mut text, explained.ask.duration);
-    text.push(')');
-    write!(out, "<text class=\"soft\" x=\"{LEFT}\" y=\"52\">");
-    push_made_escaped(out, text.finish());
-    out.push_str("</text>\n");
+    push_span(alloc, &mut text, explained, None, " UTC (");
+    text.finish()
 }
 
 /// Appends the drawing of `explain`'s picture: the axes, the lines, the letters, the causes and the

@@ -106,7 +106,7 @@ pub(crate) fn interval_steps(
     explained: &ExplainedRequest<'_>,
 ) -> Result<Steps, AllocError> {
     let mut items = Vec::new(alloc);
-    for interval in explained.intervals.iter().take(MAX_INTERVALS) {
+    for interval in explained.first_intervals(MAX_INTERVALS) {
         items.push(LimitStep {
             second: interval.start,
             limit: Some(interval.reason.limit),

@@ -5,9 +5,10 @@ ghost use Rattle.std.specs.Prelude.{◌≤◌};
 use crate::cells::{Cells, all_cells};
 use crate::clock::{ClockTime, needs_seconds, push_date, push_time};
 use crate::explained_request::{ExplainedRequest, NotCounted};
-use crate::words::{push_length, push_profile, sentence};
+use crate::markup::push_number;
+use crate::words::{not_counted_text, push_length};
 use crate::wrapping::{Margins, push_left, push_lines, push_made_lines, push_right, push_times};
-use crate::zone_clock::{ZoneClock, push_ahead};
+use crate::zone_clock::{ClockShift, ZoneClock, push_ahead};
 use messages::unit_name;
 use page_text::Page;
 use std::alloc::{AllocError, Global};
@@ -68,20 +69,25 @@ fn push_changes(alloc: Global, out: &mut Page, clock: ZoneClock<'_>, columns: Op
     let mut before = None;
     for shift in clock.shifts {
         if let Some(before) = before {
-            let mut line = Page::new(alloc);
-            let time = ClockTime::of(shift.from);
-            push_date(alloc, &mut line, time.day);
-            line.push(' ');
-            push_time(&mut line, time.second, time.second % 60 != 0);
-            line.push_str(" UTC: the clocks go from ");
-            push_ahead(&mut line, before);
-            line.push_str(" to ");
-            push_ahead(&mut line, shift.ahead);
-            line.push('.');
-            push_made_lines(out, line.finish(), margins);
+            push_made_lines(out, change_text(alloc, before, *shift), margins);
         }
         before = Some(shift.ahead);
     }
+}
+
+/// Returns the line of `explain`'s table for a clock change, from the offset before it.
+fn change_text(alloc: Global, before: i32, shift: ClockShift) -> Result<String, AllocError> {
+    let mut line = Page::new(alloc);
+    let time = ClockTime::of(shift.from);
+    push_date(alloc, &mut line, time.day);
+    line.push(' ');
+    push_time(&mut line, time.second, time.second % 60 != 0);
+    line.push_str(" UTC: the clocks go from ");
+    push_ahead(&mut line, before);
+    line.push_str(" to ");
+    push_ahead(&mut line, shift.ahead);
+    line.push('.');
+    line.finish()
 }
 
 /// Returns the heading of `explain`'s table, HTML page or picture: the point, the connector, and
@@ -94,13 +100,25 @@ pub(crate) fn heading(
     let mut text = Page::new(alloc);
     text.push_made(place(alloc, explained));
     text.push_str(", from ");
-    push_moment(alloc, &mut text, explained, zone, 0);
-    text.push_str(" to ");
-    push_moment(alloc, &mut text, explained, zone, explained.ask.duration);
-    text.push_str(" (");
-    push_length(&mut text, explained.ask.duration);
-    text.push(')');
+    push_span(alloc, &mut text, explained, zone, " (");
     text.finish()
+}
+
+/// Appends the start, the end and the length of the explained time to `explain`'s table, HTML page
+/// or picture, with `before` before the length.
+pub(crate) fn push_span(
+    alloc: Global,
+    out: &mut Page,
+    explained: &ExplainedRequest<'_>,
+    zone: Option<ZoneClock<'_>>,
+    before: &str,
+) {
+    push_moment(alloc, out, explained, zone, 0);
+    out.push_str(" to ");
+    push_moment(alloc, out, explained, zone, explained.ask.duration);
+    out.push_str(before);
+    push_length(out, explained.ask.duration);
+    out.push(')');
 }
 
 /// Returns the charge point and the connector of an explained schedule in words, for `explain`'s
@@ -111,8 +129,8 @@ pub(crate) fn place(alloc: Global, explained: &ExplainedRequest<'_>) -> Result<S
     if explained.ask.connector == 0 {
         text.push_str(", connector 0 (the whole point)");
     } else {
-        let connector = explained.ask.connector;
-        write!(text, ", connector {connector}");
+        let connector = u64::from(explained.ask.connector);
+        push_number(&mut text, ", connector ", connector);
     }
     text.finish()
 }
@@ -411,10 +429,6 @@ fn push_not_counted(alloc: Global, out: &mut Page, all: &[NotCounted], columns: 
     );
     let margins = Margins { indent: 2, columns };
     for one in all {
-        let mut line = Page::new(alloc);
-        push_profile(&mut line, one.profile);
-        line.push_str(": ");
-        line.push_str(sentence(one.reason));
-        push_made_lines(out, line.finish(), margins);
+        push_made_lines(out, not_counted_text(alloc, one), margins);
     }
 }

@@ -1,8 +1,9 @@
 //! Limits, causes and reasons in words. This is the only place with the sentences of reasons.
 
-use crate::explained_request::NotCountedReason;
+use crate::explained_request::{NotCounted, NotCountedReason};
 use crate::known_profile::{KnownProfile, push_known};
 use crate::length::length_of;
+use crate::markup::push_number;
 use meaning::{Cause, PrevailingProfile, Reason, Share, WhyNot};
 use messages::{purpose_name, unit_name};
 use ocpp_scalars::push_tenths;
@@ -118,8 +119,18 @@ pub fn push_length(out: &mut Page, seconds: u32) {
 /// Appends the values that identify a profile: `TxDefaultProfile 1, stack level 0, at connector 0`.
 pub fn push_profile(out: &mut Page, profile: PrevailingProfile) {
     push_short_profile(out, profile);
-    let (level, connector) = (profile.stack_level, profile.connector);
-    write!(out, ", stack level {level}, at connector {connector}");
+    push_number(out, ", stack level ", u64::from(profile.stack_level));
+    push_number(out, ", at connector ", u64::from(profile.connector));
+}
+
+/// Returns a profile that never sets the limit, with the reason, for `explain`'s table or HTML
+/// page.
+pub(crate) fn not_counted_text(alloc: Global, one: &NotCounted) -> Result<String, AllocError> {
+    let mut line = Page::new(alloc);
+    push_profile(&mut line, one.profile);
+    line.push_str(": ");
+    line.push_str(sentence(one.reason));
+    line.finish()
 }
 
 /// Appends a charging profile by its purpose and id alone, `TxDefaultProfile 1`, to `explain`'s
@@ -174,8 +185,8 @@ pub fn push_why(out: &mut Page, reason: &Reason, unit: Unit, known: &[KnownProfi
 /// Appends a connector's share of a summed limit to a page of `explain` or the status page, with
 /// its cause: `connector 1 10.0 A by TxProfile 4`.
 fn push_share(out: &mut Page, share: &Share, unit: Unit) {
-    let connector = share.connector;
-    write!(out, "connector {connector} ");
+    push_number(out, "connector ", u64::from(share.connector));
+    out.push(' ');
     push_limit(out, share.limit, unit);
     out.push_str(" by ");
     match share.cause {

@@ -1,6 +1,7 @@
 //! The clock of a time zone.
 
 use crate::clock::push_two_digits;
+use crate::markup::push_number;
 use page_text::Page;
 
 /// The offset of a clock from UTC from a moment on.
@@ -63,8 +64,7 @@ pub(crate) fn push_ahead(out: &mut Page, ahead: i32) {
     }
     out.push(if ahead < 0 { '-' } else { '+' });
     let seconds = ahead.unsigned_abs();
-    let hours = seconds / 3600;
-    write!(out, "{hours}");
+    push_number(out, "", u64::from(seconds / 3600));
     if seconds % 3600 != 0 {
         out.push(':');
         push_two_digits(out, u64::from(seconds / 60 % 60));
